@@ -1,0 +1,4 @@
+pub mod CutLemmas
+pub mod LayerLemmas
+pub mod OverlayLemmas
+pub mod SymbolLemmas

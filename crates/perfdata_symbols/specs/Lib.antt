@@ -1,3 +1,5 @@
 pub mod Cuts
 pub mod Layer
+pub mod Overlay
+pub mod Symbols
 pub mod SymbolTable

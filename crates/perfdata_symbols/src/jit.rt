@@ -148,7 +148,11 @@ impl JitSymbols {
             loads: Vec::new(alloc),
             by_index: HashMap::new(alloc),
         };
-        'records: while add_next(alloc, &mut reader, &mut loads)? {}
+        'records: for _index in 0..u64::MAX {
+            if !add_next(alloc, &mut reader, &mut loads)? {
+                break;
+            }
+        }
         loads.loads.sort_by_key(|load| load.time)?;
         let Loads {
             names,

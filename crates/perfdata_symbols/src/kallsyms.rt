@@ -1,5 +1,7 @@
 //! The kernel's list of symbols, `/proc/kallsyms`.
 
+ghost use Rattle.std.specs.Prelude.{◌+◌, ◌^◌, ◌<◌, length};
+
 use crate::symbol::Symbol;
 use crate::table::SymbolTable;
 use crate::text::{hex_number, line_end, split_field};
@@ -15,7 +17,9 @@ fn is_listed_type(symbol_type: u8) -> bool {
 }
 
 // The symbol, of size 0, of a line `ADDRESS TYPE NAME` that starts at an offset of the text.
-fn symbol_of_line(line: &[u8], offset: usize) -> Option<Symbol> {
+fn symbol_of_line(line: &[u8], offset: usize) -> Option<Symbol>
+    requires { offset + length line.now < 2 ^ 64 }
+{
     let (address, type_at) = split_field(line, b' ')?;
     let rest = &line[type_at..];
     if rest.len() < 3 || !is_listed_type(rest[0]) || rest[1] != b' ' || rest[2] == b'$' {

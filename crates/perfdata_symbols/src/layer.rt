@@ -1,9 +1,10 @@
-//! Cuts of the address space, each with the index of the symbol up to the next cut.
+//! Layers of symbols, as cuts of the address space.
 ghost use Rattle.std.specs.Prelude.{◌≡◌, ◌<◌, ◌^◌, ℕ, if◌then◌else◌, IfOk, Some, None};
 ghost use Rattle.std.specs.List.Sorted.{IsNonDecreasingBy};
 ghost use Rattle.perfdata_symbols.specs.Cuts.{covers, later_of};
 
-use crate::cuts::{Cut, is_first_next, later_symbol};
+use crate::cuts::Cut;
+use crate::overlay::overlay;
 use std::alloc::{AllocError, Global};
 
 // Cuts in the order of their starts. Addresses before the first one have no symbol.
@@ -59,31 +60,11 @@ impl Layer {
     }
 
     // The layer whose symbol at an address is that of `upper`, or that of `lower` if `upper` has none.
-    pub(crate) fn overlay(alloc: Global, lower: &Layer, upper: &Layer) -> Result<Layer, AllocError>
+    pub(crate) fn over(alloc: Global, lower: &Layer, upper: &Layer) -> Result<Layer, AllocError>
         ensures { IfOk result (λ l. (x : ℕ)
             → symbol_in l x ≡ later_of (symbol_in lower.now x) (symbol_in upper.now x)) }
     {
-        let mut cuts = Vec::new(alloc);
-        let mut start = 0;
-        let mut below = None;
-        let mut above = None;
-        let mut i = 0;
-        let mut k = 0;
-        'cuts: while i < lower.cuts.len() || k < upper.cuts.len() {
-            if is_first_next(&lower.cuts, i, &upper.cuts, k) {
-                start = lower.cuts[i].start;
-                below = lower.cuts[i].symbol;
-                i += 1;
-            } else {
-                start = upper.cuts[k].start;
-                above = upper.cuts[k].symbol;
-                k += 1;
-            }
-            cuts.push(Cut {
-                start,
-                symbol: later_symbol(below, above),
-            })?;
-        }
+        let cuts = overlay(alloc, &lower.cuts, &upper.cuts)?;
         Ok(Layer { cuts })
     }
 }

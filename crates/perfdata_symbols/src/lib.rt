@@ -8,6 +8,7 @@ pub mod error;
 pub mod jit;
 pub mod kallsyms;
 mod layer;
+mod overlay;
 pub mod perf_map;
 pub mod ranked;
 pub mod simpleperf;

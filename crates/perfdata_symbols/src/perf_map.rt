@@ -1,12 +1,16 @@
 //! The files `/tmp/perf-PID.map`, in which runtimes list the code that they generate.
 
+ghost use Rattle.std.specs.Prelude.{◌+◌, ◌^◌, ◌<◌, length};
+
 use crate::symbol::Symbol;
 use crate::table::SymbolTable;
 use crate::text::{hex_number, line_end, split_field};
 use std::alloc::{AllocError, Global};
 
 // The symbol of a line `START SIZE NAME` that starts at an offset of the text.
-fn symbol_of_line(line: &[u8], offset: usize) -> Option<Symbol> {
+fn symbol_of_line(line: &[u8], offset: usize) -> Option<Symbol>
+    requires { offset + length line.now < 2 ^ 64 }
+{
     let (start_digits, size_at) = split_field(line, b' ')?;
     let (size_digits, size_len) = split_field(&line[size_at..], b' ')?;
     let name_at = size_at + size_len;

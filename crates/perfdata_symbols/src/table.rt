@@ -1,4 +1,8 @@
-//! Symbols, and tables that find the symbol of an address.
+//! Tables that find the symbol of an address.
+ghost use Rattle.std.specs.Prelude.{◌≡◌, ◌≤◌, ◌<◌, ◌^◌, ◌++◌, ◌∷◌, [], ℕ, IfOk, OnErr, OnOk, None, length, slice_range, vec_len};
+ghost use Rattle.std.proofs.Props.{props};
+ghost use Rattle.perfdata_symbols.specs.Layer.{symbol_in_layers};
+ghost use Rattle.perfdata_symbols.specs.Symbols.{IsLastIndex, IsLastSymbol, last_from};
 
 use crate::layer::Layer;
 use crate::symbol::Symbol;
@@ -15,12 +19,19 @@ pub struct SymbolTable {
     names: Vec<u8>,
     symbols: Vec<Symbol>,
     layers: Vec<Layer>,
+    ghost found: { (x : ℕ) → x < 2 ^ 64 → symbol_in_layers layers.items x
+        ≡ last_from 0 None symbols.items x } by { Prim.hlevel props },
 }
 
 impl SymbolTable {
+    ghost use Rattle.perfdata_symbols.specs.SymbolTable.{names_of, symbols_of};
+
     /// Makes a table without symbols. `names` contains the names of the symbols that `push` will add, anywhere
     /// and in any order.
-    pub fn new(alloc: Global, names: Vec<u8>) -> SymbolTable {
+    pub fn new(alloc: Global, names: Vec<u8>) -> SymbolTable
+        ensures symbols { symbols_of result ≡ [] }
+        ensures names { names_of result ≡ names.items }
+    {
         SymbolTable {
             alloc,
             names,
@@ -34,7 +45,10 @@ impl SymbolTable {
         alloc: Global,
         names: Vec<u8>,
         symbols: &[Symbol],
-    ) -> Result<SymbolTable, AllocError> {
+    ) -> Result<SymbolTable, AllocError>
+        ensures symbols { IfOk result (λ t. symbols_of t ≡ symbols.now) }
+        ensures names { IfOk result (λ t. names_of t ≡ names.items) }
+    {
         let mut table = SymbolTable::new(alloc, names);
         'symbols: for symbol in symbols.iter() {
             table.push(*symbol)?;
@@ -44,12 +58,18 @@ impl SymbolTable {
     }
 
     /// Returns the symbols, in the order in which they were pushed.
-    pub fn symbols(&self) -> &[Symbol] {
+    pub fn symbols(&self) -> &[Symbol]
+        ensures { result.now ≡ symbols_of self.now }
+    {
         &self.symbols[..]
     }
 
     /// Returns the name of a symbol of this table. It is empty if the offsets aren't within the names.
-    pub fn name(&self, symbol: &Symbol) -> &[u8] {
+    pub fn name(&self, symbol: &Symbol) -> &[u8]
+        ensures { symbol.now.name_start ≤ symbol.now.name_end
+            → symbol.now.name_end ≤ length (names_of self.now)
+            → result.now ≡ slice_range (names_of self.now) symbol.now.name_start symbol.now.name_end }
+    {
         let (start, end) = (symbol.name_start, symbol.name_end);
         if start <= end && end <= self.names.len() {
             &self.names[start..end]
@@ -61,7 +81,11 @@ impl SymbolTable {
     /// Adds a symbol, which is preferred to all symbols before it. Its name is in the names of the table.
     ///
     /// If it fails with `AllocError`, the table is unchanged.
-    pub fn push(&mut self, symbol: Symbol) -> Result<(), AllocError> {
+    pub fn push(&mut self, symbol: Symbol) -> Result<(), AllocError>
+        ensures ok { OnOk result (symbols_of self.new ≡ symbols_of self.old ++ symbol ∷ []) }
+        ensures err { OnErr result (symbols_of self.new ≡ symbols_of self.old) }
+        ensures names { names_of self.new ≡ names_of self.old }
+    {
         merge_equal(self.alloc, &mut self.layers)?;
         let layer = Layer::of_symbol(self.alloc, self.symbols.len(), symbol.start, symbol.size)?;
         self.symbols.reserve(1)?;
@@ -73,17 +97,24 @@ impl SymbolTable {
     /// Makes later searches faster, and changes nothing else.
     ///
     /// It can fail with `AllocError`. Searches have the same results then.
-    pub fn compact(&mut self) -> Result<(), AllocError> {
+    pub fn compact(&mut self) -> Result<(), AllocError>
+        ensures symbols { symbols_of self.new ≡ symbols_of self.old }
+        ensures names { names_of self.new ≡ names_of self.old }
+    {
         merge_all(self.alloc, &mut self.layers)
     }
 
     /// Returns the index of the last symbol that contains an address, or `None` if no symbol contains it.
-    pub fn find_index(&self, address: u64) -> Option<usize> {
+    pub fn find_index(&self, address: u64) -> Option<usize>
+        ensures { IsLastIndex (symbols_of self.now) address result }
+    {
         find_in(&self.layers, address)
     }
 
     /// Returns the last symbol that contains an address, or `None` if no symbol contains it.
-    pub fn find(&self, address: u64) -> Option<Symbol> {
+    pub fn find(&self, address: u64) -> Option<Symbol>
+        ensures { IsLastSymbol (symbols_of self.now) address result }
+    {
         let index = self.find_index(address)?;
         if index < self.symbols.len() {
             Some(self.symbols[index])
@@ -102,16 +133,22 @@ impl SymbolTable {
 }
 
 // Replaces the last two layers by the last one over the other.
-fn merge_last(alloc: Global, layers: &mut Vec<Layer>) -> Result<(), AllocError> {
+fn merge_last(alloc: Global, layers: &mut Vec<Layer>) -> Result<(), AllocError>
+    requires { 2 ≤ vec_len layers.old }
+    ensures same { (x : ℕ) → symbol_in_layers layers.new.items x ≡ symbol_in_layers layers.old.items x }
+    ensures fewer { OnOk result (vec_len layers.new < vec_len layers.old) }
+{
     let count = layers.len();
-    let merged = Layer::overlay(alloc, &layers[count - 2], &layers[count - 1])?;
+    let merged = Layer::over(alloc, &layers[count - 2], &layers[count - 1])?;
     layers[count - 2] = merged;
     layers.truncate(count - 1);
     Ok(())
 }
 
 // Merges the last two layers while the last one is at least as long as the one before it.
-fn merge_equal(alloc: Global, layers: &mut Vec<Layer>) -> Result<(), AllocError> {
+fn merge_equal(alloc: Global, layers: &mut Vec<Layer>) -> Result<(), AllocError>
+    ensures { (x : ℕ) → symbol_in_layers layers.new.items x ≡ symbol_in_layers layers.old.items x }
+{
     'merges: while layers.len() > 1
         && layers[layers.len() - 2].len() <= layers[layers.len() - 1].len()
     {
@@ -121,7 +158,9 @@ fn merge_equal(alloc: Global, layers: &mut Vec<Layer>) -> Result<(), AllocError>
 }
 
 // Merges all layers into one.
-fn merge_all(alloc: Global, layers: &mut Vec<Layer>) -> Result<(), AllocError> {
+fn merge_all(alloc: Global, layers: &mut Vec<Layer>) -> Result<(), AllocError>
+    ensures { (x : ℕ) → symbol_in_layers layers.new.items x ≡ symbol_in_layers layers.old.items x }
+{
     'merges: while layers.len() > 1 {
         merge_last(alloc, layers)?;
     }
@@ -129,9 +168,13 @@ fn merge_all(alloc: Global, layers: &mut Vec<Layer>) -> Result<(), AllocError> {
 }
 
 // The symbol at an address in the last layer that has one.
-fn find_in(layers: &[Layer], address: u64) -> Option<usize> {
-    'layers: for layer in layers.iter().rev() {
-        match layer.find(address) {
+fn find_in(layers: &[Layer], address: u64) -> Option<usize>
+    ensures { result ≡ symbol_in_layers layers.now address }
+{
+    let mut count = layers.len();
+    'layers: while count > 0 {
+        count -= 1;
+        match layers[count].find(address) {
             Some(index) => return Some(index),
             None => {}
         }

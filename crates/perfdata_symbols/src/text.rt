@@ -1,9 +1,12 @@
 //! Numbers and lines of text files.
+ghost use Rattle.std.specs.Prelude.{◌≡◌, ◌-◌, ◌<◌, ◌≤◌, IfSome, length, take};
 
 use memchr::memchr;
 
 // The value of a hexadecimal digit.
-fn hex_digit(byte: u8) -> Option<u8> {
+fn hex_digit(byte: u8) -> Option<u8>
+    ensures { IfSome result (λ digit. digit < 16) }
+{
     match byte {
         b'0'..=b'9' => Some(byte - b'0'),
         b'a'..=b'f' => Some(byte - b'a' + 10),
@@ -29,10 +32,11 @@ pub(crate) fn hex_number(digits: &[u8]) -> Option<u64> {
 }
 
 // The offset of the end of the line that starts at this offset.
-pub(crate) fn line_end(text: &[u8], start: usize) -> usize {
-    if start > text.len() {
-        return text.len();
-    }
+pub(crate) fn line_end(text: &[u8], start: usize) -> usize
+    requires { start ≤ length text.now }
+    ensures start { start ≤ result }
+    ensures within { result ≤ length text.now }
+{
     match memchr(b'\n', &text[start..]) {
         Some(len) => start + len,
         None => text.len(),
@@ -40,7 +44,10 @@ pub(crate) fn line_end(text: &[u8], start: usize) -> usize {
 }
 
 // The bytes before the first byte `separator`, and the number of bytes up to it, with it.
-pub(crate) fn split_field(line: &[u8], separator: u8) -> Option<(&[u8], usize)> {
+pub(crate) fn split_field(line: &[u8], separator: u8) -> Option<(&[u8], usize)>
+    ensures within { IfSome result (λ field. field.1 ≤ length line.now) }
+    ensures field { IfSome result (λ field. field.0.now ≡ take (field.1 - 1) line.now) }
+{
     let end = memchr(separator, line)?;
     Some((&line[..end], end + 1))
 }

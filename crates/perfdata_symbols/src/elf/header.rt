@@ -1,5 +1,7 @@
 //! The file header, the section headers and the program headers.
 
+ghost use Rattle.std.specs.Prelude.{◌≤◌, OnOk};
+
 use crate::elf::input::{Encoding, Entry, read_table};
 use crate::elf::notes::NoteRange;
 use crate::error::{ElfError, ElfTable};
@@ -146,7 +148,9 @@ fn read_headers<R: PlacedSource>(
     table: Table,
     min_size: usize,
     name: ElfTable,
-) -> Result<Vec<u8>, ElfError> {
+) -> Result<Vec<u8>, ElfError>
+    ensures { OnOk result (min_size ≤ table.entry_size) }
+{
     if table.entry_size < min_size as u64 {
         return Err(ElfError::EntrySize(name, table.entry_size));
     }

@@ -1,4 +1,5 @@
 //! Tables of an ELF file, and the numbers in their entries.
+ghost use Rattle.std.specs.Prelude.{◌≤◌};
 
 use crate::error::{ElfError, ElfTable};
 use perfdata_base::endian;
@@ -23,7 +24,9 @@ pub(crate) struct Entry<'a> {
 
 impl Encoding {
     // The first value in a 32-bit file, the second in a 64-bit file.
-    pub(crate) fn select(self, value_32: usize, value_64: usize) -> usize {
+    pub(crate) fn select(self, value_32: usize, value_64: usize) -> usize
+        ensures least { value_32 ≤ value_64 → value_32 ≤ result }
+    {
         if self.is_64_bit { value_64 } else { value_32 }
     }
 }

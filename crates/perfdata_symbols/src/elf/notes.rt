@@ -1,5 +1,7 @@
 //! Notes, and the build id in them.
 
+ghost use Rattle.std.specs.Prelude.{◌^◌, ◌<◌, ◌≤◌, IfSome, length};
+
 use crate::elf::header::{NOTE_SECTION, Section};
 use crate::elf::input::{Encoding, Entry};
 use std::alloc::AllocError;
@@ -40,12 +42,18 @@ pub(crate) fn add_note_sections(
 }
 
 // The least multiple of the alignment that is at least `value`.
-fn aligned(value: usize, has_align_8: bool) -> usize {
-    let mask = if has_align_8 { 7 } else { 3 };
-    value.saturating_add(mask) & !mask
+fn aligned(value: usize, has_align_8: bool) -> usize
+    requires { value < 2 ^ 63 }
+    ensures { value ≤ result }
+{
+    if has_align_8 {
+        (value + 7) / 8 * 8
+    } else {
+        (value + 3) / 4 * 4
+    }
 }
 
-// The number of bytes of a note up to the end of its owner, of its description, and up to the next note.
+// The offsets of the end of a note's owner, and of the start and the end of its description.
 #[derive(Clone, Copy)]
 struct NoteLayout {
     owner_end: usize,
@@ -54,11 +62,16 @@ struct NoteLayout {
 }
 
 // The layout of the note at the start of these bytes. `None` if it isn't completely in them.
-fn note_layout(entry: Entry<'_>, has_align_8: bool) -> Option<NoteLayout> {
+fn note_layout(entry: Entry<'_>, has_align_8: bool) -> Option<NoteLayout>
+    ensures owner { IfSome result (λ layout. 12 ≤ layout.owner_end) }
+    ensures description { IfSome result (λ layout. layout.owner_end ≤ layout.description) }
+    ensures order { IfSome result (λ layout. layout.description ≤ layout.description_end) }
+    ensures within { IfSome result (λ layout. layout.description_end ≤ length entry.entry.bytes.now) }
+{
     let owner_end = NOTE_HEADER_SIZE + entry.u32_at(0) as usize;
     let description = aligned(owner_end, has_align_8);
     let description_end = description.checked_add(entry.u32_at(4) as usize)?;
-    if entry.bytes.len() < NOTE_HEADER_SIZE || entry.bytes.len() < description_end {
+    if entry.bytes.len() < description_end {
         return None;
     }
     Some(NoteLayout {

@@ -1,0 +1,16 @@
+-- Lists of cuts that grow at their ends.
+use Rattle.std.proofs.Common.{◌≡◌, ℕ, ◌+◌, ◌<◌, ◌≤◌, List, [], ◌∷◌, ◌++◌, length, take, get_or, refl, sym, subst, ap, ◌∙◌, arith, leb, true, false, Option, Some, None}
+use Rattle.std.specs.Prelude.{if◌then◌else◌, nat_le}
+use Rattle.std.proofs.lemmas.List.{take_more}
+use Rattle.perfdata_symbols.specs.Cuts.{later_of, symbol_from}
+use Rattle.perfdata_symbols.specs.declared.cuts.Cut.{Cut}
+
+-- the symbol after one more cut
+pub symbol_from-push : (b : Option ℕ) (cs : List Cut) (c : Cut) (x : ℕ) → symbol_from b (cs ++ c ∷ []) x ≡ (if nat_le c.start x then c.symbol else symbol_from b cs x)
+symbol_from-push b [] c x = refl
+symbol_from-push b (d ∷ cs) c x = symbol_from-push (if nat_le d.start x then d.symbol else b) cs c x
+
+-- the choice of the later symbol is associative
+pub later_of-assoc : (a b c : Option ℕ) → later_of (later_of a b) c ≡ later_of a (later_of b c)
+later_of-assoc a b (Some i) = refl
+later_of-assoc a b None = refl

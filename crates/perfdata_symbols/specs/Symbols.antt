@@ -1,0 +1,33 @@
+-- The symbol of an address in a list of symbols.
+use Rattle.std.specs.Prelude.{◌≡◌, ◌≤◌, ◌<◌, ℕ, ◌+◌, List, [], ◌∷◌, ◌++◌, Option, None, Some, if◌then◌else◌, All, length}
+use Rattle.perfdata_symbols.specs.Cuts.{covers}
+use Rattle.perfdata_symbols.specs.declared.symbol.Symbol.{Symbol}
+
+-- the symbol contains the address: it starts at or before it and ends after it, in integers without a bound
+pub record Covers (s : Symbol) (x : ℕ) : Type 0 where
+  pub starts : s.start ≤ x
+  pub ends : x < s.start + s.size
+
+-- this symbol, at this index of the list, contains the address, and none after it does
+pub record IsLastCovering (symbols : List Symbol) (x i : ℕ) (s : Symbol) : Type 0 where
+  pub before : List Symbol
+  pub after : List Symbol
+  pub list : symbols ≡ before ++ s ∷ after
+  pub index : i ≡ length before
+  pub covers_address : Covers s x
+  pub last : All (λ t. ¬ Covers t x) after
+
+-- the index of the last symbol that contains the address, or `None` exactly if none contains it
+abbrev pub IsLastIndex : List Symbol → ℕ → Option ℕ → Type 0
+IsLastIndex symbols x None = All (λ s. ¬ Covers s x) symbols
+IsLastIndex symbols x (Some i) = (s : Symbol) × IsLastCovering symbols x i s
+
+-- the last symbol that contains the address, or `None` exactly if none contains it
+abbrev pub IsLastSymbol : List Symbol → ℕ → Option Symbol → Type 0
+IsLastSymbol symbols x None = All (λ s. ¬ Covers s x) symbols
+IsLastSymbol symbols x (Some s) = (i : ℕ) × IsLastCovering symbols x i s
+
+-- the index of the last symbol that contains the address, where the first symbol has index `i`; `before` if none does
+abbrev pub last_from : ℕ → Option ℕ → List Symbol → ℕ → Option ℕ
+last_from i before [] x = before
+last_from i before (s ∷ ss) x = last_from (i + 1) (if covers s.start s.size x then Some i else before) ss x
