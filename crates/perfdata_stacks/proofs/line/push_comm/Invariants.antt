@@ -1,0 +1,6 @@
+use Rattle.std.proofs.Common.{◌≡◌, ◌++◌, take, map}
+use Rattle.perfdata_stacks.specs.Line.{comm_byte}
+use Rattle.perfdata_stacks.proofs.line.push_comm.Given as goal
+
+abbrev pub invariant-bytes : goal.invariant-bytes
+invariant-bytes l = l.line.items ≡ l.initial.line.items ++ map comm_byte (take l.byte-index l.comm)

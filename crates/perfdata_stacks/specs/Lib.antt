@@ -1,0 +1,4 @@
+-- The specifications that contracts use.
+pub mod Counts
+pub mod Frames
+pub mod Line

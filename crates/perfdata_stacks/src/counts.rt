@@ -1,0 +1,83 @@
+//! Counts of lines.
+ghost use Rattle.std.specs.Prelude.{◌≡◌, []};
+ghost use Rattle.std.specs.List.{sum_by};
+ghost use Rattle.std.specs.Map.{values_of};
+
+use std::alloc::{AllocError, Global};
+use std::collections::BTreeMap;
+use std::collections::btree_map::Iter;
+use thiserror::Error;
+
+/// Why a sample isn't counted.
+#[derive(Clone, Copy, Debug, Drop, PartialEq, Eq, Error)]
+pub enum CountError {
+    /// The sum of all weights is 2^64 or more.
+    #[error("the sum of all weights is 2^64 or more")]
+    Overflow,
+    /// Out of memory.
+    #[error("out of memory")]
+    Memory,
+}
+
+/// The sum of the weights of each line.
+#[derive(Drop)]
+pub struct StackCounts {
+    counts: BTreeMap<Vec<u8>, u64>,
+    total: u64,
+    alloc: Global,
+    ghost summed: { total ≡ sum_by (λ count. count) (values_of counts.entries) },
+}
+
+impl StackCounts {
+    ghost use Rattle.perfdata_stacks.specs.Counts.{AddsToLine, lines_of, sum_of_counts};
+
+    /// Creates counts without lines.
+    pub fn new(alloc: Global) -> StackCounts
+        ensures { lines_of result ≡ [] }
+    {
+        StackCounts {
+            counts: BTreeMap::new(alloc),
+            total: 0,
+            alloc,
+        }
+    }
+
+    /// Adds a weight to the count of a line.
+    ///
+    /// Fails with [`CountError::Overflow`] if the sum of all weights exceeds 2^64 - 1, and with
+    /// [`CountError::Memory`] if memory runs out. Then nothing is counted.
+    pub fn add(&mut self, line: &[u8], weight: u64) -> Result<(), CountError>
+        ensures { AddsToLine self.old line.now weight result self.new }
+    {
+        let mut key = Vec::new(self.alloc);
+        if key.extend_from_slice(line).is_err() {
+            return Err(CountError::Memory);
+        }
+        let old = self.counts.get(&key).copied().unwrap_or(0);
+        let Some(total) = self.total.checked_add(weight) else {
+            return Err(CountError::Overflow);
+        };
+        let Some(count) = old.checked_add(weight) else {
+            return Err(CountError::Overflow);
+        };
+        match self.counts.insert(key, count) {
+            Ok(_) => {
+                self.total = total;
+                Ok(())
+            }
+            Err(_) => Err(CountError::Memory),
+        }
+    }
+
+    /// Returns the sum of all counts.
+    pub fn total(&self) -> u64
+        ensures { result ≡ sum_of_counts self.now }
+    {
+        self.total
+    }
+
+    /// Returns the lines, ascending by bytes, with their counts.
+    pub fn iter(&self) -> Iter<'_, Vec<u8>, u64> {
+        self.counts.iter()
+    }
+}
