@@ -1,4 +1,5 @@
 pub mod CutLemmas
 pub mod LayerLemmas
+pub mod LookupLemmas
 pub mod OverlayLemmas
 pub mod SymbolLemmas

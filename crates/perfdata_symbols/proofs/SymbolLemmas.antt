@@ -3,7 +3,7 @@ use Rattle.std.proofs.Common.{◌≡◌, ℕ, ◌+◌, ◌<◌, ◌≤◌, ◌�
 use Rattle.std.specs.Prelude.{Bool, if◌then◌else◌, nat_le, nat_lt, All}
 use Rattle.std.proofs.lemmas.Bool.{and_parts, and_from, leb-true, ltb-true, le-leb, lt-ltb, false≢true}
 use Rattle.std.proofs.lemmas.List.Elements.{All-nil, All-cons}
-use Rattle.perfdata_symbols.specs.Cuts.{covers}
+use Rattle.perfdata_symbols.specs.Cuts.{covers, later_of}
 use Rattle.perfdata_symbols.specs.Symbols.{Covers, IsLastCovering, IsLastIndex, last_from}
 use Rattle.perfdata_symbols.specs.declared.symbol.Symbol.{Symbol}
 
@@ -31,10 +31,10 @@ FindsFrom i b ss x r = ((r ≡ b) × All (λ s. ¬ Covers s x) ss) ⊎ ((k : ℕ
 
 finds_one : (i : ℕ) (b : Option ℕ) (s : Symbol) (ss : List Symbol) (x : ℕ) (r : Option ℕ) (test : Bool) → covers s.start s.size x ≡ test
     → r ≡ (if test then Some i else b) → All (λ t. ¬ Covers t x) ss → FindsFrom i b (s ∷ ss) x r
-finds_one i b s ss x r true yes is none =
+finds_one i b s ss x r true hit is none =
     let same : i ≡ i + 0 = omega arith in
-    inr (0, s, is ∙ ap (λ n. Some n) same, record { before = []; after = ss; list = refl; index = refl; covers_address = covers-true s x yes; last = none })
-finds_one i b s ss x r false no is none = inl (is, All-cons (λ t. ¬ Covers t x) s ss (covers-false s x no) none)
+    inr (0, s, is ∙ ap (λ n. Some n) same, record { before = []; after = ss; list = refl; index = refl; covers_address = covers-true s x hit; last = none })
+finds_one i b s ss x r false miss is none = inl (is, All-cons (λ t. ¬ Covers t x) s ss (covers-false s x miss) none)
 
 finds_later : (i k : ℕ) (b : Option ℕ) (t s : Symbol) (ss : List Symbol) (x : ℕ) (r : Option ℕ) → r ≡ Some (i + 1 + k) → IsLastCovering ss x k s
     → FindsFrom i b (t ∷ ss) x r
@@ -59,3 +59,20 @@ is_last_index ss x r is = subst (λ q. IsLastIndex ss x q) (sym is) (elim (finds
   | inl none ↦ subst (λ q. IsLastIndex ss x q) (sym none.0) none.1
   | inr last ↦ subst (λ q. IsLastIndex ss x q) (sym last.2) (last.1, subst (λ n. IsLastCovering ss x n last.1) (from_zero last.0) last.3)
 ])
+
+-- a layer of one more symbol
+pub later_of-one : (b : Bool) (i : ℕ) (s : Option ℕ) → later_of s (if b then Some i else None) ≡ (if b then Some i else s)
+later_of-one true i s = refl
+later_of-one false i s = refl
+
+-- one more symbol
+pub found-push : (ss : List Symbol) (s : Symbol) (x : ℕ) (symbol_before symbol_after one : Option ℕ) → symbol_before ≡ last_from 0 None ss x
+    → one ≡ (if covers s.start s.size x then Some (length ss) else None) → symbol_after ≡ later_of symbol_before one
+    → symbol_after ≡ last_from 0 None (ss ++ s ∷ []) x
+found-push ss s x symbol_before symbol_after one old is_one is_after =
+    let at : length ss ≡ 0 + length ss = omega arith in
+    is_after
+    ∙ ap (λ o. later_of symbol_before o) is_one
+    ∙ later_of-one (covers s.start s.size x) (length ss) symbol_before
+    ∙ ap (λ o. if covers s.start s.size x then Some (length ss) else o) old
+    ∙ sym (last_from-push 0 (length ss) None ss s x at)

@@ -27,20 +27,26 @@ impl Layer {
         ensures { IfOk result (λ l. (x : ℕ) → x < 2 ^ 64
             → symbol_in l x ≡ (if covers start size x then Some index else None)) }
     {
+        if size == 0 {
+            return Ok(Layer {
+                cuts: Vec::new(alloc),
+            });
+        }
         let mut cuts = Vec::new(alloc);
-        if size > 0 {
-            cuts.push(Cut {
-                start,
-                symbol: Some(index),
-            })?;
-            if let Some(end) = start.checked_add(size) {
+        cuts.push(Cut {
+            start,
+            symbol: Some(index),
+        })?;
+        match start.checked_add(size) {
+            Some(end) => {
                 cuts.push(Cut {
                     start: end,
                     symbol: None,
                 })?;
+                Ok(Layer { cuts })
             }
+            None => Ok(Layer { cuts }),
         }
-        Ok(Layer { cuts })
     }
 
     // The number of cuts.
@@ -52,11 +58,11 @@ impl Layer {
     pub(crate) fn find(&self, address: u64) -> Option<usize>
         ensures { result ≡ symbol_in self.now address }
     {
-        let end = self.cuts.partition_point(|cut| cut.start <= address);
-        if end == 0 {
+        let above = self.cuts.partition_point(|cut| cut.start <= address);
+        if above == 0 {
             return None;
         }
-        self.cuts[end - 1].symbol
+        self.cuts[above - 1].symbol
     }
 
     // The layer whose symbol at an address is that of `upper`, or that of `lower` if `upper` has none.

@@ -87,7 +87,7 @@ pub(crate) fn read_table<R: PlacedSource>(
     size: u64,
     table: ElfTable,
 ) -> Result<Vec<u8>, ElfError> {
-    if offset > i64::MAX as u64 {
+    if offset > source.seek_to(SeekFrom::End(0))? {
         return Err(ElfError::Truncated(table));
     }
     source.seek_to(SeekFrom::Start(offset))?;
