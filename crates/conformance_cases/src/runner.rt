@@ -33,17 +33,15 @@ struct Runner<'a> {
 
 // A block without the comments before it.
 fn without_comments(block: &str) -> &str {
-    let mut rest = block.trim_matches('\n');
-    for line in block.lines() {
+    let mut size = 0usize;
+    for line in block.split('\n') {
         if !line.is_empty() && !line.starts_with('#') {
             break;
         }
-        rest = rest
-            .strip_prefix(line)
-            .unwrap_or("")
-            .trim_start_matches('\n');
+        size = size.saturating_add(line.len()).saturating_add(1);
     }
-    rest
+    let (_, text) = block.split_at_checked(size).unwrap_or((block, ""));
+    text.trim_end_matches('\n')
 }
 
 // Prints where a case is, its result, and the expected result.
