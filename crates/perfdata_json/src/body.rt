@@ -8,6 +8,7 @@ use crate::kernel::{
 use crate::line::Envelope;
 use crate::names::error_name;
 use crate::sample::{Read, Sample};
+use crate::serializer::LineSerializer;
 use crate::user::{AttributeAndIds, AuxArea, Threads};
 use linux_perf_data::{PerfFile, PerfFileRecord, RecordPlace};
 use perfdata_base::event::{RawEventRecord, RecordType};
@@ -43,45 +44,60 @@ struct Invalid {
 }
 
 impl BodyWriter {
-    fn unparsed(&self, line: &Envelope<'_>, body: RawData<'_>) -> Result<Vec<u8>, AllocError> {
+    fn unparsed(
+        &self,
+        out: &mut LineSerializer,
+        line: &Envelope<'_>,
+        body: RawData<'_>,
+    ) -> Result<(), AllocError> {
         let members = Unparsed {
             body: (!body.is_empty()).then(|| Bytes::new(body, self.byte_limit)),
         };
-        line.json(self.alloc, &members)
+        line.write(out, &members)
     }
 
-    fn invalid(&self, line: &Envelope<'_>, error: &io::Error) -> Result<Vec<u8>, AllocError> {
+    fn invalid(
+        &self,
+        out: &mut LineSerializer,
+        line: &Envelope<'_>,
+        error: &io::Error,
+    ) -> Result<(), AllocError> {
         if error.kind() == ErrorKind::OutOfMemory {
             return Err(AllocError);
         }
         let error = error_name(error.kind());
-        line.json(self.alloc, &Invalid { error })
+        line.write(out, &Invalid { error })
     }
 
-    fn event(&self, line: &Envelope<'_>, event: &EventRecord<'_>) -> Result<Vec<u8>, AllocError> {
+    fn event(
+        &self,
+        out: &mut LineSerializer,
+        line: &Envelope<'_>,
+        event: &EventRecord<'_>,
+    ) -> Result<(), AllocError> {
         let alloc = self.alloc;
         match event {
-            EventRecord::Mmap(mmap) => line.json(alloc, &Mmap::new(alloc, mmap)?),
-            EventRecord::Mmap2(mmap) => line.json(alloc, &Mmap2::new(alloc, mmap)?),
-            EventRecord::Lost(lost) => line.json(alloc, &Lost::new(lost)),
-            EventRecord::Comm(comm) => line.json(alloc, &Comm::new(alloc, comm)?),
-            EventRecord::Exit(task) => line.json(alloc, &ForkOrExit::new(task)),
-            EventRecord::Fork(task) => line.json(alloc, &ForkOrExit::new(task)),
-            EventRecord::Throttle(throttle) => line.json(alloc, &Throttle::new(throttle)),
-            EventRecord::Unthrottle(throttle) => line.json(alloc, &Throttle::new(throttle)),
-            EventRecord::Read(read) => line.json(alloc, &Read::new(read)),
-            EventRecord::Aux(aux) => line.json(alloc, &Aux::new(aux)),
-            EventRecord::ItraceStart(start) => line.json(alloc, &ItraceStart::new(start)),
-            EventRecord::LostSamples(lost) => line.json(alloc, &LostSamples::new(lost)),
-            EventRecord::ContextSwitch(switch) => line.json(alloc, &ContextSwitch::new(switch)),
-            EventRecord::Namespaces(record) => line.json(alloc, &Namespaces::new(*record)),
-            EventRecord::Ksymbol(symbol) => line.json(alloc, &Ksymbol::new(alloc, symbol)?),
-            EventRecord::BpfEvent(event) => line.json(alloc, &BpfEvent::new(event)),
-            EventRecord::Cgroup(group) => line.json(alloc, &ControlGroup::new(alloc, group)?),
-            EventRecord::TextPoke(poke) => line.json(alloc, &TextPoke::new(poke, self.byte_limit)),
-            EventRecord::AuxOutputHwId(record) => line.json(alloc, &AuxOutputHwId::new(record)),
-            EventRecord::Sample(_) => line.json(alloc, &Unparsed { body: None }),
-            EventRecord::Raw(raw) => self.unparsed(line, raw.body),
+            EventRecord::Mmap(mmap) => line.write(out, &Mmap::new(alloc, mmap)?),
+            EventRecord::Mmap2(mmap) => line.write(out, &Mmap2::new(alloc, mmap)?),
+            EventRecord::Lost(lost) => line.write(out, &Lost::new(lost)),
+            EventRecord::Comm(comm) => line.write(out, &Comm::new(alloc, comm)?),
+            EventRecord::Exit(task) => line.write(out, &ForkOrExit::new(task)),
+            EventRecord::Fork(task) => line.write(out, &ForkOrExit::new(task)),
+            EventRecord::Throttle(throttle) => line.write(out, &Throttle::new(throttle)),
+            EventRecord::Unthrottle(throttle) => line.write(out, &Throttle::new(throttle)),
+            EventRecord::Read(read) => line.write(out, &Read::new(read)),
+            EventRecord::Aux(aux) => line.write(out, &Aux::new(aux)),
+            EventRecord::ItraceStart(start) => line.write(out, &ItraceStart::new(start)),
+            EventRecord::LostSamples(lost) => line.write(out, &LostSamples::new(lost)),
+            EventRecord::ContextSwitch(switch) => line.write(out, &ContextSwitch::new(switch)),
+            EventRecord::Namespaces(record) => line.write(out, &Namespaces::new(*record)),
+            EventRecord::Ksymbol(symbol) => line.write(out, &Ksymbol::new(alloc, symbol)?),
+            EventRecord::BpfEvent(event) => line.write(out, &BpfEvent::new(event)),
+            EventRecord::Cgroup(group) => line.write(out, &ControlGroup::new(alloc, group)?),
+            EventRecord::TextPoke(poke) => line.write(out, &TextPoke::new(poke, self.byte_limit)),
+            EventRecord::AuxOutputHwId(record) => line.write(out, &AuxOutputHwId::new(record)),
+            EventRecord::Sample(_) => line.write(out, &Unparsed { body: None }),
+            EventRecord::Raw(raw) => self.unparsed(out, line, raw.body),
         }
     }
 
@@ -89,68 +105,68 @@ impl BodyWriter {
     /// them.
     fn sample(
         &self,
+        out: &mut LineSerializer,
         line: &Envelope<'_>,
         format: &EventFormat,
         raw: &RawEventRecord<'_>,
-    ) -> Result<Vec<u8>, AllocError> {
+    ) -> Result<(), AllocError> {
         let mut fields = raw.body;
         match SampleRecord::parse(format, &mut fields) {
             Ok(sample) => {
                 let members = Sample::new(&sample, format, self.byte_limit);
-                line.json(self.alloc, &members)
+                line.write(out, &members)
             }
-            Err(error) => self.invalid(line, &error),
+            Err(error) => self.invalid(out, line, &error),
         }
     }
 
     /// The line of a kernel record that isn't a sample with known fields.
     fn other_record(
         &self,
+        out: &mut LineSerializer,
         line: &Envelope<'_>,
         format: &EventFormat,
         raw: &RawEventRecord<'_>,
-    ) -> Result<Vec<u8>, AllocError> {
+    ) -> Result<(), AllocError> {
         let id = format.sample_id(raw).ok();
         let line = Envelope {
             sample_id: id.and_then(|id| SampleIdMembers::new(&id)),
             ..*line
         };
         match format.parse(raw) {
-            Ok(event) => self.event(&line, &event),
-            Err(error) => self.invalid(&line, &error),
+            Ok(event) => self.event(out, &line, &event),
+            Err(error) => self.invalid(out, &line, &error),
         }
     }
 
     fn user_record(
         &self,
+        out: &mut LineSerializer,
         line: &Envelope<'_>,
         user: &RawUserRecord<'_>,
-    ) -> Result<Vec<u8>, AllocError> {
+    ) -> Result<(), AllocError> {
         match user.parse(self.alloc) {
-            Ok(UserRecord::ThreadMap(map)) => line.json(
-                self.alloc,
-                &Threads::new(self.alloc, &map)?,
-            ),
-            Ok(UserRecord::HeaderAttr(header)) => line.json(
-                self.alloc,
-                &AttributeAndIds::new(&header),
-            ),
-            Ok(UserRecord::Auxtrace(trace)) => line.json(
-                self.alloc,
+            Ok(UserRecord::ThreadMap(map)) => line.write(out, &Threads::new(self.alloc, &map)?),
+            Ok(UserRecord::HeaderAttr(header)) => line.write(out, &AttributeAndIds::new(&header)),
+            Ok(UserRecord::Auxtrace(trace)) => line.write(
+                out,
                 &AuxArea::new(&trace, self.byte_limit),
             ),
-            Ok(UserRecord::HeaderFeature(_) | UserRecord::Raw(_)) => self.unparsed(line, user.body),
-            Err(error) => self.invalid(line, &error),
+            Ok(UserRecord::HeaderFeature(_) | UserRecord::Raw(_)) => self.unparsed(
+                out, line, user.body,
+            ),
+            Err(error) => self.invalid(out, line, &error),
         }
     }
 
-    /// Returns the JSON of a record's line. `file` contains the record's attribute. Fails if memory runs out.
-    pub(crate) fn record_json(
+    /// Writes the JSON of a record's line. `file` contains the record's attribute. Fails if memory runs out.
+    pub(crate) fn write_record(
         &self,
+        out: &mut LineSerializer,
         file: &PerfFile,
         place: RecordPlace,
         record: &PerfFileRecord<'_>,
-    ) -> Result<Vec<u8>, AllocError> {
+    ) -> Result<(), AllocError> {
         let mut line = Envelope {
             place,
             attr_index: record.attr_index().map(|index| index as u64),
@@ -162,16 +178,16 @@ impl BodyWriter {
         match record {
             PerfFileRecord::EventRecord { attr_index, event } => {
                 let Some(description) = file.event_attributes().get(*attr_index) else {
-                    return self.unparsed(&line, event.body);
+                    return self.unparsed(out, &line, event.body);
                 };
                 line.event = description.name();
                 let format = EventFormat::new(description.attributes(), event.parse_info.endian);
                 if event.record_type == RecordType::SAMPLE && format.has_known_fields() {
-                    return self.sample(&line, &format, event);
+                    return self.sample(out, &line, &format, event);
                 }
-                self.other_record(&line, &format, event)
+                self.other_record(out, &line, &format, event)
             }
-            PerfFileRecord::UserRecord(user) => self.user_record(&line, user),
+            PerfFileRecord::UserRecord(user) => self.user_record(out, &line, user),
         }
     }
 }

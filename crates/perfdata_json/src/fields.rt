@@ -11,17 +11,17 @@ use std::fmt::{Display, Formatter, Write};
 #[derive(Clone, Copy)]
 pub(crate) struct Address(pub(crate) u64);
 
-impl Display for Address {
-    fn fmt<W: Write>(&self, f: &mut Formatter<W>) -> fmt::Result {
-        write!(f, "{:#x}", self.0)
-    }
-}
-
 impl Described for Address {}
 
 impl Serialize for Address {
     fn serialize<S: Serializer>(&self, out: &mut S) -> Result<(), S::Error> {
-        out.collect_str(self)
+        let mut text = [0; 18];
+        // The prefix takes the place of the two bytes before the first digit.
+        let _ = hex::encode_to_slice(self.0.to_be_bytes(), &mut text[2..]);
+        let start = ((self.0 | 1).leading_zeros() / 4) as usize;
+        text[start] = b'0';
+        text[start + 1] = b'x';
+        out.str(str::from_utf8(&text[start..]).unwrap_or_default())
     }
 }
 
@@ -47,8 +47,13 @@ pub(crate) struct Hex<'a>(pub(crate) RawData<'a>);
 
 /// Writes two hexadecimal digits for each byte.
 fn write_hex<W: Write>(f: &mut Formatter<W>, bytes: &[u8]) -> fmt::Result {
-    for byte in bytes {
-        write!(f, "{byte:02x}")?;
+    for chunk in bytes.chunks(32) {
+        let mut text = [0; 64];
+        let Some(digits) = text.get_mut(..2 * chunk.len()) else {
+            return Err(fmt::Error);
+        };
+        let _ = hex::encode_to_slice(chunk, digits);
+        f.write_str(str::from_utf8(digits).unwrap_or_default())?;
     }
     Ok(())
 }

@@ -8,6 +8,7 @@ pub mod line;
 mod names;
 pub mod output;
 mod sample;
+mod serializer;
 mod user;
 
 pub use line::JsonLine;

@@ -3,11 +3,13 @@ ghost use Rattle.std.specs.Prelude.{◌≡◌, []};
 
 use crate::body::BodyWriter;
 use crate::kernel::SampleIdMembers;
+use crate::serializer::LineSerializer;
 use linux_perf_data::event::RecordType;
 use linux_perf_data::{Error, PerfFile, PerfFileRecord, RecordPlace};
 use perfdata_listing::RecordLine;
 use serde::Serialize;
 use std::alloc::{AllocError, Global};
+use std::mem;
 
 /// The type of a record: its name, or its number if it has none.
 #[derive(Clone, Copy, Serialize)]
@@ -58,13 +60,13 @@ pub(crate) struct Envelope<'a> {
 }
 
 impl Envelope<'_> {
-    /// Returns the JSON of a line with the members of a body. Fails if memory runs out: no value of a line
-    /// has another error.
-    pub(crate) fn json<T: Serialize>(
+    /// Writes the JSON of a line with the members of a body. Fails if memory runs out: no value of a line has
+    /// another error.
+    pub(crate) fn write<T: Serialize>(
         &self,
-        alloc: Global,
+        out: &mut LineSerializer,
         body: &T,
-    ) -> Result<Vec<u8>, AllocError> {
+    ) -> Result<(), AllocError> {
         let line = Line {
             offset: self.place.offset,
             round: self.place.round,
@@ -76,7 +78,7 @@ impl Envelope<'_> {
             body,
             sample_id: self.sample_id,
         };
-        serde_json::to_vec(alloc, &line).map_err(|_| AllocError)
+        line.serialize(out)
     }
 }
 
@@ -84,6 +86,7 @@ impl Envelope<'_> {
 #[derive(Drop)]
 pub struct JsonLine {
     bytes: Vec<u8>,
+    printed: String,
     byte_limit: usize,
     alloc: Global,
 }
@@ -97,6 +100,7 @@ impl JsonLine {
     {
         JsonLine {
             bytes: Vec::new(alloc),
+            printed: String::new(alloc),
             byte_limit,
             alloc,
         }
@@ -123,11 +127,17 @@ impl RecordLine for JsonLine {
             alloc: self.alloc,
             byte_limit: self.byte_limit,
         };
-        let written = writer.record_json(file, place, file_record);
-        let Ok(json) = written else {
-            return Err(Error::Memory);
-        };
+        let mut json = mem::replace(&mut self.bytes, Vec::new(self.alloc));
+        json.clear();
+        let printed = mem::replace(&mut self.printed, String::new(self.alloc));
+        let mut out = LineSerializer::new(json, printed);
+        let written = writer.write_record(&mut out, file, place, file_record);
+        let (json, printed) = out.into_buffers();
         self.bytes = json;
+        self.printed = printed;
+        if written.is_err() {
+            return Err(Error::Memory);
+        }
         match self.bytes.push(b'\n') {
             Ok(()) => Ok(()),
             Err(_) => Err(Error::Memory),

@@ -2,6 +2,7 @@
 
 use crate::fields::{Address, Addresses, Bytes};
 use crate::names::context_name;
+use perfdata_base::raw::RawData;
 use perfdata_events::call_chain::CallChain;
 use perfdata_events::format::EventFormat;
 use perfdata_events::read_values::{GroupValues, ReadRecord, ReadValues};
@@ -175,132 +176,126 @@ impl<'a> RegisterMembers<'a> {
     }
 }
 
-/// The members of a sample up to its period.
-#[derive(Clone, Copy, Serialize)]
-struct SampleStart {
-    #[serde(skip_serializing_if = "Option::is_none")]
-    identifier: Option<u64>,
-    #[serde(skip_serializing_if = "Option::is_none")]
-    ip: Option<Address>,
-    #[serde(skip_serializing_if = "Option::is_none")]
-    pid: Option<i32>,
-    #[serde(skip_serializing_if = "Option::is_none")]
-    tid: Option<i32>,
-    #[serde(skip_serializing_if = "Option::is_none")]
-    timestamp: Option<u64>,
-    #[serde(skip_serializing_if = "Option::is_none")]
-    address: Option<Address>,
-    #[serde(skip_serializing_if = "Option::is_none")]
-    id: Option<u64>,
-    #[serde(skip_serializing_if = "Option::is_none")]
-    stream_id: Option<u64>,
-    #[serde(skip_serializing_if = "Option::is_none")]
-    cpu: Option<u32>,
-    #[serde(skip_serializing_if = "Option::is_none")]
-    period: Option<u64>,
-}
-
-/// The members of a sample from its counter values on.
-#[derive(Clone, Copy, Serialize)]
-struct SampleParts<'a> {
-    #[serde(skip_serializing_if = "Option::is_none")]
-    values: Option<Values<'a>>,
-    #[serde(skip_serializing_if = "Option::is_none")]
-    call_chain: Option<Chain<'a>>,
-    #[serde(skip_serializing_if = "Option::is_none")]
-    raw: Option<Bytes<'a>>,
-    #[serde(skip_serializing_if = "Option::is_none")]
-    branch_stack: Option<BranchMembers<'a>>,
-    #[serde(skip_serializing_if = "Option::is_none")]
-    user_registers: Option<RegisterMembers<'a>>,
-    #[serde(skip_serializing_if = "Option::is_none")]
-    user_stack: Option<Bytes<'a>>,
-    #[serde(skip_serializing_if = "Option::is_none")]
-    dynamic_size: Option<u64>,
-    #[serde(skip_serializing_if = "Option::is_none")]
-    weight: Option<u64>,
-    #[serde(skip_serializing_if = "Option::is_none")]
-    data_source: Option<Address>,
-    #[serde(skip_serializing_if = "Option::is_none")]
-    transaction: Option<Address>,
-    #[serde(skip_serializing_if = "Option::is_none")]
-    interrupt_registers: Option<RegisterMembers<'a>>,
-    #[serde(skip_serializing_if = "Option::is_none")]
-    physical_address: Option<Address>,
-    #[serde(skip_serializing_if = "Option::is_none")]
-    cgroup: Option<u64>,
-    #[serde(skip_serializing_if = "Option::is_none")]
-    data_page_size: Option<u64>,
-    #[serde(skip_serializing_if = "Option::is_none")]
-    code_page_size: Option<u64>,
-    #[serde(skip_serializing_if = "Option::is_none")]
-    aux_data: Option<Bytes<'a>>,
-}
-
-/// The members of a sample.
-#[derive(Clone, Copy, Serialize)]
+/// The members of a sample. They are written from the record itself, since a struct of its optional fields takes
+/// longer to fill than to write.
+#[derive(Clone, Copy)]
 pub(crate) struct Sample<'a> {
-    #[serde(flatten)]
-    start: SampleStart,
-    #[serde(flatten)]
-    parts: SampleParts<'a>,
+    record: &'a SampleRecord<'a>,
+    format: &'a EventFormat,
+    byte_limit: usize,
 }
 
-impl SampleStart {
-    fn new(sample: &SampleRecord<'_>) -> SampleStart {
-        SampleStart {
-            identifier: sample.identifier,
-            ip: sample.ip.map(Address),
-            pid: sample.task.map(|task| task.pid),
-            tid: sample.task.map(|task| task.tid),
-            timestamp: sample.timestamp,
-            address: sample.address.map(Address),
-            id: sample.id,
-            stream_id: sample.stream_id,
-            cpu: sample.cpu,
-            period: sample.period,
+/// Writes a member unless it is absent.
+fn write_optional<T: Serialize + Copy, S: Serializer>(
+    out: &mut S,
+    name: &str,
+    value: Option<T>,
+) -> Result<(), S::Error> {
+    match value {
+        Some(value) => {
+            out.key(name)?;
+            value.serialize(out)
         }
-    }
-}
-
-impl<'a> SampleParts<'a> {
-    fn new(sample: &SampleRecord<'a>, format: &EventFormat, byte_limit: usize) -> SampleParts<'a> {
-        let (user, interrupt) = (format.sample_regs_user, format.sample_regs_intr);
-        let bytes = |bytes| Bytes::new(bytes, byte_limit);
-        SampleParts {
-            values: sample.values.map(Values::new),
-            call_chain: sample.call_chain.map(Chain),
-            raw: sample.raw.map(bytes),
-            branch_stack: sample.branch_stack.map(BranchMembers::new),
-            user_registers: sample
-                .user_registers
-                .map(|registers| RegisterMembers::new(user, registers)),
-            user_stack: sample.user_stack.map(|stack| bytes(stack.bytes)),
-            dynamic_size: sample.user_stack.and_then(|stack| stack.dynamic_size),
-            weight: sample.weight,
-            data_source: sample.data_source.map(Address),
-            transaction: sample.transaction.map(Address),
-            interrupt_registers: sample
-                .interrupt_registers
-                .map(|registers| RegisterMembers::new(interrupt, registers)),
-            physical_address: sample.physical_address.map(Address),
-            cgroup: sample.cgroup,
-            data_page_size: sample.data_page_size,
-            code_page_size: sample.code_page_size,
-            aux_data: sample.aux_data.map(bytes),
-        }
+        None => Ok(()),
     }
 }
 
 impl<'a> Sample<'a> {
     pub(crate) fn new(
-        sample: &SampleRecord<'a>,
-        format: &EventFormat,
+        record: &'a SampleRecord<'a>,
+        format: &'a EventFormat,
         byte_limit: usize,
     ) -> Sample<'a> {
         Sample {
-            start: SampleStart::new(sample),
-            parts: SampleParts::new(sample, format, byte_limit),
+            record,
+            format,
+            byte_limit,
         }
+    }
+
+    fn bytes(&self, bytes: Option<RawData<'a>>) -> Option<Bytes<'a>> {
+        bytes.map(|bytes| Bytes::new(bytes, self.byte_limit))
+    }
+
+    /// Writes the members up to the period.
+    fn write_origin<S: Serializer>(&self, out: &mut S) -> Result<(), S::Error> {
+        let record = self.record;
+        write_optional(out, "identifier", record.identifier)?;
+        write_optional(out, "ip", record.ip.map(Address))?;
+        write_optional(out, "pid", record.task.map(|task| task.pid))?;
+        write_optional(out, "tid", record.task.map(|task| task.tid))?;
+        write_optional(out, "timestamp", record.timestamp)?;
+        write_optional(out, "address", record.address.map(Address))?;
+        write_optional(out, "id", record.id)?;
+        write_optional(out, "stream_id", record.stream_id)?;
+        write_optional(out, "cpu", record.cpu)?;
+        write_optional(out, "period", record.period)
+    }
+
+    /// Writes the members from the counter values to the user stack.
+    fn write_state<S: Serializer>(&self, out: &mut S) -> Result<(), S::Error> {
+        let record = self.record;
+        let user_registers = record.user_registers;
+        let user_mask = self.format.sample_regs_user;
+        let stack = record.user_stack;
+        write_optional(out, "values", record.values.map(Values::new))?;
+        write_optional(out, "call_chain", record.call_chain.map(Chain))?;
+        write_optional(out, "raw", self.bytes(record.raw))?;
+        write_optional(
+            out,
+            "branch_stack",
+            record.branch_stack.map(BranchMembers::new),
+        )?;
+        write_optional(
+            out,
+            "user_registers",
+            user_registers.map(|registers| RegisterMembers::new(user_mask, registers)),
+        )?;
+        write_optional(
+            out,
+            "user_stack",
+            self.bytes(stack.map(|stack| stack.bytes)),
+        )?;
+        write_optional(
+            out,
+            "dynamic_size",
+            stack.and_then(|stack| stack.dynamic_size),
+        )
+    }
+
+    /// Writes the members from the weight on.
+    fn write_access<S: Serializer>(&self, out: &mut S) -> Result<(), S::Error> {
+        let record = self.record;
+        let interrupt_registers = record.interrupt_registers;
+        let interrupt_mask = self.format.sample_regs_intr;
+        write_optional(out, "weight", record.weight)?;
+        write_optional(out, "data_source", record.data_source.map(Address))?;
+        write_optional(out, "transaction", record.transaction.map(Address))?;
+        write_optional(
+            out,
+            "interrupt_registers",
+            interrupt_registers.map(|registers| RegisterMembers::new(interrupt_mask, registers)),
+        )?;
+        write_optional(
+            out,
+            "physical_address",
+            record.physical_address.map(Address),
+        )?;
+        write_optional(out, "cgroup", record.cgroup)?;
+        write_optional(out, "data_page_size", record.data_page_size)?;
+        write_optional(out, "code_page_size", record.code_page_size)?;
+        write_optional(out, "aux_data", self.bytes(record.aux_data))
+    }
+}
+
+impl Described for Sample<'_> {}
+
+impl Serialize for Sample<'_> {
+    fn serialize<S: Serializer>(&self, out: &mut S) -> Result<(), S::Error> {
+        out.begin_map(None)?;
+        self.write_origin(out)?;
+        self.write_state(out)?;
+        self.write_access(out)?;
+        out.end_map()
     }
 }
