@@ -1,5 +1,5 @@
 -- The symbols that layers give to addresses.
-use Rattle.std.specs.Prelude.{ℕ, List, [], ◌∷◌, Option, None, Some}
+use Rattle.std.specs.Prelude.{ℕ, List, [], ◌∷◌, Option, None}
 use Rattle.perfdata_symbols.specs.Cuts.{later_of, symbol_from}
 use Rattle.perfdata_symbols.specs.declared.layer.Layer.{Layer}
 

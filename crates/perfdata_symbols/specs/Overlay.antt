@@ -1,5 +1,5 @@
 -- The next cut of two lists of cuts: the one with the lower start, and of two with one start that of the lower list.
-use Rattle.std.specs.Prelude.{◌≡◌, ◌≤◌, ◌<◌, ℕ, ◌+◌, List, length, slice_index_or}
+use Rattle.std.specs.Prelude.{◌≡◌, ◌≤◌, ◌<◌, ◌+◌, List, length, slice_index_or}
 use Rattle.perfdata_symbols.specs.declared.cuts.Cut.{Cut}
 use Rattle.perfdata_symbols.specs.declared.overlay.Front.{Front}
 

@@ -3,7 +3,6 @@ ghost use Rattle.std.specs.Prelude.{◌≡◌};
 ghost use Rattle.perfdata_symbols.specs.declared.error.ElfError.TheVariants.{Io as OfIo, Memory as OfMemory};
 ghost use Rattle.perfdata_symbols.specs.declared.error.JitSymbolsError.TheVariants.{Io as OfJitIo, Memory as OfJitMemory, Jitdump as OfJitdump};
 
-use perfdata_base::source::AppendError;
 use perfdata_jit::JitDumpError;
 use std::alloc::{AllocError, AllocFailed};
 use std::io;

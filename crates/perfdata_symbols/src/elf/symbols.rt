@@ -1,5 +1,7 @@
 //! The entries of symbol tables.
 
+ghost use Rattle.std.specs.Prelude.{◌<◌};
+
 use crate::elf::header::{FileHeader, RELOCATABLE, Section, Segment};
 use crate::elf::input::{Encoding, Entry};
 use crate::elf::strings::Strings;
@@ -58,7 +60,9 @@ pub(crate) struct ElfSymbol {
 }
 
 // The minimum size of an entry in bytes.
-pub(crate) fn min_symbol_size(encoding: Encoding) -> usize {
+pub(crate) fn min_symbol_size(encoding: Encoding) -> usize
+    ensures { 0 < result }
+{
     encoding.select(16, 24)
 }
 

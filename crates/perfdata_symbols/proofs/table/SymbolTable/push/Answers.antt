@@ -1,4 +1,4 @@
-use Rattle.std.proofs.Common.{◌≡◌, ◌<◌, List, [], ◌∷◌, ◌++◌, length, arith, ◌∙◌, ap, sym, vec_len, Option, Some, None}
+use Rattle.std.proofs.Common.{◌≡◌, ◌<◌, [], ◌∷◌, ◌++◌, length, arith, ◌∙◌, ap, sym, vec_len, Some, None}
 use Rattle.std.specs.Prelude.{if◌then◌else◌, is_ok, vec_capacity}
 use Rattle.std.proofs.lemmas.Bool.{cond-true}
 use Rattle.perfdata_symbols.specs.Cuts.{covers}
