@@ -3,3 +3,4 @@ pub mod LayerLemmas
 pub mod LookupLemmas
 pub mod OverlayLemmas
 pub mod SymbolLemmas
+pub mod TextLemmas

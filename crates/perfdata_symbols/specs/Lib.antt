@@ -3,3 +3,4 @@ pub mod Layer
 pub mod Overlay
 pub mod Symbols
 pub mod SymbolTable
+pub mod Text

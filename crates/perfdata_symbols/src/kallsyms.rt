@@ -1,6 +1,7 @@
 //! The kernel's list of symbols, `/proc/kallsyms`.
 
-ghost use Rattle.std.specs.Prelude.{◌+◌, ◌^◌, ◌<◌, length};
+ghost use Rattle.std.specs.Prelude.{◌≡◌, ◌+◌, ◌^◌, ◌<◌, IfOk, length};
+ghost use Rattle.perfdata_symbols.specs.SymbolTable.{names_of};
 
 use crate::symbol::Symbol;
 use crate::table::SymbolTable;
@@ -72,7 +73,9 @@ fn extend_to_next(symbols: &mut [Symbol]) {
 /// A line is `ADDRESS TYPE NAME`, and after a tab the name of a module in brackets, which isn't part of the
 /// name. Lines of other types than T, W, D and B, in both cases, names that start with `$`, and malformed lines
 /// are skipped.
-pub fn parse_kallsyms(alloc: Global, text: Vec<u8>) -> Result<SymbolTable, AllocError> {
+pub fn parse_kallsyms(alloc: Global, text: Vec<u8>) -> Result<SymbolTable, AllocError>
+    ensures names { IfOk result (λ t. names_of t ≡ text.items) }
+{
     let mut symbols = symbols_of_lines(alloc, &text)?;
     symbols.sort_by_key(|symbol| symbol.start)?;
     extend_to_next(&mut symbols);

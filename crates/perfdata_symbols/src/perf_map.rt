@@ -1,6 +1,8 @@
 //! The files `/tmp/perf-PID.map`, in which runtimes list the code that they generate.
 
-ghost use Rattle.std.specs.Prelude.{◌+◌, ◌^◌, ◌<◌, length};
+ghost use Rattle.std.specs.Prelude.{◌≡◌, ◌+◌, ◌^◌, ◌<◌, IfOk, IfSome, length};
+ghost use Rattle.perfdata_symbols.specs.SymbolTable.{names_of};
+ghost use Rattle.perfdata_symbols.specs.Text.{IsMapLine};
 
 use crate::symbol::Symbol;
 use crate::table::SymbolTable;
@@ -10,6 +12,7 @@ use std::alloc::{AllocError, Global};
 // The symbol of a line `START SIZE NAME` that starts at an offset of the text.
 fn symbol_of_line(line: &[u8], offset: usize) -> Option<Symbol>
     requires { offset + length line.now < 2 ^ 64 }
+    ensures { IfSome result (λ s. IsMapLine line.now offset s) }
 {
     let (start_digits, size_at) = split_field(line, b' ')?;
     let (size_digits, size_len) = split_field(&line[size_at..], b' ')?;
@@ -29,7 +32,9 @@ fn symbol_of_line(line: &[u8], offset: usize) -> Option<Symbol>
 ///
 /// A line is `START SIZE NAME`: two hexadecimal numbers below 2^64, each followed by one space, and a name of at
 /// least one byte, which may contain spaces. Other lines are skipped.
-pub fn parse_perf_map(alloc: Global, text: Vec<u8>) -> Result<SymbolTable, AllocError> {
+pub fn parse_perf_map(alloc: Global, text: Vec<u8>) -> Result<SymbolTable, AllocError>
+    ensures names { IfOk result (λ t. names_of t ≡ text.items) }
+{
     let mut symbols = Vec::new(alloc);
     let mut at = 0;
     'lines: while at < text.len() {
