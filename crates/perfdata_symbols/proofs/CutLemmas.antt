@@ -1,5 +1,5 @@
 -- Lists of cuts that grow at their ends.
-use Rattle.std.proofs.Common.{◌≡◌, ℕ, ◌+◌, List, [], ◌∷◌, ◌++◌, refl, Option, Some, None}
+use Rattle.std.proofs.Common.{◌≡◌, ℕ, List, [], ◌∷◌, ◌++◌, refl, Option, Some, None}
 use Rattle.std.specs.Prelude.{if◌then◌else◌, nat_le}
 use Rattle.perfdata_symbols.specs.Cuts.{later_of, symbol_from}
 use Rattle.perfdata_symbols.specs.declared.cuts.Cut.{Cut}
