@@ -1,0 +1,50 @@
+//! The records in the order in which they apply.
+
+use bitflags::Flags;
+use linux_perf_data::in_memory::InMemoryRecords;
+use linux_perf_data::{Error, PerfFile, PerfFileRecord, RecordPlace};
+use perfdata_events::bits::EventFlags;
+use perfdata_order::in_memory::InMemoryOrderedRecords;
+use std::alloc::Global;
+
+/// The records of a recording.
+#[derive(Drop)]
+pub(crate) enum Records<'a> {
+    /// In order of time.
+    Ordered(InMemoryOrderedRecords<'a>),
+    /// In the order of the input.
+    InInputOrder(InMemoryRecords<'a>),
+}
+
+/// Returns whether the records that aren't samples have times.
+fn has_times(file: &PerfFile) -> bool {
+    for event in file.event_attributes() {
+        let flags = EventFlags::from_bits_retain(event.attributes().flags.0);
+        if flags.contains(EventFlags::SAMPLE_ID_ALL) {
+            return true;
+        }
+    }
+    false
+}
+
+impl<'a> Records<'a> {
+    /// Returns the records in order of time or, if only samples have times, in the order of the input.
+    pub(crate) fn new(alloc: Global, file: &PerfFile, records: InMemoryRecords<'a>) -> Records<'a> {
+        if has_times(file) {
+            Records::Ordered(InMemoryOrderedRecords::new(alloc, records))
+        } else {
+            Records::InInputOrder(records)
+        }
+    }
+
+    /// Returns the next record, or `None` at the end.
+    pub(crate) fn next_record(
+        &mut self,
+        file: &mut PerfFile,
+    ) -> Result<Option<(RecordPlace, PerfFileRecord<'a>)>, Error> {
+        match self {
+            Records::Ordered(records) => records.next_record(file),
+            Records::InInputOrder(records) => records.next_record(file),
+        }
+    }
+}
