@@ -55,7 +55,7 @@ fn option<'a>(alloc: Global, name: &'a str, value: &'a str, help: &'a str) -> Ar
 }
 
 /// Returns the description of the command line.
-pub(crate) fn command(alloc: Global) -> Result<Command<'static>, AllocError> {
+pub(crate) fn command<'a>(alloc: Global) -> Result<Command<'a>, AllocError> {
     let path = Arg::new(alloc, "file")
         .value_name("FILE")
         .default_value("perf.data")
