@@ -2,41 +2,54 @@
 
 use crate::frame_names::FrameNames;
 use crate::names::NameTable;
-use crate::options::{Options, Weight};
+use crate::options::{Options, ThreadIds, Weight};
 use crate::records::Records;
 use crate::selection::Selection;
-use anyhow::{Context, Result, bail};
 use bitflags::Flags;
 use linux_perf_data::attr::PerfEventAttr;
 use linux_perf_data::event::RawEventRecord;
-use linux_perf_data::{PerfFile, PerfFileRecord, RecordPlace};
+use linux_perf_data::{Error, PerfFile, PerfFileRecord};
+use perfdata_cli::error::InputError;
+use perfdata_cli::position::Position;
 use perfdata_events::bits::EventFlags;
 use perfdata_events::event::EventRecord;
 use perfdata_events::fields::task::Task;
 use perfdata_events::format::EventFormat;
 use perfdata_events::sample::SampleRecord;
 use perfdata_spaces::address_spaces::{AddressSpaces, context_of_mode};
-use perfdata_stacks::counts::StackCounts;
+use perfdata_stacks::counts::{CountError, StackCounts};
 use perfdata_stacks::frames::SampleFrames;
 use perfdata_stacks::line::push_comm;
 use std::alloc::{AllocError, Global};
 use std::collections::HashMap;
+use std::io;
 use std::io::Write;
+
+/// The name of the idle task, whose thread id is 0.
+const IDLE_TASK: &[u8] = b"swapper";
 
 /// The stacks of the samples so far.
 #[derive(Drop)]
 pub(crate) struct Folder<'a> {
     alloc: Global,
     options: Options<'a>,
-    selection: Option<Selection>,
+    selection: Selection<'a>,
     spaces: AddressSpaces,
     names: NameTable,
     frame_names: FrameNames,
     /// The sum of the weights of each stack: the numbers of its names.
     stacks: HashMap<Vec<u32>, u64>,
+    /// The sum of all weights.
+    total: u64,
     stack: Vec<u32>,
     comm: Vec<u8>,
+    records: u64,
     other_events: u64,
+}
+
+/// Returns the error of a sum that no u64 holds.
+fn overflow() -> Error {
+    io::Error::other("the sum of all weights is 2^64 or more").into()
 }
 
 /// Returns what a sample counts.
@@ -55,18 +68,26 @@ fn task_of(sample: &SampleRecord<'_>) -> Task {
     sample.task.unwrap_or(Task { pid: 0, tid: 0 })
 }
 
+/// Appends a number and the byte before it.
+fn push_number(text: &mut Vec<u8>, before: u8, number: i32) -> Result<(), Error> {
+    text.push(before)?;
+    Ok(write!(text, "{number}")?)
+}
+
 impl<'a> Folder<'a> {
     pub(crate) fn new(alloc: Global, options: Options<'a>) -> Folder<'a> {
         Folder {
             alloc,
             options,
-            selection: None,
+            selection: options.selection,
             spaces: AddressSpaces::new(alloc),
             names: NameTable::new(alloc),
             frame_names: FrameNames::new(alloc, options.name_kind),
             stacks: HashMap::new(alloc),
+            total: 0,
             stack: Vec::new(alloc),
             comm: Vec::new(alloc),
+            records: 0,
             other_events: 0,
         }
     }
@@ -76,114 +97,146 @@ impl<'a> Folder<'a> {
         self.other_events
     }
 
-    /// Returns whether the samples of an event are counted.
-    fn is_selected(&mut self, file: &PerfFile, index: usize) -> Result<bool, AllocError> {
-        let alloc = self.alloc;
-        if self.selection.is_none() {
-            let (event, all) = (self.options.event, self.options.all_events);
-            self.selection = Some(Selection::new(alloc, event, all)?);
-        }
-        match &mut self.selection {
-            Some(selection) => selection.selects(alloc, file, index),
-            None => Ok(true),
-        }
-    }
-
-    /// Writes the name of a thread.
-    fn write_comm(&mut self, task: Task) -> Result<()> {
+    /// Sets the name of a thread, without its ids.
+    fn set_comm(&mut self, tid: i32) -> Result<(), Error> {
         self.comm.clear();
-        match self.spaces.comm(task.tid) {
-            Some(comm) => push_comm(&mut self.comm, comm)?,
-            None if task.tid == 0 => push_comm(&mut self.comm, b"swapper")?,
-            None => write!(self.comm, ":{}", task.tid)?,
+        match self.spaces.comm(tid) {
+            Some(comm) => Ok(push_comm(&mut self.comm, comm)?),
+            None if tid == 0 => Ok(push_comm(&mut self.comm, IDLE_TASK)?),
+            None => push_number(&mut self.comm, b':', tid),
         }
-        if self.options.with_tid {
-            write!(self.comm, "-{}/{}", task.pid, task.tid)?;
-        } else if self.options.with_pid {
-            write!(self.comm, "-{}", task.pid)?;
-        }
-        Ok(())
     }
 
-    /// Sets the stack to the numbers of the names of a sample, the thread's first, then the root's.
-    fn set_stack(&mut self, misc: u16, sample: &SampleRecord<'_>) -> Result<()> {
-        let task = task_of(sample);
+    /// Appends the ids of a thread to its name.
+    fn push_ids(&mut self, task: Task) -> Result<(), Error> {
+        match self.options.thread_ids {
+            ThreadIds::Nothing => Ok(()),
+            ThreadIds::Process => push_number(&mut self.comm, b'-', task.pid),
+            ThreadIds::Thread => {
+                push_number(&mut self.comm, b'-', task.pid)?;
+                push_number(&mut self.comm, b'/', task.tid)
+            }
+        }
+    }
+
+    /// Sets the stack to the numbers of the names of a sample's frames, that of the leaf first.
+    fn set_frames(&mut self, pid: i32, misc: u16, sample: &SampleRecord<'_>) -> Result<(), Error> {
         self.stack.clear();
         for frame in SampleFrames::new(sample, context_of_mode(misc)) {
             let number = self
                 .frame_names
-                .number(task.pid, frame, &self.spaces, &mut self.names)?;
+                .number(pid, frame, &self.spaces, &mut self.names)?;
             self.stack.push(number)?;
         }
-        self.write_comm(task)?;
-        self.stack.push(self.names.number(self.comm.as_slice())?)?;
-        self.stack.as_mut_slice().reverse();
         Ok(())
     }
 
-    /// Adds a weight to the current stack.
-    fn count_stack(&mut self, weight: u64) -> Result<()> {
+    /// Sets the stack to the numbers of the names of a sample: the thread's, then the root's to the leaf's.
+    fn set_stack(&mut self, misc: u16, sample: &SampleRecord<'_>) -> Result<(), Error> {
+        let task = task_of(sample);
+        self.set_frames(task.pid, misc, sample)?;
+        self.set_comm(task.tid)?;
+        self.push_ids(task)?;
+        let comm = self.names.number(self.comm.as_slice())?;
+        self.stack.push(comm)?;
+        self.stack.reverse();
+        Ok(())
+    }
+
+    /// Adds a weight to that of the stack.
+    fn count_stack(&mut self, weight: u64) -> Result<(), Error> {
+        let Some(total) = self.total.checked_add(weight) else {
+            return Err(overflow());
+        };
+        self.total = total;
         match self.stacks.get_mut(self.stack.as_slice()) {
-            Some(count) => match count.checked_add(weight) {
-                Some(sum) => *count = sum,
-                None => bail!("the sum of all periods is 2^64 or more"),
-            },
+            Some(count) => *count = count.saturating_add(weight),
             None => {
-                let key = self.stack.as_slice().to_vec(self.alloc)?;
+                let key = self.stack.to_vec(self.alloc)?;
                 self.stacks.insert(key, weight)?;
             }
         }
         Ok(())
     }
 
-    /// Adds a sample.
+    /// Adds a sample of an event.
     fn add_sample(
         &mut self,
-        file: &PerfFile,
-        index: usize,
+        attr: &PerfEventAttr,
         misc: u16,
         sample: &SampleRecord<'_>,
-    ) -> Result<()> {
-        if !self.is_selected(file, index)? {
-            self.other_events = self.other_events.saturating_add(1);
-            return Ok(());
-        }
+    ) -> Result<(), Error> {
         self.set_stack(misc, sample)?;
-        match file.event_attributes().get(index) {
-            Some(event) => {
-                let weight = weight_of(self.options.weight, event.attributes(), sample);
-                self.count_stack(weight)
-            }
-            None => Ok(()),
-        }
+        self.count_stack(weight_of(self.options.weight, attr, sample))
     }
 
     /// Adds a record of an event.
-    fn add_event(&mut self, file: &PerfFile, index: usize, raw: &RawEventRecord<'_>) -> Result<()> {
+    fn add_event(
+        &mut self,
+        file: &PerfFile,
+        index: usize,
+        raw: &RawEventRecord<'_>,
+    ) -> Result<(), Error> {
         let Some(event) = file.event_attributes().get(index) else {
             return Ok(());
         };
         let format = EventFormat::new(event.attributes(), file.endian());
         match format.parse(raw)? {
-            EventRecord::Sample(sample) => self.add_sample(file, index, raw.misc, &sample),
+            EventRecord::Sample(sample) => {
+                if self.selection.selects(file, index) {
+                    return self.add_sample(event.attributes(), raw.misc, &sample);
+                }
+                self.other_events = self.other_events.saturating_add(1);
+                Ok(())
+            }
             record => Ok(self.spaces.apply(raw.misc, &record)?),
         }
     }
 
-    /// Adds the next record. Returns whether there is one.
-    fn add_next(&mut self, records: &mut Records<'_>, file: &mut PerfFile) -> Result<bool> {
-        let Some((place, record)) = records.next_record(file)? else {
-            return Ok(false);
-        };
-        if let PerfFileRecord::EventRecord { attr_index, event } = record {
-            self.add_event(file, attr_index, &event)
-                .context(format_args!("record at offset {}", place.offset))?;
+    /// Returns what was read of the records, and where the next one is, if that is known.
+    fn position(&self, offset: Option<u64>) -> Position {
+        Position {
+            records: self.records,
+            offset,
         }
-        Ok(true)
+    }
+
+    /// Adds a record.
+    fn add_record(&mut self, file: &PerfFile, record: &PerfFileRecord<'_>) -> Result<(), Error> {
+        match record {
+            PerfFileRecord::EventRecord { attr_index, event } => {
+                self.add_event(file, *attr_index, event)
+            }
+            PerfFileRecord::UserRecord(_) => Ok(()),
+        }
+    }
+
+    /// Adds the next record. Returns whether there is one.
+    fn add_next(
+        &mut self,
+        records: &mut Records<'_>,
+        file: &mut PerfFile,
+    ) -> Result<bool, InputError> {
+        match records.next_record(file) {
+            Ok(Some((place, record))) => {
+                if let Err(cause) = self.add_record(file, &record) {
+                    let position = self.position(Some(place.offset));
+                    return Err(InputError::Record { position, cause });
+                }
+                self.records = self.records.saturating_add(1);
+                Ok(true)
+            }
+            Ok(None) => Ok(false),
+            Err(cause) => Err(InputError::at(self.position(None), cause)),
+        }
     }
 
     /// Adds all records.
-    pub(crate) fn add_all(&mut self, records: &mut Records<'_>, file: &mut PerfFile) -> Result<()> {
+    pub(crate) fn add_all(
+        &mut self,
+        records: &mut Records<'_>,
+        file: &mut PerfFile,
+    ) -> Result<(), InputError> {
         for _ in 0..u64::MAX {
             if !self.add_next(records, file)? {
                 break;
@@ -193,14 +246,25 @@ impl<'a> Folder<'a> {
     }
 
     /// Returns the lines with their counts.
-    pub(crate) fn finish(self) -> Result<StackCounts> {
+    fn counts(&self) -> Result<StackCounts, CountError> {
         let mut counts = StackCounts::new(self.alloc);
         let mut line = Vec::new(self.alloc);
         for (stack, weight) in self.stacks.iter() {
-            set_line(&mut line, &self.names, stack.as_slice())?;
+            if set_line(&mut line, &self.names, stack.as_slice()).is_err() {
+                return Err(CountError::Memory);
+            }
             counts.add(line.as_slice(), *weight)?;
         }
         Ok(counts)
+    }
+
+    /// Returns the lines with their counts.
+    pub(crate) fn finish(self) -> Result<StackCounts, InputError> {
+        match self.counts() {
+            Ok(counts) => Ok(counts),
+            Err(CountError::Memory) => Err(InputError::OutOfMemory),
+            Err(CountError::Overflow) => Err(InputError::Metadata(overflow())),
+        }
     }
 }
 

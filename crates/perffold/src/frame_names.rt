@@ -2,14 +2,19 @@
 
 use crate::names::NameTable;
 use crate::options::NameKind;
+use linux_perf_data::Error;
 use perfdata_events::call_chain::Frame;
 use perfdata_spaces::address_spaces::AddressSpaces;
 use perfdata_spaces::mapping::{Mapping, PROTECTION_EXEC};
 use perfdata_stacks::line::push_name;
-use std::alloc::{AllocError, Global};
+use std::alloc::Global;
+use std::io::Write;
 
 /// The path of the kernel, which the name of a symbol follows.
 const KERNEL_PATH: &[u8] = b"[kernel.kallsyms]";
+
+/// The name of a frame without a mapping.
+const UNKNOWN: &[u8] = b"[unknown]";
 
 /// The flag of a mapping of huge pages (`MAP_HUGETLB`).
 const MAP_HUGETLB: u32 = 0x40000;
@@ -31,7 +36,6 @@ pub(crate) struct FrameNames {
     /// The number of the name of each mapping.
     of_mappings: Vec<Option<u32>>,
     text: Vec<u8>,
-    alloc: Global,
 }
 
 /// Returns the part of a path after its last slash. That of the kernel's path has no symbol.
@@ -64,23 +68,21 @@ impl FrameNames {
             kind,
             of_mappings: Vec::new(alloc),
             text: Vec::new(alloc),
-            alloc,
         }
     }
 
     /// Returns the number of the name of a mapping: that of its file in brackets, or of the process's map file
     /// for executable memory without a file.
-    fn file_number(&mut self, mapping: &Mapping, names: &mut NameTable) -> Result<u32, AllocError> {
+    fn file_number(&mut self, mapping: &Mapping, names: &mut NameTable) -> Result<u32, Error> {
         self.text.clear();
         self.text.push(b'[')?;
         if is_anonymous(mapping) && mapping.protection & PROTECTION_EXEC != 0 {
-            let name = format!(in self.alloc; "perf-{}.map", mapping.pid)?;
-            push_name(&mut self.text, name.as_bytes())?;
+            write!(self.text, "perf-{}.map", mapping.pid)?;
         } else {
             push_name(&mut self.text, base_name(mapping.path.as_slice()))?;
         }
         self.text.push(b']')?;
-        names.number(self.text.as_slice())
+        Ok(names.number(self.text.as_slice())?)
     }
 
     /// Returns the number of the name of a mapping with an index.
@@ -89,7 +91,7 @@ impl FrameNames {
         index: u32,
         mapping: &Mapping,
         names: &mut NameTable,
-    ) -> Result<u32, AllocError> {
+    ) -> Result<u32, Error> {
         let at = index as usize;
         if let Some(Some(number)) = self.of_mappings.get(at) {
             return Ok(*number);
@@ -105,9 +107,10 @@ impl FrameNames {
     }
 
     /// Returns the number of an address as a name.
-    fn address_number(&mut self, address: u64, names: &mut NameTable) -> Result<u32, AllocError> {
-        let text = format!(in self.alloc; "{address:#x}")?;
-        names.number(text.as_bytes())
+    fn address_number(&mut self, address: u64, names: &mut NameTable) -> Result<u32, Error> {
+        self.text.clear();
+        write!(self.text, "{address:#x}")?;
+        Ok(names.number(self.text.as_slice())?)
     }
 
     /// Returns the number of the name of a frame in a process.
@@ -117,16 +120,16 @@ impl FrameNames {
         frame: Frame,
         spaces: &AddressSpaces,
         names: &mut NameTable,
-    ) -> Result<u32, AllocError> {
+    ) -> Result<u32, Error> {
         if self.kind == NameKind::Address {
             return self.address_number(frame.address, names);
         }
         let Some(index) = spaces.find_index(pid, frame.address, frame.context) else {
-            return names.number(b"[unknown]");
+            return Ok(names.number(UNKNOWN)?);
         };
         match spaces.mapping(index) {
             Some(mapping) => self.mapping_number(index, mapping, names),
-            None => names.number(b"[unknown]"),
+            None => Ok(names.number(UNKNOWN)?),
         }
     }
 }

@@ -1,7 +1,40 @@
-//! The command-line arguments.
+//! The program's command line.
 
-use clap::{Arg, ArgAction, ArgMatches, Command};
+use crate::selection::Selection;
+use clap::{Arg, ArgAction, ArgMatches, Command, Error};
+use perfdata_cli::command_line::{FILE, command};
 use std::alloc::{AllocError, Global};
+
+/// What the program does.
+const ABOUT: &str =
+    "Writes the stacks of a recording's samples as folded lines: names of frames with ';' between them, and a count.";
+
+/// The id of the option of the event.
+const EVENT: &str = "event";
+
+/// The id of the flag for all events.
+const ALL_EVENTS: &str = "all-events";
+
+/// The id of the option of the weight.
+const WEIGHT: &str = "weight";
+
+/// The value of the option of the weight by which a sample counts its period.
+const PERIOD: &str = "period";
+
+/// The values of the option of the weight.
+const WEIGHTS: &[&str] = &["samples", PERIOD];
+
+/// The id of the flag for process ids.
+const PID: &str = "pid";
+
+/// The id of the flag for process and thread ids.
+const TID: &str = "tid";
+
+/// The id of the flag for names without symbols.
+const NO_SYMBOLS: &str = "no-symbols";
+
+/// The id of the flag for addresses.
+const RAW: &str = "raw";
 
 /// What a sample counts.
 #[derive(Clone, Copy, PartialEq, Eq)]
@@ -21,19 +54,25 @@ pub(crate) enum NameKind {
     Address,
 }
 
+/// Which ids follow the name of a thread.
+#[derive(Clone, Copy, PartialEq, Eq)]
+pub(crate) enum ThreadIds {
+    /// None.
+    Nothing,
+    /// That of the process.
+    Process,
+    /// Those of the process and the thread.
+    Thread,
+}
+
 /// What the arguments select.
 #[derive(Clone, Copy)]
 pub(crate) struct Options<'a> {
-    /// The path of the recording, or `-`.
-    pub(crate) path: &'a str,
-    /// The name or the index of the event.
-    pub(crate) event: Option<&'a str>,
-    pub(crate) all_events: bool,
+    /// The input, if one is named.
+    pub(crate) file: Option<&'a str>,
+    pub(crate) selection: Selection<'a>,
     pub(crate) weight: Weight,
-    /// Whether the first name has the process id.
-    pub(crate) with_pid: bool,
-    /// Whether the first name has the process id and the thread id.
-    pub(crate) with_tid: bool,
+    pub(crate) thread_ids: ThreadIds,
     pub(crate) name_kind: NameKind,
 }
 
@@ -49,56 +88,103 @@ fn flag<'a>(alloc: Global, name: &'a str, help: &'a str) -> Arg<'a> {
 fn option<'a>(alloc: Global, name: &'a str, value: &'a str, help: &'a str) -> Arg<'a> {
     Arg::new(alloc, name)
         .long(name)
-        .action(ArgAction::Set)
         .value_name(value)
         .help(help)
 }
 
-/// Returns the description of the command line.
-pub(crate) fn command<'a>(alloc: Global) -> Result<Command<'a>, AllocError> {
-    let path = Arg::new(alloc, "file")
-        .value_name("FILE")
-        .default_value("perf.data")
-        .help("The recording, a perf.data file or a saved pipe; - is standard input");
-    Command::new(alloc, "perffold")
-        .about("Writes the stacks of a recording's samples as folded lines")
-        .arg(path)?
-        .arg(option(
-            alloc,
-            "event",
-            "NAME|INDEX",
-            "Count the samples of this event",
-        ))?
-        .arg(flag(alloc, "all-events", "Count the samples of all events"))?
-        .arg(option(alloc, "weight", "samples|period", "What a sample counts"))?
-        .arg(flag(alloc, "pid", "Add the process id to the name of the thread"))?
-        .arg(flag(
-            alloc,
-            "tid",
-            "Add the process id and the thread id to the name of the thread",
-        ))?
-        .arg(flag(alloc, "no-symbols", "Name frames by their files"))?
-        .arg(flag(alloc, "raw", "Name frames by their addresses"))
+/// Returns the option of the weight.
+fn weight_option<'a>(alloc: Global) -> Arg<'a> {
+    option(
+        alloc,
+        WEIGHT,
+        "WEIGHT",
+        "What a sample counts: one, or its period",
+    )
+    .value_parser(WEIGHTS)
 }
 
-impl<'a> Options<'a> {
-    /// Returns what the arguments select.
-    pub(crate) fn new(matches: &ArgMatches<'a>) -> Options<'a> {
-        Options {
-            path: matches.get_str("file").unwrap_or("perf.data"),
-            event: matches.get_str("event"),
-            all_events: matches.get_flag("all-events"),
-            weight: match matches.get_str("weight") {
-                Some("period") => Weight::Period,
-                _ => Weight::Samples,
-            },
-            with_pid: matches.get_flag("pid"),
-            with_tid: matches.get_flag("tid"),
-            name_kind: if matches.get_flag("raw") {
-                NameKind::Address
-            } else {
-                NameKind::File
-            },
-        }
+/// Adds the options that select samples and what they count.
+fn with_selection<'a>(alloc: Global, command: Command<'a>) -> Result<Command<'a>, AllocError> {
+    command
+        .arg(option(
+            alloc,
+            EVENT,
+            "EVENT",
+            "Count the samples of the event with this name or index [default: that of the first sample]",
+        ))?
+        .arg(flag(alloc, ALL_EVENTS, "Count the samples of all events"))?
+        .arg(weight_option(alloc))
+}
+
+/// Adds the flags for the names in lines.
+fn with_names<'a>(alloc: Global, command: Command<'a>) -> Result<Command<'a>, AllocError> {
+    command
+        .arg(flag(alloc, PID, "Add the process id to the name of the thread"))?
+        .arg(flag(
+            alloc,
+            TID,
+            "Add the process id and the thread id to the name of the thread",
+        ))?
+        .arg(flag(
+            alloc,
+            NO_SYMBOLS,
+            "Name frames by their files, as is the default",
+        ))?
+        .arg(flag(alloc, RAW, "Name frames by their addresses"))
+}
+
+/// Returns the command with its options.
+fn command_with_options<'a>(alloc: Global, name: &'a str) -> Result<Command<'a>, AllocError> {
+    let command = with_selection(alloc, command(alloc, name, ABOUT)?)?;
+    with_names(alloc, command)
+}
+
+/// Returns which samples are counted.
+fn selection_of<'a>(matches: &ArgMatches<'a>) -> Selection<'a> {
+    if matches.get_flag(ALL_EVENTS) {
+        return Selection::All;
     }
+    match matches.get_str(EVENT) {
+        Some(text) => Selection::of_text(text),
+        None => Selection::First,
+    }
+}
+
+/// Returns what a sample counts.
+fn weight_of(matches: &ArgMatches<'_>) -> Weight {
+    match matches.get_str(WEIGHT) {
+        Some(PERIOD) => Weight::Period,
+        _ => Weight::Samples,
+    }
+}
+
+/// Returns which ids follow the name of a thread.
+fn thread_ids_of(matches: &ArgMatches<'_>) -> ThreadIds {
+    if matches.get_flag(TID) {
+        ThreadIds::Thread
+    } else if matches.get_flag(PID) {
+        ThreadIds::Process
+    } else {
+        ThreadIds::Nothing
+    }
+}
+
+/// Parses the arguments, of which the first is the program's name.
+pub(crate) fn parse<'a>(
+    alloc: Global,
+    name: &'a str,
+    words: &'a [String],
+) -> Result<Options<'a>, Error> {
+    let matches = command_with_options(alloc, name)?.try_get_matches_from(words)?;
+    Ok(Options {
+        file: matches.get_str(FILE),
+        selection: selection_of(&matches),
+        weight: weight_of(&matches),
+        thread_ids: thread_ids_of(&matches),
+        name_kind: if matches.get_flag(RAW) {
+            NameKind::Address
+        } else {
+            NameKind::File
+        },
+    })
 }

@@ -1,57 +1,41 @@
 //! Which samples are counted.
 
 use linux_perf_data::PerfFile;
-use std::alloc::{AllocError, Global};
 
 /// The event whose samples are counted.
-#[derive(Drop)]
-pub(crate) enum Selection {
+#[derive(Clone, Copy)]
+pub(crate) enum Selection<'a> {
     /// That of the first sample.
     First,
+    /// All events.
     All,
-    Named(String),
+    /// All events with a name.
+    Named(&'a str),
+    /// The event with an index.
     Index(usize),
+    /// The event with an index, and all events with its name.
+    NameOf(usize),
 }
 
-impl Selection {
-    /// Returns what `--event` and `--all-events` select.
-    pub(crate) fn new(
-        alloc: Global,
-        event: Option<&str>,
-        all_events: bool,
-    ) -> Result<Selection, AllocError> {
-        match event {
-            _ if all_events => Ok(Selection::All),
-            None => Ok(Selection::First),
-            Some(text) => match text.parse::<usize>() {
-                Ok(index) => Ok(Selection::Index(index)),
-                Err(_) => Ok(Selection::Named(String::from_str(alloc, text)?)),
-            },
-        }
-    }
-
-    /// Returns what a sample of an event selects if it is the first.
-    fn of_first(alloc: Global, file: &PerfFile, index: usize) -> Result<Selection, AllocError> {
-        match name_of(file, index) {
-            Some(name) => Ok(Selection::Named(String::from_str(alloc, name)?)),
-            None => Ok(Selection::Index(index)),
+impl<'a> Selection<'a> {
+    /// Returns what the value of `--event` selects.
+    pub(crate) fn of_text(text: &'a str) -> Selection<'a> {
+        match text.parse::<usize>() {
+            Ok(index) => Selection::Index(index),
+            Err(_) => Selection::Named(text),
         }
     }
 
     /// Returns whether the samples of an event are counted.
-    pub(crate) fn selects(
-        &mut self,
-        alloc: Global,
-        file: &PerfFile,
-        index: usize,
-    ) -> Result<bool, AllocError> {
-        match self {
-            Selection::All => Ok(true),
-            Selection::Index(selected) => Ok(*selected == index),
-            Selection::Named(selected) => Ok(name_of(file, index) == Some(selected.as_str())),
+    pub(crate) fn selects(&mut self, file: &PerfFile, index: usize) -> bool {
+        match *self {
+            Selection::All => true,
+            Selection::Index(selected) => selected == index,
+            Selection::Named(selected) => has_name(file, index, selected),
+            Selection::NameOf(first) => first == index || have_one_name(file, first, index),
             Selection::First => {
-                *self = Selection::of_first(alloc, file, index)?;
-                Ok(true)
+                *self = Selection::NameOf(index);
+                true
             }
         }
     }
@@ -60,4 +44,20 @@ impl Selection {
 /// Returns the name of an event.
 fn name_of(file: &PerfFile, index: usize) -> Option<&str> {
     file.event_attributes().get(index)?.name()
+}
+
+/// Returns whether an event has a name.
+fn has_name(file: &PerfFile, index: usize, name: &str) -> bool {
+    match name_of(file, index) {
+        Some(found) => found == name,
+        None => false,
+    }
+}
+
+/// Returns whether two events have the same name.
+fn have_one_name(file: &PerfFile, first: usize, second: usize) -> bool {
+    match name_of(file, first) {
+        Some(name) => has_name(file, second, name),
+        None => false,
+    }
 }

@@ -1,0 +1,78 @@
+//! Writes the folded lines of an input on standard output.
+
+use crate::fold::Folder;
+use crate::options::Options;
+use crate::records::Records;
+use linux_perf_data::in_memory::InMemoryReader;
+use perfdata_cli::error::{InputError, ProgramError};
+use perfdata_cli::input::{Input, InputKind};
+use perfdata_stacks::counts::StackCounts;
+use std::io;
+use std::io::{BufWriter, Write};
+
+/// Writes the lines with their counts.
+fn write_lines(rt: &HostRuntime, counts: &StackCounts) -> io::Result<()> {
+    let mut out = BufWriter::new(rt.alloc(), rt.stdout())?;
+    for (line, count) in counts.iter() {
+        out.write_all(line.as_slice())?;
+        writeln!(out, " {count}")?;
+    }
+    out.flush()
+}
+
+/// Writes the number of samples of other events on standard error, if it isn't 0.
+fn print_other_events(rt: &HostRuntime, name: &str, samples: u64) {
+    if samples != 0 {
+        let _ = eprintln!(rt; "{name}: {samples} samples of other events aren't counted");
+    }
+}
+
+/// Writes the lines of the samples that were read, and fails with the error that ended them, if there is one.
+fn finish(
+    rt: &HostRuntime,
+    name: &str,
+    folder: Folder<'_>,
+    read: Result<(), InputError>,
+) -> Result<(), ProgramError> {
+    let other_events = folder.other_events();
+    let counts = folder.finish()?;
+    write_lines(rt, &counts).map_err(ProgramError::Output)?;
+    print_other_events(rt, name, other_events);
+    Ok(read?)
+}
+
+/// Folds the samples of an input that was opened.
+fn fold_opened(
+    rt: &HostRuntime,
+    name: &str,
+    options: Options<'_>,
+    reader: InMemoryReader<'_>,
+) -> Result<(), ProgramError> {
+    let mut file = reader.perf_file;
+    let mut records = Records::new(rt.alloc(), &file, reader.records);
+    let mut folder = Folder::new(rt.alloc(), options);
+    let read = folder.add_all(&mut records, &mut file);
+    finish(rt, name, folder, read)
+}
+
+/// Folds the samples of the input at a path, which is read into memory.
+pub(crate) fn fold_input(
+    rt: &HostRuntime,
+    name: &str,
+    options: Options<'_>,
+    path: &str,
+) -> Result<(), ProgramError> {
+    let input = Input::open(rt, path).map_err(InputError::Io)?;
+    let is_pipe = match input.kind {
+        Some(InputKind::File) => false,
+        Some(InputKind::Pipe) => true,
+        Some(InputKind::Jit) | None => return Err(InputError::UnknownFormat.into()),
+    };
+    let bytes = input.into_bytes().map_err(InputError::Io)?;
+    let opened = if is_pipe {
+        InMemoryReader::parse_pipe(rt.alloc(), &bytes)
+    } else {
+        InMemoryReader::parse_file(rt.alloc(), &bytes)
+    };
+    fold_opened(rt, name, options, opened.map_err(InputError::Metadata)?)
+}
