@@ -18,7 +18,7 @@ test: ## runs the cases in crates/conformance*/data before any proof: three minu
 check: ## the gate: every proof, must-fail edit and test, the programs and the C library
 	.ci/run
 
-programs: ## proves and builds perflist, perfinfo and perfjson
+programs: ## proves and builds perflist, perfinfo, perfjson and perffold
 	packaging/build_programs
 
 lib: ## proves and builds libdewikura.a and libdewikura.so in crates/dewikura/out
