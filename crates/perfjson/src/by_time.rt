@@ -17,10 +17,7 @@ fn list_next<W: Write>(
 ) -> Result<bool, ListCause> {
     match records.next_record(file) {
         Ok(Some((place, record))) => {
-            match write_record(place, &record, file, line, out) {
-                Ok(()) => Ok(true),
-                Err(cause) => Err(cause),
-            }
+            write_record(place, &record, file, line, out).map(|()| true)
         }
         Ok(None) => Ok(false),
         Err(error) => Err(ListCause::Perf(error)),

@@ -46,12 +46,14 @@ impl RecordLine for TrackedLine<'_> {
         file_record: &PerfFileRecord<'_>,
         file: &PerfFile,
     ) -> Result<(), Error> {
-        let outcome = self.line.set(place, file_record, file);
-        if outcome.is_ok() {
-            self.position.add(&place, file_record);
-            self.progress.add_record(self.position.offset.unwrap_or(0));
+        match self.line.set(place, file_record, file) {
+            Ok(()) => {
+                self.position.add(&place, file_record);
+                self.progress.add_record(self.position.offset.unwrap_or(0));
+                Ok(())
+            }
+            Err(memory) => Err(memory),
         }
-        outcome
     }
 
     fn as_bytes(&self) -> &[u8] {
