@@ -6,10 +6,8 @@ mod fields;
 mod kernel;
 pub mod line;
 mod names;
-pub mod output;
 mod sample;
 mod serializer;
 mod user;
 
 pub use line::JsonLine;
-pub use output::finish;
