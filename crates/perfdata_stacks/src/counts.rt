@@ -29,11 +29,12 @@ pub struct StackCounts {
 }
 
 impl StackCounts {
-    ghost use Rattle.perfdata_stacks.specs.Counts.{AddsToLine, lines_of, sum_of_counts};
+    ghost use Rattle.std.specs.BTreeMap.{IsOrdered};
+    ghost use Rattle.perfdata_stacks.specs.Counts.{AddsToLine, counted_lines, line_cmp, sum_of_counts};
 
     /// Creates counts without lines.
     pub fn new(alloc: Global) -> StackCounts
-        ensures { lines_of result ≡ [] }
+        ensures { counted_lines result ≡ [] }
     {
         StackCounts {
             counts: BTreeMap::new(alloc),
@@ -49,18 +50,15 @@ impl StackCounts {
     pub fn add(&mut self, line: &[u8], weight: u64) -> Result<(), CountError>
         ensures { AddsToLine self.old line.now weight result self.new }
     {
+        let Some(total) = self.total.checked_add(weight) else {
+            return Err(CountError::Overflow);
+        };
         let mut key = Vec::new(self.alloc);
         if key.extend_from_slice(line).is_err() {
             return Err(CountError::Memory);
         }
         let old = self.counts.get(&key).copied().unwrap_or(0);
-        let Some(total) = self.total.checked_add(weight) else {
-            return Err(CountError::Overflow);
-        };
-        let Some(count) = old.checked_add(weight) else {
-            return Err(CountError::Overflow);
-        };
-        match self.counts.insert(key, count) {
+        match self.counts.insert(key, old + weight) {
             Ok(_) => {
                 self.total = total;
                 Ok(())
@@ -77,7 +75,10 @@ impl StackCounts {
     }
 
     /// Returns the lines, ascending by bytes, with their counts.
-    pub fn iter(&self) -> Iter<'_, Vec<u8>, u64> {
+    pub fn iter(&self) -> Iter<'_, Vec<u8>, u64>
+        ensures rest { result ≡ counted_lines self.now }
+        ensures ascending { IsOrdered line_cmp self.now.counts }
+    {
         self.counts.iter()
     }
 }

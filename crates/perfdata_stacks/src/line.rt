@@ -27,6 +27,8 @@ fn comm_byte(byte: u8) -> u8
 }
 
 /// Appends the name of a frame to a line.
+///
+/// Fails if memory runs out. Then a part of the name may be appended.
 pub fn push_name(line: &mut Vec<u8>, name: &[u8]) -> Result<(), AllocError>
     ensures { OnOk result (line.new.items ≡ line.old.items ++ map name_byte name.now) }
 {
@@ -37,6 +39,8 @@ pub fn push_name(line: &mut Vec<u8>, name: &[u8]) -> Result<(), AllocError>
 }
 
 /// Appends the name of a thread to a line.
+///
+/// Fails if memory runs out. Then a part of the name may be appended.
 pub fn push_comm(line: &mut Vec<u8>, comm: &[u8]) -> Result<(), AllocError>
     ensures { OnOk result (line.new.items ≡ line.old.items ++ map comm_byte comm.now) }
 {
