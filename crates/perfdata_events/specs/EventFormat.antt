@@ -26,6 +26,18 @@ event_format_of attr order = record {
   sample_id_all = is_set attr.flags.0 SAMPLE_ID_ALL;
 }
 
+-- The same if a big-endian compiler laid out the flags of the attribute: bit n of the kernel's list is bit 63 - n of the word.
+abbrev pub big_endian_format_of : PerfEventAttr → Endianness → EventFormat
+big_endian_format_of attr order = record {
+  endian = order;
+  sample_format = record { 0 = attr.sample_format.0 };
+  read_format = record { 0 = attr.read_format };
+  branch_sample_type = record { 0 = attr.branch_sample_type };
+  sample_regs_user = attr.sample_regs_user;
+  sample_regs_intr = attr.sample_regs_intr;
+  sample_id_all = is_set attr.flags.0 (63 - SAMPLE_ID_ALL);
+}
+
 -- The masks of the registers in a sample.
 abbrev pub register_masks_of : EventFormat → RegisterMasks
 register_masks_of format = record { user = format.sample_regs_user; interrupt = format.sample_regs_intr }

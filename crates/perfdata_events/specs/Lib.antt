@@ -1,6 +1,7 @@
 pub mod SampleFormat
 pub mod ReadFormat
 pub mod BranchType
+pub mod BranchFlags
 pub mod Misc
 pub mod AttributeFlags
 pub mod Format

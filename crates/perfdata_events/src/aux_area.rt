@@ -1,4 +1,5 @@
 //! Records on the aux area and its traces.
+ghost use Rattle.std.specs.Prelude.{◌≡◌};
 ghost use Rattle.perfdata_base.specs.Raw.{bytes_of};
 ghost use Rattle.perfdata_base.specs.Endian.{number_in};
 ghost use Rattle.perfdata_events.specs.Format.{Decodes};
@@ -7,6 +8,7 @@ ghost use Rattle.perfdata_events.specs.ItraceStart.{itrace_start};
 ghost use Rattle.perfdata_events.specs.AuxOutputHwId.{aux_output_hw_id};
 
 use crate::fields::numbers::{i32_at, u64_at};
+use crate::record_bits::AuxFlags;
 use perfdata_base::raw::{Endianness, RawData};
 use std::io::Result;
 
@@ -17,7 +19,7 @@ pub struct AuxRecord {
     pub offset: u64,
     /// The size of the data in bytes.
     pub size: u64,
-    /// The flags of the data.
+    /// The flags of the data, as bits, see [`AuxRecord::named_flags`].
     pub flags: u64,
 }
 
@@ -38,6 +40,13 @@ pub struct AuxOutputHwIdRecord {
 }
 
 impl AuxRecord {
+    /// Returns the flags of the data by their names.
+    pub fn named_flags(&self) -> AuxFlags
+        ensures { result.0 ≡ self.now.flags }
+    {
+        AuxFlags(self.flags)
+    }
+
     /// Parses the fields at the start of `fields`, and removes them.
     ///
     /// Fails with an `UnexpectedEof` error if they are truncated.

@@ -31,6 +31,9 @@ pub struct EventFormat {
     pub sample_id_all: bool,
 }
 
+// SAMPLE_ID_ALL, bit 18 of the flags, as a big-endian compiler lays it out.
+const BIG_ENDIAN_SAMPLE_ID_ALL: u64 = 1 << (63 - 18);
+
 // The size of an optional word in bytes.
 fn word_size(present: bool) -> usize
     ensures { result ≡ word_size present }
@@ -52,7 +55,7 @@ fn sample_id_size(format: SampleFields) -> usize
 }
 
 impl EventFormat {
-    ghost use Rattle.perfdata_events.specs.EventFormat.{event_format_of, register_masks_of, trailing_size, SplitsTrailing};
+    ghost use Rattle.perfdata_events.specs.EventFormat.{event_format_of, big_endian_format_of, register_masks_of, trailing_size, SplitsTrailing};
 
     /// Returns the format of the records of an attribute, with numbers in the byte order `endian`.
     pub fn new(attr: &PerfEventAttr, endian: Endianness) -> EventFormat
@@ -68,6 +71,20 @@ impl EventFormat {
             sample_id_all: EventFlags::from_bits_retain(attr.flags.0).contains(
                 EventFlags::SAMPLE_ID_ALL,
             ),
+        }
+    }
+
+    /// Does what [`EventFormat::new`] does if a big-endian compiler laid out the flags of the attribute, as in a
+    /// recording of s390x: bit n of the kernel's list of flags is bit 63 - n of the word. With
+    /// [`EventFormat::new`] the sample_id fields of such a recording are taken for padding.
+    pub fn with_big_endian_flags(attr: &PerfEventAttr, endian: Endianness) -> EventFormat
+        ensures { result ≡ big_endian_format_of attr.now endian }
+    {
+        EventFormat {
+            sample_id_all: EventFlags::from_bits_retain(attr.flags.0).contains(
+                EventFlags::from_bits_retain(BIG_ENDIAN_SAMPLE_ID_ALL),
+            ),
+            ..EventFormat::new(attr, endian)
         }
     }
 

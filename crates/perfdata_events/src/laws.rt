@@ -36,6 +36,7 @@ ghost use Rattle.perfdata_events.specs.SampleId.{sample_id};
 ghost use Rattle.perfdata_events.specs.declared.format.EventFormat.{EventFormat};
 
 use crate::bits::{BranchFields, EventFlags, MiscFlags, ReadFields, SampleFields};
+use crate::record_bits::{AuxFlags, BranchFlags, DataSource};
 
 /// Bytes either start with exactly one value of a record's fields, which are followed by exactly one rest, or
 /// have exactly one first error. `number` parses a number of a given size, in either byte order.
@@ -228,4 +229,71 @@ pub fn misc_flag_bits()
     ensures switch_out_preempt { MiscFlags.SWITCH_OUT_PREEMPT.0 ≡ 2 ^ 14 }
     ensures mmap_build_id { MiscFlags.MMAP_BUILD_ID.0 ≡ 2 ^ 14 }
     ensures ext_reserved { MiscFlags.EXT_RESERVED.0 ≡ 2 ^ 15 }
+{}
+
+/// The bits of a branch's flags.
+pub fn branch_flag_bits()
+    ensures mispredicted { BranchFlags.MISPREDICTED.0 ≡ 2 ^ 0 }
+    ensures predicted { BranchFlags.PREDICTED.0 ≡ 2 ^ 1 }
+    ensures in_transaction { BranchFlags.IN_TRANSACTION.0 ≡ 2 ^ 2 }
+    ensures aborted { BranchFlags.ABORT.0 ≡ 2 ^ 3 }
+    ensures cycles { BranchFlags.CYCLES.0 ≡ 65535 * 2 ^ 4 }
+    ensures branch_type { BranchFlags.TYPE.0 ≡ 15 * 2 ^ 20 }
+    ensures speculation { BranchFlags.SPECULATION.0 ≡ 3 * 2 ^ 24 }
+    ensures new_type { BranchFlags.NEW_TYPE.0 ≡ 15 * 2 ^ 26 }
+    ensures privilege { BranchFlags.PRIVILEGE.0 ≡ 7 * 2 ^ 30 }
+{}
+
+/// The bits of the flags of new data in the aux area.
+pub fn aux_flag_bits()
+    ensures truncated { AuxFlags.TRUNCATED.0 ≡ 2 ^ 0 }
+    ensures overwrite { AuxFlags.OVERWRITE.0 ≡ 2 ^ 1 }
+    ensures partial { AuxFlags.PARTIAL.0 ≡ 2 ^ 2 }
+    ensures collision { AuxFlags.COLLISION.0 ≡ 2 ^ 3 }
+    ensures pmu_format_type { AuxFlags.PMU_FORMAT_TYPE.0 ≡ 255 * 2 ^ 8 }
+{}
+
+/// The bits of a data source.
+pub fn data_source_bits()
+    ensures operation_not_available { DataSource.OPERATION_NOT_AVAILABLE.0 ≡ 2 ^ 0 }
+    ensures operation_load { DataSource.OPERATION_LOAD.0 ≡ 2 ^ 1 }
+    ensures operation_store { DataSource.OPERATION_STORE.0 ≡ 2 ^ 2 }
+    ensures operation_prefetch { DataSource.OPERATION_PREFETCH.0 ≡ 2 ^ 3 }
+    ensures operation_execute { DataSource.OPERATION_EXECUTE.0 ≡ 2 ^ 4 }
+    ensures level_not_available { DataSource.LEVEL_NOT_AVAILABLE.0 ≡ 2 ^ 5 }
+    ensures level_hit { DataSource.LEVEL_HIT.0 ≡ 2 ^ 6 }
+    ensures level_miss { DataSource.LEVEL_MISS.0 ≡ 2 ^ 7 }
+    ensures level_l1 { DataSource.LEVEL_L1.0 ≡ 2 ^ 8 }
+    ensures level_line_fill_buffer { DataSource.LEVEL_LINE_FILL_BUFFER.0 ≡ 2 ^ 9 }
+    ensures level_l2 { DataSource.LEVEL_L2.0 ≡ 2 ^ 10 }
+    ensures level_l3 { DataSource.LEVEL_L3.0 ≡ 2 ^ 11 }
+    ensures level_local_ram { DataSource.LEVEL_LOCAL_RAM.0 ≡ 2 ^ 12 }
+    ensures level_remote_ram1 { DataSource.LEVEL_REMOTE_RAM1.0 ≡ 2 ^ 13 }
+    ensures level_remote_ram2 { DataSource.LEVEL_REMOTE_RAM2.0 ≡ 2 ^ 14 }
+    ensures level_remote_cache1 { DataSource.LEVEL_REMOTE_CACHE1.0 ≡ 2 ^ 15 }
+    ensures level_remote_cache2 { DataSource.LEVEL_REMOTE_CACHE2.0 ≡ 2 ^ 16 }
+    ensures level_io { DataSource.LEVEL_IO.0 ≡ 2 ^ 17 }
+    ensures level_uncached { DataSource.LEVEL_UNCACHED.0 ≡ 2 ^ 18 }
+    ensures snoop_not_available { DataSource.SNOOP_NOT_AVAILABLE.0 ≡ 2 ^ 19 }
+    ensures snoop_none { DataSource.SNOOP_NONE.0 ≡ 2 ^ 20 }
+    ensures snoop_hit { DataSource.SNOOP_HIT.0 ≡ 2 ^ 21 }
+    ensures snoop_miss { DataSource.SNOOP_MISS.0 ≡ 2 ^ 22 }
+    ensures snoop_hit_modified { DataSource.SNOOP_HIT_MODIFIED.0 ≡ 2 ^ 23 }
+    ensures lock_not_available { DataSource.LOCK_NOT_AVAILABLE.0 ≡ 2 ^ 24 }
+    ensures lock_locked { DataSource.LOCK_LOCKED.0 ≡ 2 ^ 25 }
+    ensures tlb_not_available { DataSource.TLB_NOT_AVAILABLE.0 ≡ 2 ^ 26 }
+    ensures tlb_hit { DataSource.TLB_HIT.0 ≡ 2 ^ 27 }
+    ensures tlb_miss { DataSource.TLB_MISS.0 ≡ 2 ^ 28 }
+    ensures tlb_l1 { DataSource.TLB_L1.0 ≡ 2 ^ 29 }
+    ensures tlb_l2 { DataSource.TLB_L2.0 ≡ 2 ^ 30 }
+    ensures tlb_walker { DataSource.TLB_WALKER.0 ≡ 2 ^ 31 }
+    ensures tlb_operating_system { DataSource.TLB_OPERATING_SYSTEM.0 ≡ 2 ^ 32 }
+    ensures level_number { DataSource.LEVEL_NUMBER.0 ≡ 15 * 2 ^ 33 }
+    ensures remote { DataSource.REMOTE.0 ≡ 2 ^ 37 }
+    ensures snoop_forward { DataSource.SNOOP_FORWARD.0 ≡ 2 ^ 38 }
+    ensures snoop_peer { DataSource.SNOOP_PEER.0 ≡ 2 ^ 39 }
+    ensures block_not_available { DataSource.BLOCK_NOT_AVAILABLE.0 ≡ 2 ^ 40 }
+    ensures block_data { DataSource.BLOCK_DATA.0 ≡ 2 ^ 41 }
+    ensures block_address { DataSource.BLOCK_ADDRESS.0 ≡ 2 ^ 42 }
+    ensures hops { DataSource.HOPS.0 ≡ 7 * 2 ^ 43 }
 {}

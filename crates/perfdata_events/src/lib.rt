@@ -17,6 +17,7 @@ pub mod lost;
 pub mod mmap;
 pub mod mmap2;
 pub mod read_values;
+pub mod record_bits;
 pub mod record_id;
 pub mod sample;
 pub mod sample_id;

@@ -14,6 +14,7 @@ use crate::fields::sample_end::{SampleEnd, has_weight};
 use crate::fields::task::Task;
 use crate::fields::words::read_u64_if;
 use crate::format::EventFormat;
+use crate::record_bits::DataSource;
 use crate::sample_parts::{BranchStack, UserStack, read_raw_data_if};
 use crate::sample_words::{EventWords, OriginWords};
 use bitflags::Flags;
@@ -56,7 +57,7 @@ pub struct SampleRecord<'a> {
     /// The weight: the cost of the access, in the unit of the hardware. With [`SampleFields::WEIGHT_STRUCT`]
     /// it is three numbers, see [`WeightStruct`](crate::sample_words::WeightStruct).
     pub weight: Option<u64>,
-    /// Where the data came from, as bits (`union perf_mem_data_src`).
+    /// Where the data came from, as bits, see [`SampleRecord::named_data_source`].
     pub data_source: Option<u64>,
     /// Why a transaction was aborted, as bits.
     pub transaction: Option<u64>,
@@ -255,7 +256,16 @@ impl SampleWords {
 }
 
 impl<'a> SampleRecord<'a> {
+    ghost use Rattle.std.specs.Prelude.{IfSome, IfNone, None, Some};
     ghost use Rattle.perfdata_events.specs.Sample.{sample, sample_of};
+
+    /// Returns where the data came from by names, or `None` if the attribute doesn't select it.
+    pub fn named_data_source(&self) -> Option<DataSource>
+        ensures some { IfSome result (λ source. self.now.data_source ≡ Some source.0) }
+        ensures none { IfNone result (self.now.data_source ≡ None) }
+    {
+        self.data_source.map(DataSource)
+    }
 
     /// Parses the fields that a format selects at the start of `fields`, and removes them.
     ///

@@ -10,6 +10,7 @@ use crate::bits::BranchFields;
 pub use crate::fields::registers::{RegisterMasks, Registers};
 use crate::fields::u64s::{RawDataU64, read_block, read_u64_list, read_u64s};
 use crate::fields::words::{read_u32, read_u64, read_u64_if};
+use crate::record_bits::BranchFlags;
 use bitflags::Flags;
 use perfdata_base::raw::{Endianness, RawData};
 use std::io::Result;
@@ -32,8 +33,19 @@ pub struct BranchEntry {
     pub from: u64,
     /// The address of its target.
     pub to: u64,
-    /// Its flags, as bits.
+    /// Its flags, as bits, see [`BranchEntry::named_flags`].
     pub flags: u64,
+}
+
+impl BranchEntry {
+    ghost use Rattle.perfdata_events.specs.BranchFlags.{branch_flags_in};
+
+    /// Returns its flags by their names. `endian` is the byte order of the record.
+    pub fn named_flags(&self, endian: Endianness) -> BranchFlags
+        ensures { result.0 ≡ branch_flags_in endian self.now.flags }
+    {
+        BranchFlags::new(self.flags, endian)
+    }
 }
 
 /// A copy of the start of a program's stack.
