@@ -3,9 +3,11 @@ pub mod Elements
 pub mod Events
 pub mod Frames
 pub mod OneOutcomes
+pub mod OneParsed
 pub mod RecordOutcomes
 pub mod Offsets
 pub mod Optional
 pub mod Prefixes
 pub mod SampleIdOffsets
 pub mod Unselected
+pub mod WholeBodies

@@ -35,6 +35,8 @@ pub mod Read
 pub mod EventFormat
 pub mod Sample
 pub mod Event
+pub mod EventView
+pub mod WholeBody
 pub mod RecordId
 pub mod OneOutcome
 pub mod Prefix

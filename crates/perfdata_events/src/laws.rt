@@ -33,6 +33,11 @@ ghost use Rattle.perfdata_events.specs.TextPoke.{text_poke};
 ghost use Rattle.perfdata_events.specs.AuxOutputHwId.{aux_output_hw_id};
 ghost use Rattle.perfdata_events.specs.Sample.{sample};
 ghost use Rattle.perfdata_events.specs.SampleId.{sample_id};
+ghost use Rattle.perfdata_events.specs.Event.{IsParsed, ParseFails};
+ghost use Rattle.perfdata_events.specs.EventView.{event_view};
+ghost use Rattle.perfdata_events.specs.WholeBody.{IsWholeBody};
+ghost use Rattle.perfdata_events.specs.declared.event.EventRecord.{EventRecord};
+ghost use Rattle.std.specs.declared.io.ErrorKind.{ErrorKind};
 ghost use Rattle.perfdata_events.specs.declared.format.EventFormat.{EventFormat};
 
 use crate::bits::{BranchFields, EventFlags, MiscFlags, ReadFields, SampleFields};
@@ -90,6 +95,17 @@ pub fn fields_are_a_prefix()
         → ConsumesPrefix (sample number format) }
     ensures sample_id { (number : ℕ → List ℕ → ℕ) (sample_format : ℕ)
         → ConsumesPrefix (sample_id number sample_format) }
+{}
+
+/// A body has at most one parsed form, and none if it has an error. In a parsed body the fields come first, in
+/// order, then padding, then the sample_id fields; together they are all of its bytes.
+pub fn a_body_has_one_form()
+    ensures unique { (format : EventFormat) (raw : RawEventRecord) (a b : EventRecord)
+        → IsParsed format raw a → IsParsed format raw b → event_view a ≡ event_view b }
+    ensures parsed_or_failed { (format : EventFormat) (raw : RawEventRecord) (event : EventRecord)
+        (kind : ErrorKind) → IsParsed format raw event → ¬ ParseFails format raw kind }
+    ensures whole { (format : EventFormat) (raw : RawEventRecord) (event : EventRecord)
+        → IsParsed format raw event → IsWholeBody format raw event }
 {}
 
 /// The time and the identifier that `sample_id` returns are those that the reader finds at their offsets in
