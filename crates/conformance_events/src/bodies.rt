@@ -9,7 +9,6 @@ use perfdata_events::call_chain::CallChain;
 use perfdata_events::event::EventRecord;
 use perfdata_events::format::EventFormat;
 use perfdata_events::read_values::GroupValues;
-use perfdata_events::sample::SampleWords;
 use perfdata_events::sample_parts::BranchStack;
 use perfdata_events::sample_words::WeightStruct;
 use perfdata_events::u64s::RawDataU64;
@@ -50,7 +49,7 @@ fn push_event(
 pub fn call(call: &Call<'_>, out: &mut String) -> CaseResult<bool> {
     let attr = attr_of(call)?;
     let format = EventFormat::new(&attr, call.input.endian);
-    let mut record = RawEventRecord {
+    let record = RawEventRecord {
         record_type: RecordType(call.case.u32("type")?),
         misc: (call.case.u32("misc")? & 0xffff) as u16,
         body: call.input.raw(),
@@ -60,10 +59,6 @@ pub fn call(call: &Call<'_>, out: &mut String) -> CaseResult<bool> {
         "cpu-mode" => push_line(out, &CpuMode::from_misc(record.misc))?,
         "event" => push_event(call, out, &format.parse(&record))?,
         "sample-id" => push_io_result(out, &format.sample_id(&record))?,
-        "sample-words" if format.has_only_words() => {
-            push_io_result(out, &SampleWords::parse(&format, &mut record.body))?;
-        }
-        "sample-words" => push_line(out, &"other fields")?,
         _ => return push_numbers(call, out),
     }
     Ok(true)
@@ -72,9 +67,9 @@ pub fn call(call: &Call<'_>, out: &mut String) -> CaseResult<bool> {
 // The numbers of weights, or the frames of a call chain; or how many counters, branches or numbers there are,
 // and what is at each index of the option `get`.
 fn push_numbers(call: &Call<'_>, out: &mut String) -> CaseResult<bool> {
-    let values = RawDataU64 {
-        endian: call.input.endian,
-        bytes: call.input.raw(),
+    let Some(values) = RawDataU64::new(call.input.endian, call.input.raw()) else {
+        push_line(out, &"no whole numbers")?;
+        return Ok(true);
     };
     match call.case.call {
         "weight-struct" => {

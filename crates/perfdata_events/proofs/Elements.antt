@@ -96,3 +96,18 @@ pub slice_complete : (i : ℕ) (xs part : List ℕ) → i < length xs / 8 → pa
 slice_complete i xs part lt is =
     let within : 8 * i + 8 ≤ length xs = element_within (length xs) 8 i lt in
     ap length (eight_bytes i xs part is) ∙ length-take-le 8 (drop (8 * i) xs) (omega (arith, within, length-drop (8 * i) xs))
+
+-- So many bytes as eight times a number are whole numbers.
+pub whole_bytes : (n l : ℕ) → l ≡ n * 8 → l ≡ 8 * (l / 8)
+whole_bytes n l is =
+    let more : l ≡ n * 8 + 0 = omega arith in
+    let count : l / 8 ≡ n = ap (λ k. k / 8) more ∙ div-mul-add n 8 0 (omega arith) in
+    omega (arith, is, count)
+
+-- After the first number there are whole numbers.
+pub whole_rest : (order : Endianness) (xs rest : List ℕ) (value : ℕ) → length xs ≡ 8 * (length xs / 8) → IsFixed 8 (u64_at (number_in order) 0) xs value rest
+    → length rest ≡ 8 * (length rest / 8)
+whole_rest order xs rest value whole is =
+    let fewer : length rest ≡ length xs - 8 = ap length is.rest_is ∙ length-drop 8 xs in
+    let enough : 8 ≤ length xs = is.enough in
+    whole_bytes (length xs / 8 - 1) (length rest) (omega (arith, fewer, enough, whole))

@@ -11,7 +11,6 @@ use Rattle.perfdata_base.specs.declared.event.RawEventRecord.{RawEventRecord}
 use Rattle.perfdata_events.specs.EventFormat.{trailing_size, before_trailing}
 use Rattle.perfdata_events.specs.Event.{IsEvent, IsParsed, EventFails, DecodesEvent, ParseFails, kind_of, number, has_known_values, has_unknown_values, has_known_fields}
 use Rattle.perfdata_events.specs.Format.{Decodes}
-use Rattle.perfdata_events.proofs.Unselected.{not_true}
 use Rattle.perfdata_events.specs.Sample.{sample, sample_of}
 use Rattle.perfdata_events.specs.declared.format.EventFormat.{EventFormat}
 use Rattle.perfdata_events.specs.declared.sample.SampleRecord.{SampleRecord}
@@ -21,6 +20,10 @@ use Rattle.perfdata_events.specs.declared.event.EventRecord.TheVariants.{Mmap, L
 both_true : (a b : Bool) → (a && b) ≡ true → (a ≡ true) × (b ≡ true)
 both_true true b h = (refl, h)
 both_true false b h = absurd cc
+
+not_true : (b : Bool) → not b ≡ true → b ≡ false
+not_true true h = sym h
+not_true false h = refl
 
 not_false : (b : Bool) → not b ≡ false → b ≡ true
 not_false true h = refl

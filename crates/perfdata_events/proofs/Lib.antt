@@ -9,5 +9,4 @@ pub mod Offsets
 pub mod Optional
 pub mod Prefixes
 pub mod SampleIdOffsets
-pub mod Unselected
 pub mod WholeBodies

@@ -27,7 +27,6 @@ pub mod Cgroup
 pub mod BpfEvent
 pub mod TextPoke
 pub mod ContextSwitch
-pub mod Selection
 pub mod Namespaces
 pub mod SampleId
 pub mod Mmap2

@@ -3,7 +3,7 @@
 -- BRANCH_STACK 11, REGS_USER 12, STACK_USER 13, WEIGHT 14 or WEIGHT_STRUCT 24, DATA_SRC 15, TRANSACTION 17, REGS_INTR 18,
 -- PHYS_ADDR 19, CGROUP 21, DATA_PAGE_SIZE 22, CODE_PAGE_SIZE 23, AUX 20. The kernel writes them in this order
 -- (`perf_output_sample`); a comment in `perf_event.h` puts AUX before the page sizes.
-use Rattle.std.specs.Prelude.{◌≡◌, ℕ, ◌+◌, ◌*◌, ◌/◌, ◌≤◌, ◌==◌, not, List, [], ◌∷◌, length, slice_index, Option, None}
+use Rattle.std.specs.Prelude.{◌≡◌, ℕ, ◌+◌, ◌*◌, ◌/◌, ◌≤◌, ◌==◌, not, List, [], ◌∷◌, length, slice_index, Option}
 use Rattle.std.specs.Option.{option_map}
 use Rattle.perfdata_base.specs.Raw.{bytes_of}
 use Rattle.perfdata_base.specs.ParseInfo.{is_set}
@@ -26,7 +26,6 @@ use Rattle.perfdata_events.specs.declared.sample_words.OriginWords.{OriginWords}
 use Rattle.perfdata_events.specs.declared.sample_words.EventWords.{EventWords}
 use Rattle.perfdata_events.specs.declared.sample.SampleStart.{SampleStart}
 use Rattle.perfdata_events.specs.declared.sample.SampleMiddle.{SampleMiddle}
-use Rattle.perfdata_events.specs.declared.sample.SampleWords.{SampleWords}
 use Rattle.perfdata_events.specs.declared.sample.SampleRecord.{SampleRecord}
 
 -- The hardware index, the numbers of the entries (three each: from, to, flags), and the counters.
@@ -104,22 +103,6 @@ start_of v = (v.origin, (v.event, (v.period, (option_map values_of v.values, opt
 
 abbrev pub middle_of : SampleMiddle → Middle
 middle_of v = (option_map bytes_of v.raw, (option_map branches_of v.branch_stack, (option_map registers_of v.user_registers, option_map stack_of v.user_stack)))
-
--- Fields that the attribute doesn't select have no values.
-abbrev pub no_middle : Middle
-no_middle = (None, (None, (None, None)))
-
-abbrev pub no_end : End
-no_end = (
-  None,
-  (
-    record { data_source = None; transaction = None },
-    (None, (record { physical_address = None; cgroup = None; data_page_size = None; code_page_size = None }, None)),
-  ),
-)
-
-abbrev pub values_of_words : SampleWords → Start × (Middle × End)
-values_of_words v = ((v.origin, (v.event, (v.period, (None, None)))), (no_middle, no_end))
 
 abbrev pub sample_of : SampleRecord → Start × (Middle × End)
 sample_of v = (

@@ -1,16 +1,14 @@
 //! Samples.
-ghost use Rattle.std.specs.Prelude.{◌≡◌, ◌||◌};
+ghost use Rattle.std.specs.Prelude.{◌≡◌};
 ghost use Rattle.perfdata_base.specs.Raw.{bytes_of};
 ghost use Rattle.perfdata_base.specs.Endian.{number_in};
-ghost use Rattle.perfdata_base.specs.ParseInfo.{is_set};
 ghost use Rattle.perfdata_events.specs.Format.{Decodes};
-ghost use Rattle.perfdata_events.specs.Selection.{selects_middle, selects_data, selects_pages, selects_end, selects_parts};
 
 use crate::bits::SampleFields;
 use crate::fields::call_chain::CallChain;
 use crate::fields::read_values::ReadValues;
 use crate::fields::registers::Registers;
-use crate::fields::sample_end::{SampleEnd, has_weight};
+use crate::fields::sample_end::SampleEnd;
 use crate::fields::task::Task;
 use crate::fields::words::read_u64_if;
 use crate::format::EventFormat;
@@ -94,17 +92,6 @@ struct SampleMiddle<'a> {
     user_stack: Option<UserStack<'a>>,
 }
 
-/// The words of a sample that has no other fields, as in [`SampleRecord`]. They take less time to parse.
-#[derive(Clone, Copy, Debug, PartialEq, Eq)]
-pub struct SampleWords {
-    /// The words up to the time.
-    pub origin: OriginWords,
-    /// The words from the address in memory to the processor.
-    pub event: EventWords,
-    /// The number of events since the previous sample.
-    pub period: Option<u64>,
-}
-
 impl<'a> SampleStart<'a> {
     ghost use Rattle.perfdata_events.specs.Sample.{sample_start, start_of};
 
@@ -138,16 +125,6 @@ impl<'a> SampleStart<'a> {
     }
 }
 
-// Whether a sample has a field from the raw data to the user stack.
-fn has_middle(bits: SampleFields) -> bool
-    ensures { result ≡ selects_middle bits.0 }
-{
-    bits.contains(SampleFields::RAW)
-        || bits.contains(SampleFields::BRANCH_STACK)
-        || bits.contains(SampleFields::REGS_USER)
-        || bits.contains(SampleFields::STACK_USER)
-}
-
 impl<'a> SampleMiddle<'a> {
     ghost use Rattle.perfdata_events.specs.Sample.{sample_middle, middle_of};
 
@@ -175,82 +152,6 @@ impl<'a> SampleMiddle<'a> {
             branch_stack,
             user_registers,
             user_stack,
-        })
-    }
-}
-
-// Whether a sample has a word or registers from the data source to the interrupt registers.
-fn has_data(bits: SampleFields) -> bool
-    ensures { result ≡ selects_data bits.0 }
-{
-    bits.contains(SampleFields::DATA_SRC)
-        || bits.contains(SampleFields::TRANSACTION)
-        || bits.contains(SampleFields::REGS_INTR)
-}
-
-// Whether a sample has a field from the physical address on.
-fn has_pages(bits: SampleFields) -> bool
-    ensures { result ≡ selects_pages bits.0 }
-{
-    bits.contains(SampleFields::PHYS_ADDR)
-        || bits.contains(SampleFields::CGROUP)
-        || bits.contains(SampleFields::DATA_PAGE_SIZE)
-        || bits.contains(SampleFields::CODE_PAGE_SIZE)
-        || bits.contains(SampleFields::AUX)
-}
-
-// Whether a sample has a field from the weight on.
-fn has_end(bits: SampleFields) -> bool
-    ensures { result ≡ selects_end bits.0 }
-{
-    has_weight(bits) || has_data(bits) || has_pages(bits)
-}
-
-// Whether a sample has a field after its period.
-fn has_parts(bits: SampleFields) -> bool
-    ensures { result ≡ selects_parts bits.0 }
-{
-    bits.contains(SampleFields::READ)
-        || bits.contains(SampleFields::CALLCHAIN)
-        || has_middle(bits)
-        || has_end(bits)
-}
-
-impl EventFormat {
-    ghost use Rattle.std.specs.Prelude.{not};
-
-    /// Whether a sample has no fields but the words up to its period.
-    #[inline]
-    pub fn has_only_words(&self) -> bool
-        ensures { result ≡ not (selects_parts self.now.sample_format.0) }
-    {
-        !has_parts(self.sample_format)
-    }
-}
-
-impl SampleWords {
-    ghost use Rattle.std.specs.Prelude.{IsTrue, not};
-    ghost use Rattle.perfdata_events.specs.Sample.{sample, values_of_words};
-
-    /// Parses the words that a format selects at the start of `fields`, and removes them. The format selects
-    /// no other fields, see [`EventFormat::has_only_words`].
-    ///
-    /// Fails with an `UnexpectedEof` error if they are truncated.
-    #[inline(always)]
-    pub fn parse(format: &EventFormat, fields: &mut RawData<'_>) -> Result<SampleWords>
-        requires { IsTrue (not (selects_parts format.now.sample_format.0)) }
-        ensures { Decodes (sample (number_in format.now.endian) format.now) values_of_words
-            (bytes_of fields.old) result (bytes_of fields.new) }
-    {
-        let endian = format.endian;
-        let bits = format.sample_format;
-        let origin = OriginWords::parse(endian, bits, fields)?;
-        let event = EventWords::parse(endian, bits, fields)?;
-        let period = read_u64_if(endian, fields, bits.contains(SampleFields::PERIOD))?;
-        Ok(SampleWords {
-            origin,
-            event,
-            period,
         })
     }
 }

@@ -8,8 +8,8 @@ ghost use Rattle.std.specs.Option.{option_map};
 
 use crate::bits::BranchFields;
 pub use crate::fields::registers::{RegisterMasks, Registers};
-use crate::fields::u64s::{RawDataU64, read_block, read_u64_list, read_u64s};
-use crate::fields::words::{read_u32, read_u64, read_u64_if};
+use crate::fields::u64s::{RawDataU64, read_block};
+use crate::fields::words::{read_u32, read_u64, read_u64_if, read_u64_list, read_u64s};
 use crate::record_bits::BranchFlags;
 use bitflags::Flags;
 use perfdata_base::raw::{Endianness, RawData};

@@ -7,8 +7,8 @@ ghost use Rattle.perfdata_base.specs.Raw.{bytes_of};
 ghost use Rattle.perfdata_events.specs.Format.{Decodes, optional};
 ghost use Rattle.perfdata_events.specs.Words.{u64s_in};
 
-use crate::fields::u64s::{RawDataU64, read_u64_list, split_first_u64};
-use crate::fields::words::read_u64;
+use crate::fields::u64s::RawDataU64;
+use crate::fields::words::{read_u64, read_u64_list, split_first_u64};
 use perfdata_base::raw::{Endianness, RawData};
 use std::io::Result;
 

@@ -6,8 +6,8 @@ ghost use Rattle.std.specs.Option.{option_map};
 ghost use Rattle.perfdata_events.specs.ReadFormat.{ID, LOST};
 
 use crate::bits::ReadFields;
-use crate::fields::u64s::{RawDataU64, read_u64s};
-use crate::fields::words::{read_u64, read_u64_if};
+use crate::fields::u64s::RawDataU64;
+use crate::fields::words::{read_u64, read_u64_if, read_u64s};
 use bitflags::Flags;
 use perfdata_base::raw::{Endianness, RawData};
 use std::io::Result;

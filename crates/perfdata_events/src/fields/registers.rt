@@ -8,8 +8,8 @@ ghost use Rattle.perfdata_events.specs.Format.{Decodes, optional};
 ghost use Rattle.perfdata_events.specs.SampleFormat.{REGS_USER, REGS_INTR};
 
 use crate::bits::SampleFields;
-use crate::fields::u64s::{RawDataU64, read_u64_list};
-use crate::fields::words::read_u64;
+use crate::fields::u64s::RawDataU64;
+use crate::fields::words::{read_u64, read_u64_list};
 use bitflags::Flags;
 use perfdata_base::raw::{Endianness, RawData};
 use std::io::Result;

@@ -1,11 +1,10 @@
 //! Numbers of eight bytes each.
-ghost use Rattle.std.specs.Prelude.{◌≡◌, ◌<◌, ◌*◌, [], ◌∷◌, IfSome, IfNone, length};
+ghost use Rattle.std.specs.Prelude.{◌≡◌, ◌≢◌, ◌*◌, ◌/◌, ◌%◌, IfSome, IfNone, length};
 ghost use Rattle.std.specs.Iterator.{YieldsFirstBy, item_count};
 ghost use Rattle.perfdata_base.specs.Raw.{bytes_of};
-ghost use Rattle.perfdata_base.specs.Endian.{number_in};
 ghost use Rattle.perfdata_events.specs.Format.{Decodes, block};
 
-use crate::fields::words::read_u64;
+use crate::fields::words::{read_u64, split_first_u64};
 use perfdata_base::raw::{Endianness, RawData};
 use perfdata_base::source::unexpected_eof;
 use std::fmt;
@@ -16,13 +15,27 @@ use std::io::Result;
 pub struct RawDataU64<'a> {
     /// The byte order of the numbers.
     pub endian: Endianness,
-    /// The bytes of the numbers.
+    /// The bytes of the numbers, a multiple of eight.
     pub bytes: RawData<'a>,
+    // `bytes` consists of whole numbers
+    ghost whole_numbers: { length (bytes_of bytes) ≡ 8 * (length (bytes_of bytes) / 8) },
 }
 
 impl<'a> RawDataU64<'a> {
-    ghost use Rattle.std.specs.Prelude.{◌≤◌, ◌==◌, slice_index};
+    ghost use Rattle.std.specs.Prelude.{◌<◌, ◌≤◌, ◌==◌, slice_index};
     ghost use Rattle.perfdata_events.specs.Words.{u64s_in, remaining_u64s};
+
+    /// Returns the numbers of a byte order in bytes, or `None` if these aren't a multiple of eight.
+    pub fn new(endian: Endianness, bytes: RawData<'a>) -> Option<RawDataU64<'a>>
+        ensures none { IfNone result (length (bytes_of bytes.entry) % 8 ≢ 0) }
+        ensures order { IfSome result (λ numbers. numbers.endian ≡ endian) }
+        ensures bytes { IfSome result (λ numbers. numbers.bytes ≡ bytes.entry) }
+    {
+        if bytes.len() % 8 != 0 {
+            return None;
+        }
+        Some(RawDataU64 { endian, bytes })
+    }
 
     /// Returns the number of numbers.
     pub fn len(&self) -> usize
@@ -92,7 +105,11 @@ impl fmt::Debug for RawDataU64<'_> {
 }
 
 // Removes `count` elements of `size` bytes each.
-fn split_off_elements<'a>(fields: &mut RawData<'a>, count: u64, size: u64) -> Result<RawData<'a>>
+pub(crate) fn split_off_elements<'a>(
+    fields: &mut RawData<'a>,
+    count: u64,
+    size: u64,
+) -> Result<RawData<'a>>
     ensures { Decodes (block (count * size)) bytes_of (bytes_of fields.old) result (bytes_of fields.new) }
 {
     let _len = fields.len();
@@ -102,39 +119,6 @@ fn split_off_elements<'a>(fields: &mut RawData<'a>, count: u64, size: u64) -> Re
     fields.split_off_prefix(len as usize)
 }
 
-ghost use Rattle.perfdata_events.specs.Words.{u64s, u64s_in};
-
-/// Removes `count` elements, each of `width` numbers.
-///
-/// Fails with an `UnexpectedEof` error if they are truncated.
-pub fn read_u64s<'a>(
-    endian: Endianness,
-    fields: &mut RawData<'a>,
-    count: u64,
-    width: u64,
-) -> Result<RawDataU64<'a>>
-    requires { width < 1024 }
-    ensures { Decodes (u64s (number_in endian) (width * count)) u64s_in (bytes_of fields.old) result
-        (bytes_of fields.new) }
-{
-    let bytes = split_off_elements(fields, count, 8 * width)?;
-    Ok(RawDataU64 { endian, bytes })
-}
-
-/// Removes `count` numbers.
-///
-/// Fails with an `UnexpectedEof` error if they are truncated.
-pub fn read_u64_list<'a>(
-    endian: Endianness,
-    fields: &mut RawData<'a>,
-    count: u64,
-) -> Result<RawDataU64<'a>>
-    ensures { Decodes (u64s (number_in endian) count) u64s_in (bytes_of fields.old) result
-        (bytes_of fields.new) }
-{
-    read_u64s(endian, fields, count, 1)
-}
-
 /// Removes `len` bytes.
 ///
 /// Fails with an `UnexpectedEof` error if they are truncated.
@@ -142,22 +126,4 @@ pub fn read_block<'a>(fields: &mut RawData<'a>, len: usize) -> Result<RawData<'a
     ensures { Decodes (block len) bytes_of (bytes_of fields.old) result (bytes_of fields.new) }
 {
     fields.split_off_prefix(len)
-}
-
-// Splits into the first number and the others.
-pub(crate) fn split_first_u64(values: RawDataU64<'_>) -> Option<(u64, RawDataU64<'_>)>
-    ensures none { IfNone result (u64s_in values.entry ≡ []) }
-    ensures some { IfSome result (λ parts. u64s_in values.entry ≡ parts.0 ∷ u64s_in parts.1) }
-    ensures shorter { IfSome result (λ parts. length (bytes_of parts.1.bytes)
-        < length (bytes_of values.entry.bytes)) }
-{
-    let mut rest = values.bytes;
-    let Ok(value) = read_u64(values.endian, &mut rest) else {
-        return None;
-    };
-    let others = RawDataU64 {
-        endian: values.endian,
-        bytes: rest,
-    };
-    Some((value, others))
 }

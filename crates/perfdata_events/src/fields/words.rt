@@ -1,13 +1,15 @@
-//! Optional words of eight bytes each.
+//! Optional words of eight bytes each, and lists of numbers.
+ghost use Rattle.std.specs.Prelude.{◌≡◌, ◌<◌, ◌*◌, [], ◌∷◌, IfSome, IfNone, length};
 ghost use Rattle.perfdata_base.specs.Raw.{bytes_of};
 ghost use Rattle.perfdata_base.specs.Endian.{number_in};
 ghost use Rattle.perfdata_events.specs.Format.{Decodes, fixed};
 ghost use Rattle.perfdata_events.specs.Fields.{u32_at, u64_at};
-ghost use Rattle.perfdata_events.specs.Words.{word};
+ghost use Rattle.perfdata_events.specs.Words.{word, u64s, u64s_in};
 ghost use Rattle.perfdata_events.specs.Task.{task_at};
 
 use crate::fields::numbers::{i32_at, u32_at, u64_at};
 use crate::fields::task::Task;
+use crate::fields::u64s::{RawDataU64, split_off_elements};
 use perfdata_base::raw::{Endianness, RawData};
 use std::io::Result;
 
@@ -111,4 +113,53 @@ pub fn read_task(endian: Endianness, fields: &mut RawData<'_>) -> Result<Task>
         pid: i32_at(endian, &bytes, 0),
         tid: i32_at(endian, &bytes, 4),
     })
+}
+
+/// Removes `count` elements, each of `width` numbers.
+///
+/// Fails with an `UnexpectedEof` error if they are truncated.
+pub fn read_u64s<'a>(
+    endian: Endianness,
+    fields: &mut RawData<'a>,
+    count: u64,
+    width: u64,
+) -> Result<RawDataU64<'a>>
+    requires { width < 1024 }
+    ensures { Decodes (u64s (number_in endian) (width * count)) u64s_in (bytes_of fields.old) result
+        (bytes_of fields.new) }
+{
+    let bytes = split_off_elements(fields, count, 8 * width)?;
+    Ok(RawDataU64 { endian, bytes })
+}
+
+/// Removes `count` numbers.
+///
+/// Fails with an `UnexpectedEof` error if they are truncated.
+pub fn read_u64_list<'a>(
+    endian: Endianness,
+    fields: &mut RawData<'a>,
+    count: u64,
+) -> Result<RawDataU64<'a>>
+    ensures { Decodes (u64s (number_in endian) count) u64s_in (bytes_of fields.old) result
+        (bytes_of fields.new) }
+{
+    read_u64s(endian, fields, count, 1)
+}
+
+// Splits into the first number and the others.
+pub(crate) fn split_first_u64(values: RawDataU64<'_>) -> Option<(u64, RawDataU64<'_>)>
+    ensures none { IfNone result (u64s_in values.entry ≡ []) }
+    ensures some { IfSome result (λ parts. u64s_in values.entry ≡ parts.0 ∷ u64s_in parts.1) }
+    ensures shorter { IfSome result (λ parts. length (bytes_of parts.1.bytes)
+        < length (bytes_of values.entry.bytes)) }
+{
+    let mut rest = values.bytes;
+    let Ok(value) = read_u64(values.endian, &mut rest) else {
+        return None;
+    };
+    let others = RawDataU64 {
+        endian: values.endian,
+        bytes: rest,
+    };
+    Some((value, others))
 }

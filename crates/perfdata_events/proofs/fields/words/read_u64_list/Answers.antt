@@ -3,7 +3,7 @@ use Rattle.perfdata_base.specs.Raw.{bytes_of}
 use Rattle.perfdata_base.specs.Endian.{number_in}
 use Rattle.perfdata_events.specs.Format.{Decodes}
 use Rattle.perfdata_events.specs.Words.{u64s, u64s_in}
-use Rattle.perfdata_events.proofs.fields.u64s.read_u64_list.Goals as goal
+use Rattle.perfdata_events.proofs.fields.words.read_u64_list.Goals as goal
 
 pub returns : goal.returns
 returns c =
