@@ -9,4 +9,5 @@ pub mod Offsets
 pub mod Optional
 pub mod Prefixes
 pub mod SampleIdOffsets
+pub mod Single
 pub mod WholeBodies

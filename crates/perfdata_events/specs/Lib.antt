@@ -5,6 +5,8 @@ pub mod BranchFlags
 pub mod Misc
 pub mod AttributeFlags
 pub mod Format
+pub mod Single
+pub mod SingleParts
 pub mod Fields
 pub mod Words
 pub mod Task

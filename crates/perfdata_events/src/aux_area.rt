@@ -1,6 +1,7 @@
 //! Records on the aux area and its traces.
 ghost use Rattle.std.specs.Prelude.{◌≡◌};
 ghost use Rattle.perfdata_base.specs.Raw.{bytes_of};
+ghost use Rattle.perfdata_events.specs.Single.{KeepsSingle, NoParts};
 ghost use Rattle.perfdata_base.specs.Endian.{number_in};
 ghost use Rattle.perfdata_events.specs.Format.{Decodes};
 ghost use Rattle.perfdata_events.specs.Aux.{aux};
@@ -51,8 +52,9 @@ impl AuxRecord {
     ///
     /// Fails with an `UnexpectedEof` error if they are truncated.
     pub fn parse(endian: Endianness, fields: &mut RawData<'_>) -> Result<AuxRecord>
-        ensures { Decodes (aux (number_in endian)) (λ v. v) (bytes_of fields.old) result
+        ensures decodes { Decodes (aux (number_in endian)) (λ v. v) (bytes_of fields.old) result
             (bytes_of fields.new) }
+        ensures single { KeepsSingle NoParts fields.old result fields.new }
     {
         let mut bytes = [0u8; 24];
         fields.read_exact(&mut bytes)?;
@@ -69,8 +71,9 @@ impl ItraceStartRecord {
     ///
     /// Fails with an `UnexpectedEof` error if they are truncated.
     pub fn parse(endian: Endianness, fields: &mut RawData<'_>) -> Result<ItraceStartRecord>
-        ensures { Decodes (itrace_start (number_in endian)) (λ v. v) (bytes_of fields.old) result
+        ensures decodes { Decodes (itrace_start (number_in endian)) (λ v. v) (bytes_of fields.old) result
             (bytes_of fields.new) }
+        ensures single { KeepsSingle NoParts fields.old result fields.new }
     {
         let mut bytes = [0u8; 8];
         fields.read_exact(&mut bytes)?;
@@ -86,8 +89,9 @@ impl AuxOutputHwIdRecord {
     ///
     /// Fails with an `UnexpectedEof` error if they are truncated.
     pub fn parse(endian: Endianness, fields: &mut RawData<'_>) -> Result<AuxOutputHwIdRecord>
-        ensures { Decodes (aux_output_hw_id (number_in endian)) (λ v. v) (bytes_of fields.old) result
+        ensures decodes { Decodes (aux_output_hw_id (number_in endian)) (λ v. v) (bytes_of fields.old) result
             (bytes_of fields.new) }
+        ensures single { KeepsSingle NoParts fields.old result fields.new }
     {
         let mut bytes = [0u8; 8];
         fields.read_exact(&mut bytes)?;

@@ -1,5 +1,6 @@
 //! Context switches.
 ghost use Rattle.perfdata_base.specs.Raw.{bytes_of};
+ghost use Rattle.perfdata_events.specs.Single.{KeepsSingle, NoParts};
 ghost use Rattle.perfdata_base.specs.Endian.{number_in};
 ghost use Rattle.perfdata_events.specs.Format.{Decodes};
 ghost use Rattle.perfdata_events.specs.ContextSwitch.{switch, switch_cpu_wide};
@@ -26,7 +27,8 @@ pub struct ContextSwitchRecord {
 impl ContextSwitchRecord {
     /// Returns the switch of a record without fields.
     pub fn parse(misc: u16, fields: &mut RawData<'_>) -> Result<ContextSwitchRecord>
-        ensures { Decodes (switch misc) (λ v. v) (bytes_of fields.old) result (bytes_of fields.new) }
+        ensures decodes { Decodes (switch misc) (λ v. v) (bytes_of fields.old) result (bytes_of fields.new) }
+        ensures single { KeepsSingle NoParts fields.old result fields.new }
     {
         Ok(ContextSwitchRecord {
             is_out: MiscFlags(misc).contains(MiscFlags::SWITCH_OUT),
@@ -43,8 +45,9 @@ impl ContextSwitchRecord {
         misc: u16,
         fields: &mut RawData<'_>,
     ) -> Result<ContextSwitchRecord>
-        ensures { Decodes (switch_cpu_wide misc (number_in endian)) (λ v. v) (bytes_of fields.old) result
-            (bytes_of fields.new) }
+        ensures decodes { Decodes (switch_cpu_wide misc (number_in endian)) (λ v. v) (bytes_of fields.old)
+            result (bytes_of fields.new) }
+        ensures single { KeepsSingle NoParts fields.old result fields.new }
     {
         let mut bytes = [0u8; 8];
         fields.read_exact(&mut bytes)?;

@@ -1,7 +1,9 @@
 //! The parsed bodies of kernel records.
 ghost use Rattle.std.specs.Prelude.{◌≡◌, ◌<◌, ◌≤◌, ◌≢◌, ◌||◌, ◌&&◌, nat_lt, not, IfOk, IfErr};
 ghost use Rattle.std.specs.IoError.{error_kind};
-ghost use Rattle.perfdata_base.specs.Raw.{bytes_of};
+ghost use Rattle.perfdata_base.specs.Raw.{bytes_of, IsSingle};
+ghost use Rattle.perfdata_events.specs.Single.{KeepsSingle};
+ghost use Rattle.perfdata_events.specs.SingleParts.{HasSingleParts};
 
 use crate::aux_area::{AuxOutputHwIdRecord, AuxRecord, ItraceStartRecord};
 use crate::bits::{BranchFields, ReadFields, SampleFields};
@@ -145,7 +147,8 @@ impl EventFormat {
     ) -> Result<EventRecord<'a>>
         requires from { 1 ≤ raw.now.record_type.0 }
         requires to { raw.now.record_type.0 ≤ 7 }
-        ensures { DecodesEvent self.now raw.now (bytes_of fields.old) result (bytes_of fields.new) }
+        ensures decodes { DecodesEvent self.now raw.now (bytes_of fields.old) result (bytes_of fields.new) }
+        ensures single { KeepsSingle HasSingleParts fields.old result fields.new }
     {
         let endian = self.endian;
         let misc = raw.misc;
@@ -192,7 +195,8 @@ impl EventFormat {
         requires from { 8 ≤ raw.now.record_type.0 }
         requires to { raw.now.record_type.0 ≤ 15 }
         requires no_sample { raw.now.record_type.0 ≢ 9 }
-        ensures { DecodesEvent self.now raw.now (bytes_of fields.old) result (bytes_of fields.new) }
+        ensures decodes { DecodesEvent self.now raw.now (bytes_of fields.old) result (bytes_of fields.new) }
+        ensures single { KeepsSingle HasSingleParts fields.old result fields.new }
     {
         let endian = self.endian;
         let misc = raw.misc;
@@ -238,7 +242,8 @@ impl EventFormat {
     ) -> Result<EventRecord<'a>>
         requires from { 16 ≤ raw.now.record_type.0 }
         requires to { raw.now.record_type.0 ≤ 21 }
-        ensures { DecodesEvent self.now raw.now (bytes_of fields.old) result (bytes_of fields.new) }
+        ensures decodes { DecodesEvent self.now raw.now (bytes_of fields.old) result (bytes_of fields.new) }
+        ensures single { KeepsSingle HasSingleParts fields.old result fields.new }
     {
         let endian = self.endian;
         let misc = raw.misc;
@@ -280,7 +285,8 @@ impl EventFormat {
         requires from { 1 ≤ raw.now.record_type.0 }
         requires to { raw.now.record_type.0 ≤ 21 }
         requires no_sample { raw.now.record_type.0 ≢ 9 }
-        ensures { DecodesEvent self.now raw.now (bytes_of fields.old) result (bytes_of fields.new) }
+        ensures decodes { DecodesEvent self.now raw.now (bytes_of fields.old) result (bytes_of fields.new) }
+        ensures single { KeepsSingle HasSingleParts fields.old result fields.new }
     {
         if raw.record_type.0 < PERF_RECORD_READ {
             self.parse_types_to_7(raw, fields)
@@ -329,6 +335,7 @@ impl EventFormat {
     pub fn parse<'a>(&self, raw: &RawEventRecord<'a>) -> Result<EventRecord<'a>>
         ensures value { IfOk result (λ event. IsParsed self.now raw.now event) }
         ensures error { IfErr result (λ error. ParseFails self.now raw.now (error_kind error)) }
+        ensures single { IsSingle raw.now.body → IfOk result HasSingleParts }
     {
         let record_type = raw.record_type.0;
         if record_type == RecordType::SAMPLE.0 {

@@ -1,6 +1,6 @@
 //! What the bodies of one attribute's records hold.
-ghost use Rattle.std.specs.Prelude.{◌≡◌, [], ◌∷◌};
-ghost use Rattle.perfdata_base.specs.Raw.{bytes_of};
+ghost use Rattle.std.specs.Prelude.{◌≡◌, [], ◌∷◌, IfOk};
+ghost use Rattle.perfdata_base.specs.Raw.{bytes_of, IsSingle};
 ghost use Rattle.perfdata_events.specs.Words.{word_size, words_size};
 ghost use Rattle.perfdata_events.specs.SampleFormat.{TID, TIME, ID, STREAM_ID, CPU, IDENTIFIER};
 
@@ -74,7 +74,7 @@ impl EventFormat {
         }
     }
 
-    /// Does what [`EventFormat::new`] does if a big-endian compiler laid out the flags of the attribute, as in a
+    /// Returns the format of the records of an attribute whose flags a big-endian compiler laid out, as in a
     /// recording of s390x: bit n of the kernel's list of flags is bit 63 - n of the word. With
     /// [`EventFormat::new`] the sample_id fields of such a recording are taken for padding.
     pub fn with_big_endian_flags(attr: &PerfEventAttr, endian: Endianness) -> EventFormat
@@ -113,7 +113,8 @@ impl EventFormat {
     // Splits the body of a record that isn't a sample into its fields with their padding, and its sample_id
     // fields.
     pub(crate) fn split_trailing<'a>(&self, body: RawData<'a>) -> Result<(RawData<'a>, RawData<'a>)>
-        ensures { SplitsTrailing self.now (bytes_of body.entry) result }
+        ensures splits { SplitsTrailing self.now (bytes_of body.entry) result }
+        ensures single { IfOk result (λ parts. IsSingle body.entry → IsSingle parts.0 × IsSingle parts.1) }
     {
         let Some(len) = body.len().checked_sub(self.trailing_size()) else {
             return Err(unexpected_eof());

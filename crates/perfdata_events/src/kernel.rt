@@ -1,5 +1,6 @@
 //! Records on the kernel's code.
-ghost use Rattle.perfdata_base.specs.Raw.{bytes_of};
+ghost use Rattle.perfdata_base.specs.Raw.{bytes_of, IsSingle};
+ghost use Rattle.perfdata_events.specs.Single.{KeepsSingle};
 ghost use Rattle.perfdata_base.specs.Endian.{number_in};
 ghost use Rattle.perfdata_events.specs.Format.{Decodes};
 
@@ -55,8 +56,9 @@ impl<'a> KsymbolRecord<'a> {
     /// Fails with an `UnexpectedEof` error if they are truncated, and with an `InvalidData` error if the name
     /// has no NUL.
     pub fn parse(endian: Endianness, fields: &mut RawData<'a>) -> Result<KsymbolRecord<'a>>
-        ensures { Decodes (ksymbol (number_in endian)) symbol_of (bytes_of fields.old) result
+        ensures decodes { Decodes (ksymbol (number_in endian)) symbol_of (bytes_of fields.old) result
             (bytes_of fields.new) }
+        ensures single { KeepsSingle (λ v. IsSingle v.name) fields.old result fields.new }
     {
         let mut bytes = [0u8; 16];
         fields.read_exact(&mut bytes)?;
@@ -78,8 +80,9 @@ impl<'a> BpfEventRecord<'a> {
     ///
     /// Fails with an `UnexpectedEof` error if they are truncated.
     pub fn parse(endian: Endianness, fields: &mut RawData<'a>) -> Result<BpfEventRecord<'a>>
-        ensures { Decodes (bpf_event (number_in endian)) bpf_event_of (bytes_of fields.old) result
+        ensures decodes { Decodes (bpf_event (number_in endian)) bpf_event_of (bytes_of fields.old) result
             (bytes_of fields.new) }
+        ensures single { KeepsSingle (λ v. IsSingle v.tag) fields.old result fields.new }
     {
         let mut bytes = [0u8; 8];
         fields.read_exact(&mut bytes)?;
@@ -100,8 +103,10 @@ impl<'a> TextPokeRecord<'a> {
     ///
     /// Fails with an `UnexpectedEof` error if they are truncated.
     pub fn parse(endian: Endianness, fields: &mut RawData<'a>) -> Result<TextPokeRecord<'a>>
-        ensures { Decodes (text_poke (number_in endian)) poke_of (bytes_of fields.old) result
+        ensures decodes { Decodes (text_poke (number_in endian)) poke_of (bytes_of fields.old) result
             (bytes_of fields.new) }
+        ensures single { KeepsSingle (λ v. IsSingle v.old_bytes × IsSingle v.new_bytes) fields.old result
+            fields.new }
     {
         let mut bytes = [0u8; 12];
         fields.read_exact(&mut bytes)?;

@@ -97,8 +97,8 @@ pub fn fields_are_a_prefix()
         → ConsumesPrefix (sample_id number sample_format) }
 {}
 
-/// A body has at most one parsed form, and none if it has an error. In a parsed body the fields come first, in
-/// order, then padding, then the sample_id fields; together they are all of its bytes.
+/// A body has at most one parsed form, and none if it has an error. In a parsed body the fields come first,
+/// in order, then padding, then the sample_id fields; together they are all of its bytes.
 pub fn a_body_has_one_form()
     ensures unique { (format : EventFormat) (raw : RawEventRecord) (a b : EventRecord)
         → IsParsed format raw a → IsParsed format raw b → event_view a ≡ event_view b }

@@ -1,5 +1,6 @@
 //! Records on what the kernel dropped or limited.
 ghost use Rattle.perfdata_base.specs.Raw.{bytes_of};
+ghost use Rattle.perfdata_events.specs.Single.{KeepsSingle, NoParts};
 ghost use Rattle.perfdata_base.specs.Endian.{number_in};
 ghost use Rattle.perfdata_events.specs.Format.{Decodes};
 ghost use Rattle.perfdata_events.specs.Lost.{lost};
@@ -43,8 +44,9 @@ impl LostRecord {
     ///
     /// Fails with an `UnexpectedEof` error if they are truncated.
     pub fn parse(endian: Endianness, fields: &mut RawData<'_>) -> Result<LostRecord>
-        ensures { Decodes (lost (number_in endian)) (λ v. v) (bytes_of fields.old) result
+        ensures decodes { Decodes (lost (number_in endian)) (λ v. v) (bytes_of fields.old) result
             (bytes_of fields.new) }
+        ensures single { KeepsSingle NoParts fields.old result fields.new }
     {
         let mut bytes = [0u8; 16];
         fields.read_exact(&mut bytes)?;
@@ -60,8 +62,9 @@ impl LostSamplesRecord {
     ///
     /// Fails with an `UnexpectedEof` error if they are truncated.
     pub fn parse(endian: Endianness, fields: &mut RawData<'_>) -> Result<LostSamplesRecord>
-        ensures { Decodes (lost_samples (number_in endian)) (λ v. v) (bytes_of fields.old) result
+        ensures decodes { Decodes (lost_samples (number_in endian)) (λ v. v) (bytes_of fields.old) result
             (bytes_of fields.new) }
+        ensures single { KeepsSingle NoParts fields.old result fields.new }
     {
         let mut bytes = [0u8; 8];
         fields.read_exact(&mut bytes)?;
@@ -76,8 +79,9 @@ impl ThrottleRecord {
     ///
     /// Fails with an `UnexpectedEof` error if they are truncated.
     pub fn parse(endian: Endianness, fields: &mut RawData<'_>) -> Result<ThrottleRecord>
-        ensures { Decodes (throttle (number_in endian)) (λ v. v) (bytes_of fields.old) result
+        ensures decodes { Decodes (throttle (number_in endian)) (λ v. v) (bytes_of fields.old) result
             (bytes_of fields.new) }
+        ensures single { KeepsSingle NoParts fields.old result fields.new }
     {
         let mut bytes = [0u8; 24];
         fields.read_exact(&mut bytes)?;

@@ -1,5 +1,6 @@
 //! Records on mappings.
-ghost use Rattle.perfdata_base.specs.Raw.{bytes_of};
+ghost use Rattle.perfdata_base.specs.Raw.{bytes_of, IsSingle};
+ghost use Rattle.perfdata_events.specs.Single.{KeepsSingle};
 ghost use Rattle.perfdata_base.specs.Endian.{number_in};
 ghost use Rattle.perfdata_events.specs.Format.{Decodes};
 
@@ -37,8 +38,9 @@ impl<'a> MmapRecord<'a> {
     /// Fails with an `UnexpectedEof` error if they are truncated, and with an `InvalidData` error if the path
     /// has no NUL.
     pub fn parse(endian: Endianness, misc: u16, fields: &mut RawData<'a>) -> Result<MmapRecord<'a>>
-        ensures { Decodes (mmap (number_in endian) misc) mapping_of (bytes_of fields.old) result
+        ensures decodes { Decodes (mmap (number_in endian) misc) mapping_of (bytes_of fields.old) result
             (bytes_of fields.new) }
+        ensures single { KeepsSingle (λ v. IsSingle v.path) fields.old result fields.new }
     {
         let mut bytes = [0u8; 32];
         fields.read_exact(&mut bytes)?;

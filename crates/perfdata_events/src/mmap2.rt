@@ -1,5 +1,7 @@
 //! Records on mappings with the identity of the mapped file.
-ghost use Rattle.perfdata_base.specs.Raw.{bytes_of};
+ghost use Rattle.perfdata_base.specs.Raw.{bytes_of, IsSingle};
+ghost use Rattle.perfdata_events.specs.Single.{KeepsSingle, NoParts};
+ghost use Rattle.perfdata_events.specs.SingleParts.{SingleMapping2};
 ghost use Rattle.perfdata_base.specs.Endian.{number_in};
 ghost use Rattle.perfdata_events.specs.Format.{Decodes, fixed, fixed_and_text};
 
@@ -60,8 +62,9 @@ impl AddressRange {
     ghost use Rattle.perfdata_events.specs.Mmap2.{address_range_of};
 
     fn parse(endian: Endianness, misc: u16, fields: &mut RawData<'_>) -> Result<AddressRange>
-        ensures { Decodes (fixed 32 (mapping_at (number_in endian) misc)) address_range_of
+        ensures decodes { Decodes (fixed 32 (mapping_at (number_in endian) misc)) address_range_of
             (bytes_of fields.old) result (bytes_of fields.new) }
+        ensures single { KeepsSingle NoParts fields.old result fields.new }
     {
         let mut bytes = [0u8; 32];
         fields.read_exact(&mut bytes)?;
@@ -80,8 +83,9 @@ impl<'a> ProtectedPath<'a> {
     ghost use Rattle.perfdata_events.specs.Mmap2.{protection_at, protected_path_of};
 
     fn parse(endian: Endianness, fields: &mut RawData<'a>) -> Result<ProtectedPath<'a>>
-        ensures { Decodes (fixed_and_text 8 (protection_at (number_in endian))) protected_path_of
+        ensures decodes { Decodes (fixed_and_text 8 (protection_at (number_in endian))) protected_path_of
             (bytes_of fields.old) result (bytes_of fields.new) }
+        ensures single { KeepsSingle (λ v. IsSingle v.path) fields.old result fields.new }
     {
         let mut bytes = [0u8; 8];
         fields.read_exact(&mut bytes)?;
@@ -102,8 +106,9 @@ impl<'a> Mmap2Record<'a> {
     /// Fails with an `UnexpectedEof` error if they are truncated, and with an `InvalidData` error if the
     /// build id has more than 20 bytes or the path has no NUL.
     pub fn parse(endian: Endianness, misc: u16, fields: &mut RawData<'a>) -> Result<Mmap2Record<'a>>
-        ensures { Decodes (mmap2 (number_in endian) misc) mapping2_of (bytes_of fields.old) result
+        ensures decodes { Decodes (mmap2 (number_in endian) misc) mapping2_of (bytes_of fields.old) result
             (bytes_of fields.new) }
+        ensures single { KeepsSingle SingleMapping2 fields.old result fields.new }
     {
         let range = AddressRange::parse(endian, misc, fields)?;
         let is_build_id = MiscFlags(misc).contains(MiscFlags::MMAP_BUILD_ID);

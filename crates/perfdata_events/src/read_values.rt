@@ -1,5 +1,7 @@
 //! The values of counters.
 ghost use Rattle.perfdata_base.specs.Raw.{bytes_of};
+ghost use Rattle.perfdata_events.specs.Single.{KeepsSingle};
+ghost use Rattle.perfdata_events.specs.SingleParts.{SingleValuesOf};
 ghost use Rattle.perfdata_base.specs.Endian.{number_in};
 ghost use Rattle.perfdata_events.specs.Format.{Decodes};
 
@@ -31,8 +33,9 @@ impl<'a> ReadRecord<'a> {
         read_format: ReadFields,
         fields: &mut RawData<'a>,
     ) -> Result<ReadRecord<'a>>
-        ensures { Decodes (read (number_in endian) read_format.0) task_values_of (bytes_of fields.old) result
-            (bytes_of fields.new) }
+        ensures decodes { Decodes (read (number_in endian) read_format.0) task_values_of (bytes_of fields.old)
+            result (bytes_of fields.new) }
+        ensures single { KeepsSingle (λ v. SingleValuesOf v.values) fields.old result fields.new }
     {
         let task = read_task(endian, fields)?;
         let values = ReadValues::parse(endian, read_format, fields)?;

@@ -1,6 +1,8 @@
 //! Samples.
 ghost use Rattle.std.specs.Prelude.{◌≡◌};
 ghost use Rattle.perfdata_base.specs.Raw.{bytes_of};
+ghost use Rattle.perfdata_events.specs.Single.{KeepsSingle};
+ghost use Rattle.perfdata_events.specs.SingleParts.{SingleMiddle, SingleSample, SingleStart};
 ghost use Rattle.perfdata_base.specs.Endian.{number_in};
 ghost use Rattle.perfdata_events.specs.Format.{Decodes};
 
@@ -96,8 +98,9 @@ impl<'a> SampleStart<'a> {
     ghost use Rattle.perfdata_events.specs.Sample.{sample_start, start_of};
 
     fn parse(format: &EventFormat, fields: &mut RawData<'a>) -> Result<SampleStart<'a>>
-        ensures { Decodes (sample_start (number_in format.now.endian) format.now) start_of
+        ensures decodes { Decodes (sample_start (number_in format.now.endian) format.now) start_of
             (bytes_of fields.old) result (bytes_of fields.new) }
+        ensures single { KeepsSingle SingleStart fields.old result fields.new }
     {
         let endian = format.endian;
         let bits = format.sample_format;
@@ -129,8 +132,9 @@ impl<'a> SampleMiddle<'a> {
     ghost use Rattle.perfdata_events.specs.Sample.{sample_middle, middle_of};
 
     fn parse(format: &EventFormat, fields: &mut RawData<'a>) -> Result<SampleMiddle<'a>>
-        ensures { Decodes (sample_middle (number_in format.now.endian) format.now) middle_of
+        ensures decodes { Decodes (sample_middle (number_in format.now.endian) format.now) middle_of
             (bytes_of fields.old) result (bytes_of fields.new) }
+        ensures single { KeepsSingle SingleMiddle fields.old result fields.new }
     {
         let endian = format.endian;
         let bits = format.sample_format;
@@ -172,8 +176,9 @@ impl<'a> SampleRecord<'a> {
     ///
     /// Fails with an `UnexpectedEof` error if they are truncated.
     pub fn parse(format: &EventFormat, fields: &mut RawData<'a>) -> Result<SampleRecord<'a>>
-        ensures { Decodes (sample (number_in format.now.endian) format.now) sample_of
+        ensures decodes { Decodes (sample (number_in format.now.endian) format.now) sample_of
             (bytes_of fields.old) result (bytes_of fields.new) }
+        ensures single { KeepsSingle SingleSample fields.old result fields.new }
     {
         let start = SampleStart::parse(format, fields)?;
         let middle = SampleMiddle::parse(format, fields)?;

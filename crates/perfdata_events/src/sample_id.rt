@@ -1,5 +1,6 @@
 //! Who wrote a record, when and where.
 ghost use Rattle.perfdata_base.specs.Raw.{bytes_of};
+ghost use Rattle.perfdata_events.specs.Single.{KeepsSingle, NoParts};
 ghost use Rattle.perfdata_base.specs.Endian.{number_in};
 ghost use Rattle.perfdata_events.specs.Format.{Decodes};
 ghost use Rattle.perfdata_events.specs.SampleId.{sample_id};
@@ -37,8 +38,9 @@ impl SampleId {
         format: SampleFields,
         fields: &mut RawData<'_>,
     ) -> Result<SampleId>
-        ensures { Decodes (sample_id (number_in endian) format.0) (λ v. v) (bytes_of fields.old) result
-            (bytes_of fields.new) }
+        ensures decodes { Decodes (sample_id (number_in endian) format.0) (λ v. v) (bytes_of fields.old)
+            result (bytes_of fields.new) }
+        ensures single { KeepsSingle NoParts fields.old result fields.new }
     {
         let task = read_task_if(endian, fields, format.contains(SampleFields::TID))?;
         let timestamp = read_u64_if(endian, fields, format.contains(SampleFields::TIME))?;

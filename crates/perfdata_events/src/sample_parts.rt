@@ -1,6 +1,8 @@
 //! The parts of samples whose size is in the record.
-ghost use Rattle.std.specs.Prelude.{◌≡◌, ◌==◌, not};
-ghost use Rattle.perfdata_base.specs.Raw.{bytes_of};
+ghost use Rattle.std.specs.Prelude.{◌≡◌, ◌==◌, not, IfSome};
+ghost use Rattle.perfdata_base.specs.Raw.{bytes_of, IsSingle};
+ghost use Rattle.perfdata_events.specs.Single.{KeepsSingle};
+ghost use Rattle.perfdata_events.specs.SingleParts.{SingleBranches, SingleNumbers, SingleStack};
 ghost use Rattle.perfdata_base.specs.Endian.{number_in};
 ghost use Rattle.perfdata_events.specs.Format.{Decodes, optional};
 ghost use Rattle.perfdata_events.specs.Words.{u64s, u64s_in};
@@ -64,8 +66,9 @@ fn read_u64_list_if<'a>(
     present: bool,
     count: u64,
 ) -> Result<Option<RawDataU64<'a>>>
-    ensures { Decodes (optional present (u64s (number_in endian) count)) (option_map u64s_in)
+    ensures decodes { Decodes (optional present (u64s (number_in endian) count)) (option_map u64s_in)
         (bytes_of fields.old) result (bytes_of fields.new) }
+    ensures single { KeepsSingle (λ v. IfSome v SingleNumbers) fields.old result fields.new }
 {
     if !present {
         return Ok(None);
@@ -74,7 +77,7 @@ fn read_u64_list_if<'a>(
 }
 
 impl<'a> BranchStack<'a> {
-    ghost use Rattle.std.specs.Prelude.{◌≤◌, ◌<◌, IfSome, IfNone};
+    ghost use Rattle.std.specs.Prelude.{◌≤◌, ◌<◌, IfNone};
     ghost use Rattle.perfdata_events.specs.Sample.{branch_stack, branches_of, branch_count, branch_at};
 
     /// Returns the number of branches.
@@ -108,8 +111,9 @@ impl<'a> BranchStack<'a> {
         branch_sample_type: BranchFields,
         fields: &mut RawData<'a>,
     ) -> Result<BranchStack<'a>>
-        ensures { Decodes (branch_stack (number_in endian) branch_sample_type.0) branches_of
+        ensures decodes { Decodes (branch_stack (number_in endian) branch_sample_type.0) branches_of
             (bytes_of fields.old) result (bytes_of fields.new) }
+        ensures single { KeepsSingle SingleBranches fields.old result fields.new }
     {
         let count = read_u64(endian, fields)?;
         let hw_index = read_u64_if(
@@ -134,8 +138,9 @@ impl<'a> BranchStack<'a> {
         branch_sample_type: BranchFields,
         fields: &mut RawData<'a>,
     ) -> Result<Option<BranchStack<'a>>>
-        ensures { Decodes (optional present (branch_stack (number_in endian) branch_sample_type.0))
+        ensures decodes { Decodes (optional present (branch_stack (number_in endian) branch_sample_type.0))
             (option_map branches_of) (bytes_of fields.old) result (bytes_of fields.new) }
+        ensures single { KeepsSingle (λ v. IfSome v SingleBranches) fields.old result fields.new }
     {
         if !present {
             return Ok(None);
@@ -155,8 +160,9 @@ impl<'a> UserStack<'a> {
 
     // Removes a copy of a stack.
     pub(crate) fn parse(endian: Endianness, fields: &mut RawData<'a>) -> Result<UserStack<'a>>
-        ensures { Decodes (user_stack (number_in endian)) stack_of (bytes_of fields.old) result
+        ensures decodes { Decodes (user_stack (number_in endian)) stack_of (bytes_of fields.old) result
             (bytes_of fields.new) }
+        ensures single { KeepsSingle SingleStack fields.old result fields.new }
     {
         let size = read_u64(endian, fields)?;
         let bytes = read_block(fields, size as usize)?;
@@ -173,8 +179,9 @@ impl<'a> UserStack<'a> {
         present: bool,
         fields: &mut RawData<'a>,
     ) -> Result<Option<UserStack<'a>>>
-        ensures { Decodes (optional present (user_stack (number_in endian))) (option_map stack_of)
+        ensures decodes { Decodes (optional present (user_stack (number_in endian))) (option_map stack_of)
             (bytes_of fields.old) result (bytes_of fields.new) }
+        ensures single { KeepsSingle (λ v. IfSome v SingleStack) fields.old result fields.new }
     {
         if !present {
             return Ok(None);
@@ -187,8 +194,9 @@ ghost use Rattle.perfdata_events.specs.Sample.{raw_data};
 
 // Removes raw data, whose size is four bytes before it.
 pub(crate) fn read_raw_data<'a>(endian: Endianness, fields: &mut RawData<'a>) -> Result<RawData<'a>>
-    ensures { Decodes (raw_data (number_in endian)) bytes_of (bytes_of fields.old) result
+    ensures decodes { Decodes (raw_data (number_in endian)) bytes_of (bytes_of fields.old) result
         (bytes_of fields.new) }
+    ensures single { KeepsSingle IsSingle fields.old result fields.new }
 {
     let size = read_u32(endian, fields)?;
     read_block(fields, size as usize)
@@ -200,8 +208,9 @@ pub(crate) fn read_raw_data_if<'a>(
     present: bool,
     fields: &mut RawData<'a>,
 ) -> Result<Option<RawData<'a>>>
-    ensures { Decodes (optional present (raw_data (number_in endian))) (option_map bytes_of)
+    ensures decodes { Decodes (optional present (raw_data (number_in endian))) (option_map bytes_of)
         (bytes_of fields.old) result (bytes_of fields.new) }
+    ensures single { KeepsSingle (λ v. IfSome v IsSingle) fields.old result fields.new }
 {
     if !present {
         return Ok(None);

@@ -1,5 +1,6 @@
 //! The words of a sample up to its processor.
 ghost use Rattle.perfdata_base.specs.Raw.{bytes_of};
+ghost use Rattle.perfdata_events.specs.Single.{KeepsSingle, NoParts};
 ghost use Rattle.perfdata_base.specs.Endian.{number_in};
 ghost use Rattle.perfdata_events.specs.Format.{Decodes};
 
@@ -47,8 +48,9 @@ impl OriginWords {
         format: SampleFields,
         fields: &mut RawData<'_>,
     ) -> Result<OriginWords>
-        ensures { Decodes (origin_words (number_in endian) format.0) (λ v. v) (bytes_of fields.old) result
-            (bytes_of fields.new) }
+        ensures decodes { Decodes (origin_words (number_in endian) format.0) (λ v. v) (bytes_of fields.old)
+            result (bytes_of fields.new) }
+        ensures single { KeepsSingle NoParts fields.old result fields.new }
     {
         let identifier = read_u64_if(endian, fields, format.contains(SampleFields::IDENTIFIER))?;
         let ip = read_u64_if(endian, fields, format.contains(SampleFields::IP))?;
@@ -73,8 +75,9 @@ impl EventWords {
         format: SampleFields,
         fields: &mut RawData<'_>,
     ) -> Result<EventWords>
-        ensures { Decodes (event_words (number_in endian) format.0) (λ v. v) (bytes_of fields.old) result
-            (bytes_of fields.new) }
+        ensures decodes { Decodes (event_words (number_in endian) format.0) (λ v. v) (bytes_of fields.old)
+            result (bytes_of fields.new) }
+        ensures single { KeepsSingle NoParts fields.old result fields.new }
     {
         let address = read_u64_if(endian, fields, format.contains(SampleFields::ADDR))?;
         let id = read_u64_if(endian, fields, format.contains(SampleFields::ID))?;

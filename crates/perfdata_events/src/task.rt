@@ -1,5 +1,7 @@
 //! Records on tasks.
-ghost use Rattle.perfdata_base.specs.Raw.{bytes_of};
+ghost use Rattle.perfdata_base.specs.Raw.{bytes_of, IsSingle};
+ghost use Rattle.perfdata_events.specs.Single.{KeepsSingle, NoParts};
+ghost use Rattle.perfdata_events.specs.SingleParts.{SingleNumbers};
 ghost use Rattle.perfdata_base.specs.Endian.{number_in};
 ghost use Rattle.perfdata_events.specs.Format.{Decodes};
 ghost use Rattle.perfdata_events.specs.ForkOrExit.{fork_or_exit};
@@ -75,8 +77,9 @@ impl ForkOrExitRecord {
     ///
     /// Fails with an `UnexpectedEof` error if they are truncated.
     pub fn parse(endian: Endianness, fields: &mut RawData<'_>) -> Result<ForkOrExitRecord>
-        ensures { Decodes (fork_or_exit (number_in endian)) (λ v. v) (bytes_of fields.old) result
+        ensures decodes { Decodes (fork_or_exit (number_in endian)) (λ v. v) (bytes_of fields.old) result
             (bytes_of fields.new) }
+        ensures single { KeepsSingle NoParts fields.old result fields.new }
     {
         let mut bytes = [0u8; 24];
         fields.read_exact(&mut bytes)?;
@@ -102,8 +105,9 @@ impl<'a> CommOrExecRecord<'a> {
         misc: u16,
         fields: &mut RawData<'a>,
     ) -> Result<CommOrExecRecord<'a>>
-        ensures { Decodes (comm (number_in endian) misc) named_task_of (bytes_of fields.old) result
+        ensures decodes { Decodes (comm (number_in endian) misc) named_task_of (bytes_of fields.old) result
             (bytes_of fields.new) }
+        ensures single { KeepsSingle (λ v. IsSingle v.name) fields.old result fields.new }
     {
         let mut bytes = [0u8; 8];
         fields.read_exact(&mut bytes)?;
@@ -125,8 +129,9 @@ impl<'a> CgroupRecord<'a> {
     /// Fails with an `UnexpectedEof` error if they are truncated, and with an `InvalidData` error if the path
     /// has no NUL.
     pub fn parse(endian: Endianness, fields: &mut RawData<'a>) -> Result<CgroupRecord<'a>>
-        ensures { Decodes (cgroup (number_in endian)) cgroup_of (bytes_of fields.old) result
+        ensures decodes { Decodes (cgroup (number_in endian)) cgroup_of (bytes_of fields.old) result
             (bytes_of fields.new) }
+        ensures single { KeepsSingle (λ v. IsSingle v.path) fields.old result fields.new }
     {
         let mut bytes = [0u8; 8];
         fields.read_exact(&mut bytes)?;
@@ -169,8 +174,9 @@ impl<'a> NamespacesRecord<'a> {
     ///
     /// Fails with an `UnexpectedEof` error if they are truncated.
     pub fn parse(endian: Endianness, fields: &mut RawData<'a>) -> Result<NamespacesRecord<'a>>
-        ensures { Decodes (namespaces (number_in endian)) namespaces_of (bytes_of fields.old) result
+        ensures decodes { Decodes (namespaces (number_in endian)) namespaces_of (bytes_of fields.old) result
             (bytes_of fields.new) }
+        ensures single { KeepsSingle (λ v. SingleNumbers v.namespaces) fields.old result fields.new }
     {
         let mut bytes = [0u8; 16];
         fields.read_exact(&mut bytes)?;

@@ -4,6 +4,8 @@ ghost use Rattle.std.specs.Option.{option_map};
 ghost use Rattle.std.specs.Iterator.{YieldsFirstBy, item_count};
 ghost use Rattle.perfdata_base.specs.Endian.{number_in};
 ghost use Rattle.perfdata_base.specs.Raw.{bytes_of};
+ghost use Rattle.perfdata_events.specs.Single.{KeepsSingle};
+ghost use Rattle.perfdata_events.specs.SingleParts.{SingleChain};
 ghost use Rattle.perfdata_events.specs.Format.{Decodes, optional};
 ghost use Rattle.perfdata_events.specs.Words.{u64s_in};
 
@@ -148,8 +150,9 @@ impl<'a> CallChain<'a> {
     ///
     /// Fails with an `UnexpectedEof` error if it is truncated.
     pub fn parse(endian: Endianness, fields: &mut RawData<'a>) -> Result<CallChain<'a>>
-        ensures { Decodes (chain (number_in endian)) chain_values_of (bytes_of fields.old) result
+        ensures decodes { Decodes (chain (number_in endian)) chain_values_of (bytes_of fields.old) result
             (bytes_of fields.new) }
+        ensures single { KeepsSingle SingleChain fields.old result fields.new }
     {
         let count = read_u64(endian, fields)?;
         let values = read_u64_list(endian, fields, count)?;
@@ -162,8 +165,9 @@ impl<'a> CallChain<'a> {
         present: bool,
         fields: &mut RawData<'a>,
     ) -> Result<Option<CallChain<'a>>>
-        ensures { Decodes (optional present (chain (number_in endian))) (option_map chain_values_of)
+        ensures decodes { Decodes (optional present (chain (number_in endian))) (option_map chain_values_of)
             (bytes_of fields.old) result (bytes_of fields.new) }
+        ensures single { KeepsSingle (λ v. IfSome v SingleChain) fields.old result fields.new }
     {
         if !present {
             return Ok(None);

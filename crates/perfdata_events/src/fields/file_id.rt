@@ -1,6 +1,8 @@
 //! The identity of a mapped file.
-ghost use Rattle.std.specs.Prelude.{◌≡◌, length};
-ghost use Rattle.perfdata_base.specs.Raw.{bytes_of};
+ghost use Rattle.std.specs.Prelude.{◌≡◌, length, IfOk};
+ghost use Rattle.perfdata_base.specs.Raw.{bytes_of, IsSingle};
+ghost use Rattle.perfdata_events.specs.Single.{KeepsSingle};
+ghost use Rattle.perfdata_events.specs.SingleParts.{SingleFileId};
 ghost use Rattle.perfdata_base.specs.Endian.{number_in};
 ghost use Rattle.perfdata_events.specs.Format.{Decodes};
 ghost use Rattle.perfdata_events.specs.FileId.{ReadsBuildId};
@@ -38,7 +40,8 @@ pub enum Mmap2FileId<'a> {
 // The build id in 24 bytes.
 fn read_build_id(bytes: RawData<'_>) -> Result<RawData<'_>>
     requires { length (bytes_of bytes) ≡ 24 }
-    ensures { ReadsBuildId (bytes_of bytes.entry) result }
+    ensures reads { ReadsBuildId (bytes_of bytes.entry) result }
+    ensures single { IfOk result (λ id. IsSingle bytes.entry → IsSingle id) }
 {
     let mut rest = bytes;
     let size = rest.read_u8()?;
@@ -63,8 +66,9 @@ impl<'a> Mmap2FileId<'a> {
         is_build_id: bool,
         fields: &mut RawData<'a>,
     ) -> Result<Mmap2FileId<'a>>
-        ensures { Decodes (file_id (number_in endian) is_build_id) file_id_of (bytes_of fields.old) result
-            (bytes_of fields.new) }
+        ensures decodes { Decodes (file_id (number_in endian) is_build_id) file_id_of (bytes_of fields.old)
+            result (bytes_of fields.new) }
+        ensures single { KeepsSingle SingleFileId fields.old result fields.new }
     {
         if is_build_id {
             let id = fields.split_off_prefix(24)?;

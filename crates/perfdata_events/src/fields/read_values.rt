@@ -1,5 +1,8 @@
 //! The values of counters.
 ghost use Rattle.perfdata_base.specs.Raw.{bytes_of};
+ghost use Rattle.std.specs.Prelude.{IfSome};
+ghost use Rattle.perfdata_events.specs.Single.{KeepsSingle, NoParts};
+ghost use Rattle.perfdata_events.specs.SingleParts.{SingleGroup, SingleValuesOf};
 ghost use Rattle.perfdata_base.specs.Endian.{number_in};
 ghost use Rattle.perfdata_events.specs.Format.{Decodes, optional};
 ghost use Rattle.std.specs.Option.{option_map};
@@ -90,8 +93,9 @@ impl Details {
     ghost use Rattle.perfdata_events.specs.ReadValues.{details};
 
     fn parse(endian: Endianness, format: ReadFields, fields: &mut RawData<'_>) -> Result<Details>
-        ensures { Decodes (details (number_in endian) format.0) (λ v. v) (bytes_of fields.old) result
+        ensures decodes { Decodes (details (number_in endian) format.0) (λ v. v) (bytes_of fields.old) result
             (bytes_of fields.new) }
+        ensures single { KeepsSingle NoParts fields.old result fields.new }
     {
         let time_enabled = read_u64_if(
             endian,
@@ -118,8 +122,9 @@ impl Times {
     ghost use Rattle.perfdata_events.specs.ReadValues.{times};
 
     fn parse(endian: Endianness, format: ReadFields, fields: &mut RawData<'_>) -> Result<Times>
-        ensures { Decodes (times (number_in endian) format.0) (λ v. v) (bytes_of fields.old) result
+        ensures decodes { Decodes (times (number_in endian) format.0) (λ v. v) (bytes_of fields.old) result
             (bytes_of fields.new) }
+        ensures single { KeepsSingle NoParts fields.old result fields.new }
     {
         let time_enabled = read_u64_if(
             endian,
@@ -147,8 +152,9 @@ impl SingleValues {
         format: ReadFields,
         fields: &mut RawData<'_>,
     ) -> Result<SingleValues>
-        ensures { Decodes (single_values (number_in endian) format.0) single_of (bytes_of fields.old) result
-            (bytes_of fields.new) }
+        ensures decodes { Decodes (single_values (number_in endian) format.0) single_of (bytes_of fields.old)
+            result (bytes_of fields.new) }
+        ensures single { KeepsSingle NoParts fields.old result fields.new }
     {
         let value = read_u64(endian, fields)?;
         let details = Details::parse(endian, format, fields)?;
@@ -231,8 +237,9 @@ impl<'a> GroupValues<'a> {
         format: ReadFields,
         fields: &mut RawData<'a>,
     ) -> Result<GroupValues<'a>>
-        ensures { Decodes (group_values (number_in endian) format.0) group_of (bytes_of fields.old) result
-            (bytes_of fields.new) }
+        ensures decodes { Decodes (group_values (number_in endian) format.0) group_of (bytes_of fields.old)
+            result (bytes_of fields.new) }
+        ensures single { KeepsSingle SingleGroup fields.old result fields.new }
     {
         let count = read_u64(endian, fields)?;
         let times = Times::parse(endian, format, fields)?;
@@ -258,8 +265,9 @@ impl<'a> ReadValues<'a> {
         read_format: ReadFields,
         fields: &mut RawData<'a>,
     ) -> Result<ReadValues<'a>>
-        ensures { Decodes (read_values (number_in endian) read_format.0) values_of
+        ensures decodes { Decodes (read_values (number_in endian) read_format.0) values_of
             (bytes_of fields.old) result (bytes_of fields.new) }
+        ensures single { KeepsSingle SingleValuesOf fields.old result fields.new }
     {
         if read_format.contains(ReadFields::GROUP) {
             let group = GroupValues::parse(endian, read_format, fields)?;
@@ -277,8 +285,9 @@ impl<'a> ReadValues<'a> {
         read_format: ReadFields,
         fields: &mut RawData<'a>,
     ) -> Result<Option<ReadValues<'a>>>
-        ensures { Decodes (optional present (read_values (number_in endian) read_format.0))
+        ensures decodes { Decodes (optional present (read_values (number_in endian) read_format.0))
             (option_map values_of) (bytes_of fields.old) result (bytes_of fields.new) }
+        ensures single { KeepsSingle (λ v. IfSome v SingleValuesOf) fields.old result fields.new }
     {
         if !present {
             return Ok(None);

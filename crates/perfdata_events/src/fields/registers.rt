@@ -1,7 +1,9 @@
 //! The registers in samples.
-ghost use Rattle.std.specs.Prelude.{◌≡◌};
+ghost use Rattle.std.specs.Prelude.{◌≡◌, IfSome};
 ghost use Rattle.std.specs.Option.{option_map};
 ghost use Rattle.perfdata_base.specs.Raw.{bytes_of};
+ghost use Rattle.perfdata_events.specs.Single.{KeepsSingle};
+ghost use Rattle.perfdata_events.specs.SingleParts.{SingleRegisters};
 ghost use Rattle.perfdata_base.specs.Endian.{number_in};
 ghost use Rattle.perfdata_base.specs.ParseInfo.{is_set};
 ghost use Rattle.perfdata_events.specs.Format.{Decodes, optional};
@@ -48,8 +50,9 @@ impl<'a> Registers<'a> {
 
     // Removes the registers of a mask.
     fn parse(endian: Endianness, mask: u64, fields: &mut RawData<'a>) -> Result<Registers<'a>>
-        ensures { Decodes (registers (number_in endian) mask) registers_of (bytes_of fields.old) result
-            (bytes_of fields.new) }
+        ensures decodes { Decodes (registers (number_in endian) mask) registers_of (bytes_of fields.old)
+            result (bytes_of fields.new) }
+        ensures single { KeepsSingle SingleRegisters fields.old result fields.new }
     {
         let abi = read_u64(endian, fields)?;
         let count = Registers::count(abi, mask);
@@ -68,9 +71,10 @@ impl<'a> Registers<'a> {
         masks: RegisterMasks,
         fields: &mut RawData<'a>,
     ) -> Result<Option<Registers<'a>>>
-        ensures { Decodes (optional (is_set sample_format.0 REGS_USER)
+        ensures decodes { Decodes (optional (is_set sample_format.0 REGS_USER)
             (registers (number_in endian) masks.user)) (option_map registers_of) (bytes_of fields.old) result
             (bytes_of fields.new) }
+        ensures single { KeepsSingle (λ v. IfSome v SingleRegisters) fields.old result fields.new }
     {
         if !sample_format.contains(SampleFields::REGS_USER) {
             return Ok(None);
@@ -89,9 +93,10 @@ impl<'a> Registers<'a> {
         masks: RegisterMasks,
         fields: &mut RawData<'a>,
     ) -> Result<Option<Registers<'a>>>
-        ensures { Decodes (optional (is_set sample_format.0 REGS_INTR)
+        ensures decodes { Decodes (optional (is_set sample_format.0 REGS_INTR)
             (registers (number_in endian) masks.interrupt)) (option_map registers_of)
             (bytes_of fields.old) result (bytes_of fields.new) }
+        ensures single { KeepsSingle (λ v. IfSome v SingleRegisters) fields.old result fields.new }
     {
         if !sample_format.contains(SampleFields::REGS_INTR) {
             return Ok(None);

@@ -1,7 +1,9 @@
 //! The fields of a sample from its weight on.
-ghost use Rattle.std.specs.Prelude.{◌≡◌, ◌||◌};
+ghost use Rattle.std.specs.Prelude.{◌≡◌, ◌||◌, IfSome};
 ghost use Rattle.std.specs.Option.{option_map};
-ghost use Rattle.perfdata_base.specs.Raw.{bytes_of};
+ghost use Rattle.perfdata_base.specs.Raw.{bytes_of, IsSingle};
+ghost use Rattle.perfdata_events.specs.Single.{KeepsSingle, NoParts};
+ghost use Rattle.perfdata_events.specs.SingleParts.{SingleEnd};
 ghost use Rattle.perfdata_base.specs.Endian.{number_in};
 ghost use Rattle.perfdata_base.specs.ParseInfo.{is_set};
 ghost use Rattle.perfdata_events.specs.Format.{Decodes, optional};
@@ -91,8 +93,9 @@ impl DataWords {
         format: SampleFields,
         fields: &mut RawData<'_>,
     ) -> Result<DataWords>
-        ensures { Decodes (data_words (number_in endian) format.0) (λ v. v) (bytes_of fields.old) result
-            (bytes_of fields.new) }
+        ensures decodes { Decodes (data_words (number_in endian) format.0) (λ v. v) (bytes_of fields.old)
+            result (bytes_of fields.new) }
+        ensures single { KeepsSingle NoParts fields.old result fields.new }
     {
         let data_source = read_u64_if(endian, fields, format.contains(SampleFields::DATA_SRC))?;
         let transaction = read_u64_if(endian, fields, format.contains(SampleFields::TRANSACTION))?;
@@ -113,8 +116,9 @@ impl PageWords {
         format: SampleFields,
         fields: &mut RawData<'_>,
     ) -> Result<PageWords>
-        ensures { Decodes (page_words (number_in endian) format.0) (λ v. v) (bytes_of fields.old) result
-            (bytes_of fields.new) }
+        ensures decodes { Decodes (page_words (number_in endian) format.0) (λ v. v) (bytes_of fields.old)
+            result (bytes_of fields.new) }
+        ensures single { KeepsSingle NoParts fields.old result fields.new }
     {
         let physical_address = read_u64_if(
             endian,
@@ -150,8 +154,9 @@ pub fn has_weight(bits: SampleFields) -> bool
 
 // Removes aux data, whose size is eight bytes before it.
 fn read_aux_data<'a>(endian: Endianness, fields: &mut RawData<'a>) -> Result<RawData<'a>>
-    ensures { Decodes (aux_data (number_in endian)) bytes_of (bytes_of fields.old) result
+    ensures decodes { Decodes (aux_data (number_in endian)) bytes_of (bytes_of fields.old) result
         (bytes_of fields.new) }
+    ensures single { KeepsSingle IsSingle fields.old result fields.new }
 {
     let size = read_u64(endian, fields)?;
     read_block(fields, size as usize)
@@ -164,8 +169,9 @@ fn read_aux_data_if<'a>(
     present: bool,
     fields: &mut RawData<'a>,
 ) -> Result<Option<RawData<'a>>>
-    ensures { Decodes (optional present (aux_data (number_in endian))) (option_map bytes_of)
+    ensures decodes { Decodes (optional present (aux_data (number_in endian))) (option_map bytes_of)
         (bytes_of fields.old) result (bytes_of fields.new) }
+    ensures single { KeepsSingle (λ v. IfSome v IsSingle) fields.old result fields.new }
 {
     if !present {
         return Ok(None);
@@ -187,8 +193,9 @@ impl<'a> SampleEnd<'a> {
         masks: RegisterMasks,
         fields: &mut RawData<'a>,
     ) -> Result<SampleEnd<'a>>
-        ensures { Decodes (sample_end (number_in endian) sample_format.0 masks) end_of
+        ensures decodes { Decodes (sample_end (number_in endian) sample_format.0 masks) end_of
             (bytes_of fields.old) result (bytes_of fields.new) }
+        ensures single { KeepsSingle SingleEnd fields.old result fields.new }
     {
         let weight = read_u64_if(endian, fields, has_weight(sample_format))?;
         let data = DataWords::parse(endian, sample_format, fields)?;

@@ -2,7 +2,8 @@
 ghost use Rattle.std.specs.Prelude.{◌≡◌};
 ghost use Rattle.std.specs.IoError.{error_kind};
 ghost use Rattle.std.specs.declared.io.ErrorKind.TheVariants.{InvalidData};
-ghost use Rattle.perfdata_base.specs.Raw.{bytes_of};
+ghost use Rattle.perfdata_base.specs.Raw.{bytes_of, IsSingle};
+ghost use Rattle.perfdata_events.specs.Single.{KeepsSingle};
 ghost use Rattle.perfdata_events.specs.Format.{Decodes, text};
 
 use perfdata_base::raw::RawData;
@@ -18,7 +19,8 @@ pub(crate) fn invalid_data() -> Error
 ///
 /// Fails with an `InvalidData` error if there is no NUL.
 pub fn read_text<'a>(fields: &mut RawData<'a>) -> Result<RawData<'a>>
-    ensures { Decodes text bytes_of (bytes_of fields.old) result (bytes_of fields.new) }
+    ensures decodes { Decodes text bytes_of (bytes_of fields.old) result (bytes_of fields.new) }
+    ensures single { KeepsSingle IsSingle fields.old result fields.new }
 {
     fields.read_string().ok_or(invalid_data())
 }

@@ -1,7 +1,8 @@
 //! Numbers of eight bytes each.
 ghost use Rattle.std.specs.Prelude.{◌≡◌, ◌≢◌, ◌*◌, ◌/◌, ◌%◌, IfSome, IfNone, length};
 ghost use Rattle.std.specs.Iterator.{YieldsFirstBy, item_count};
-ghost use Rattle.perfdata_base.specs.Raw.{bytes_of};
+ghost use Rattle.perfdata_base.specs.Raw.{bytes_of, IsSingle};
+ghost use Rattle.perfdata_events.specs.Single.{KeepsSingle};
 ghost use Rattle.perfdata_events.specs.Format.{Decodes, block};
 
 use crate::fields::words::{read_u64, split_first_u64};
@@ -110,7 +111,9 @@ pub(crate) fn split_off_elements<'a>(
     count: u64,
     size: u64,
 ) -> Result<RawData<'a>>
-    ensures { Decodes (block (count * size)) bytes_of (bytes_of fields.old) result (bytes_of fields.new) }
+    ensures decodes { Decodes (block (count * size)) bytes_of (bytes_of fields.old) result
+        (bytes_of fields.new) }
+    ensures single { KeepsSingle IsSingle fields.old result fields.new }
 {
     let _len = fields.len();
     let Some(len) = count.checked_mul(size) else {
@@ -123,7 +126,8 @@ pub(crate) fn split_off_elements<'a>(
 ///
 /// Fails with an `UnexpectedEof` error if they are truncated.
 pub fn read_block<'a>(fields: &mut RawData<'a>, len: usize) -> Result<RawData<'a>>
-    ensures { Decodes (block len) bytes_of (bytes_of fields.old) result (bytes_of fields.new) }
+    ensures decodes { Decodes (block len) bytes_of (bytes_of fields.old) result (bytes_of fields.new) }
+    ensures single { KeepsSingle IsSingle fields.old result fields.new }
 {
     fields.split_off_prefix(len)
 }

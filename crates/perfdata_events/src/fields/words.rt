@@ -1,6 +1,8 @@
 //! Optional words of eight bytes each, and lists of numbers.
 ghost use Rattle.std.specs.Prelude.{◌≡◌, ◌<◌, ◌*◌, [], ◌∷◌, IfSome, IfNone, length};
 ghost use Rattle.perfdata_base.specs.Raw.{bytes_of};
+ghost use Rattle.perfdata_events.specs.Single.{KeepsSingle, NoParts};
+ghost use Rattle.perfdata_events.specs.SingleParts.{SingleNumbers};
 ghost use Rattle.perfdata_base.specs.Endian.{number_in};
 ghost use Rattle.perfdata_events.specs.Format.{Decodes, fixed};
 ghost use Rattle.perfdata_events.specs.Fields.{u32_at, u64_at};
@@ -22,8 +24,9 @@ pub fn read_u64_if(
     fields: &mut RawData<'_>,
     present: bool,
 ) -> Result<Option<u64>>
-    ensures { Decodes (word present (u64_at (number_in endian) 0)) (λ v. v) (bytes_of fields.old) result
-        (bytes_of fields.new) }
+    ensures decodes { Decodes (word present (u64_at (number_in endian) 0)) (λ v. v) (bytes_of fields.old)
+        result (bytes_of fields.new) }
+    ensures single { KeepsSingle NoParts fields.old result fields.new }
 {
     if !present {
         return Ok(None);
@@ -42,8 +45,9 @@ pub fn read_u32_if(
     fields: &mut RawData<'_>,
     present: bool,
 ) -> Result<Option<u32>>
-    ensures { Decodes (word present (u32_at (number_in endian) 0)) (λ v. v) (bytes_of fields.old) result
-        (bytes_of fields.new) }
+    ensures decodes { Decodes (word present (u32_at (number_in endian) 0)) (λ v. v) (bytes_of fields.old)
+        result (bytes_of fields.new) }
+    ensures single { KeepsSingle NoParts fields.old result fields.new }
 {
     if !present {
         return Ok(None);
@@ -62,8 +66,9 @@ pub fn read_task_if(
     fields: &mut RawData<'_>,
     present: bool,
 ) -> Result<Option<Task>>
-    ensures { Decodes (word present (task_at (number_in endian))) (λ v. v) (bytes_of fields.old) result
-        (bytes_of fields.new) }
+    ensures decodes { Decodes (word present (task_at (number_in endian))) (λ v. v) (bytes_of fields.old)
+        result (bytes_of fields.new) }
+    ensures single { KeepsSingle NoParts fields.old result fields.new }
 {
     if !present {
         return Ok(None);
@@ -80,8 +85,9 @@ pub fn read_task_if(
 ///
 /// Fails with an `UnexpectedEof` error if it is truncated.
 pub fn read_u64(endian: Endianness, fields: &mut RawData<'_>) -> Result<u64>
-    ensures { Decodes (fixed 8 (u64_at (number_in endian) 0)) (λ v. v) (bytes_of fields.old) result
+    ensures decodes { Decodes (fixed 8 (u64_at (number_in endian) 0)) (λ v. v) (bytes_of fields.old) result
         (bytes_of fields.new) }
+    ensures single { KeepsSingle NoParts fields.old result fields.new }
 {
     let mut bytes = [0u8; 8];
     fields.read_exact(&mut bytes)?;
@@ -92,8 +98,9 @@ pub fn read_u64(endian: Endianness, fields: &mut RawData<'_>) -> Result<u64>
 ///
 /// Fails with an `UnexpectedEof` error if it is truncated.
 pub fn read_u32(endian: Endianness, fields: &mut RawData<'_>) -> Result<u32>
-    ensures { Decodes (fixed 4 (u32_at (number_in endian) 0)) (λ v. v) (bytes_of fields.old) result
+    ensures decodes { Decodes (fixed 4 (u32_at (number_in endian) 0)) (λ v. v) (bytes_of fields.old) result
         (bytes_of fields.new) }
+    ensures single { KeepsSingle NoParts fields.old result fields.new }
 {
     let mut bytes = [0u8; 4];
     fields.read_exact(&mut bytes)?;
@@ -104,8 +111,9 @@ pub fn read_u32(endian: Endianness, fields: &mut RawData<'_>) -> Result<u32>
 ///
 /// Fails with an `UnexpectedEof` error if they are truncated.
 pub fn read_task(endian: Endianness, fields: &mut RawData<'_>) -> Result<Task>
-    ensures { Decodes (fixed 8 (task_at (number_in endian))) (λ v. v) (bytes_of fields.old) result
+    ensures decodes { Decodes (fixed 8 (task_at (number_in endian))) (λ v. v) (bytes_of fields.old) result
         (bytes_of fields.new) }
+    ensures single { KeepsSingle NoParts fields.old result fields.new }
 {
     let mut bytes = [0u8; 8];
     fields.read_exact(&mut bytes)?;
@@ -125,8 +133,9 @@ pub fn read_u64s<'a>(
     width: u64,
 ) -> Result<RawDataU64<'a>>
     requires { width < 1024 }
-    ensures { Decodes (u64s (number_in endian) (width * count)) u64s_in (bytes_of fields.old) result
+    ensures decodes { Decodes (u64s (number_in endian) (width * count)) u64s_in (bytes_of fields.old) result
         (bytes_of fields.new) }
+    ensures single { KeepsSingle SingleNumbers fields.old result fields.new }
 {
     let bytes = split_off_elements(fields, count, 8 * width)?;
     Ok(RawDataU64 { endian, bytes })
@@ -140,8 +149,9 @@ pub fn read_u64_list<'a>(
     fields: &mut RawData<'a>,
     count: u64,
 ) -> Result<RawDataU64<'a>>
-    ensures { Decodes (u64s (number_in endian) count) u64s_in (bytes_of fields.old) result
+    ensures decodes { Decodes (u64s (number_in endian) count) u64s_in (bytes_of fields.old) result
         (bytes_of fields.new) }
+    ensures single { KeepsSingle SingleNumbers fields.old result fields.new }
 {
     read_u64s(endian, fields, count, 1)
 }

@@ -6,8 +6,8 @@ use Rattle.perfdata_events.specs.Fields.{u16_at, u64_at}
 use Rattle.perfdata_events.proofs.Blocks.{two_blocks_at, block_len}
 use Rattle.perfdata_events.proofs.kernel.TextPokeRecord.parse.Goals as goal
 
-pub returns : goal.returns
-returns c =
+pub returns-clause-decodes : goal.returns-clause-decodes
+returns-clause-decodes c =
     let number = number_in c.args.endian in
     let header = c.in_ok-read_exact.ensures in
     let old = c.in_ok-old_bytes.ensures in

@@ -6,20 +6,20 @@ use Rattle.perfdata_events.specs.Sample.{branches_of}
 use Rattle.perfdata_events.specs.Registers.{registers_of}
 use Rattle.perfdata_events.proofs.sample.SampleMiddle.parse.Goals as goal
 
-pub returns-in_err-branch_stack : goal.returns-in_err-branch_stack
-returns-in_err-branch_stack c =
+pub returns-in_err-branch_stack-clause-decodes : goal.returns-in_err-branch_stack-clause-decodes
+returns-in_err-branch_stack-clause-decodes c =
     let p = err_from_is_err_and c.from_residual-in_err-branch_stack.result c.from_residual-in_err-branch_stack.ensures.1 in
-    rw (p.1, p.2) (inr record { value = option_map bytes_of c.in_ok-raw.raw; middle = bytes_of c.read_raw_data_if.new.fields; starts = (rw (c.contains.ensures tt) at c.in_ok-raw.ensures); error = (inl (rw (c.contains-2.ensures tt) at c.in_err-branch_stack.ensures)) })
+    rw (p.1, p.2) (inr record { value = option_map bytes_of c.in_ok-raw.raw; middle = bytes_of c.read_raw_data_if.new.fields; starts = (rw (c.contains.ensures tt) at c.in_ok-raw.ensures.decodes); error = (inl (rw (c.contains-2.ensures tt) at c.in_err-branch_stack.ensures.decodes)) })
 
-pub returns-in_err-user_registers : goal.returns-in_err-user_registers
-returns-in_err-user_registers c =
+pub returns-in_err-user_registers-clause-decodes : goal.returns-in_err-user_registers-clause-decodes
+returns-in_err-user_registers-clause-decodes c =
     let p = err_from_is_err_and c.from_residual-in_err-user_registers.result c.from_residual-in_err-user_registers.ensures.1 in
-    rw (p.1, p.2) (inr record { value = option_map bytes_of c.in_ok-raw.raw; middle = bytes_of c.read_raw_data_if.new.fields; starts = (rw (c.contains.ensures tt) at c.in_ok-raw.ensures); error = (inr record { value = option_map branches_of c.in_ok-branch_stack.branch_stack; middle = bytes_of c.parse_if.new.fields; starts = (rw (c.contains-2.ensures tt) at c.in_ok-branch_stack.ensures); error = (inl (rw c.register_masks.ensures at c.in_err-user_registers.ensures)) }) })
+    rw (p.1, p.2) (inr record { value = option_map bytes_of c.in_ok-raw.raw; middle = bytes_of c.read_raw_data_if.new.fields; starts = (rw (c.contains.ensures tt) at c.in_ok-raw.ensures.decodes); error = (inr record { value = option_map branches_of c.in_ok-branch_stack.branch_stack; middle = bytes_of c.parse_if.new.fields; starts = (rw (c.contains-2.ensures tt) at c.in_ok-branch_stack.ensures.decodes); error = (inl (rw c.register_masks.ensures at c.in_err-user_registers.ensures.decodes)) }) })
 
-pub returns-in_err-user_stack : goal.returns-in_err-user_stack
-returns-in_err-user_stack c =
+pub returns-in_err-user_stack-clause-decodes : goal.returns-in_err-user_stack-clause-decodes
+returns-in_err-user_stack-clause-decodes c =
     let p = err_from_is_err_and c.from_residual-in_err-user_stack.result c.from_residual-in_err-user_stack.ensures.1 in
-    rw (p.1, p.2) (inr record { value = option_map bytes_of c.in_ok-raw.raw; middle = bytes_of c.read_raw_data_if.new.fields; starts = (rw (c.contains.ensures tt) at c.in_ok-raw.ensures); error = (inr record { value = option_map branches_of c.in_ok-branch_stack.branch_stack; middle = bytes_of c.parse_if.new.fields; starts = (rw (c.contains-2.ensures tt) at c.in_ok-branch_stack.ensures); error = (inr record { value = option_map registers_of c.in_ok-user_registers.user_registers; middle = bytes_of c.parse_user.new.fields; starts = (rw c.register_masks.ensures at c.in_ok-user_registers.ensures); error = (rw (c.contains-3.ensures tt) at c.in_err-user_stack.ensures) }) }) })
+    rw (p.1, p.2) (inr record { value = option_map bytes_of c.in_ok-raw.raw; middle = bytes_of c.read_raw_data_if.new.fields; starts = (rw (c.contains.ensures tt) at c.in_ok-raw.ensures.decodes); error = (inr record { value = option_map branches_of c.in_ok-branch_stack.branch_stack; middle = bytes_of c.parse_if.new.fields; starts = (rw (c.contains-2.ensures tt) at c.in_ok-branch_stack.ensures.decodes); error = (inr record { value = option_map registers_of c.in_ok-user_registers.user_registers; middle = bytes_of c.parse_user.new.fields; starts = (rw c.register_masks.ensures at c.in_ok-user_registers.ensures.decodes); error = (rw (c.contains-3.ensures tt) at c.in_err-user_stack.ensures.decodes) }) }) })
 
-pub returns : goal.returns
-returns c = record { middle = bytes_of c.read_raw_data_if.new.fields; starts = (rw (c.contains.ensures tt) at c.in_ok-raw.ensures); goes_on = record { middle = bytes_of c.parse_if.new.fields; starts = (rw (c.contains-2.ensures tt) at c.in_ok-branch_stack.ensures); goes_on = record { middle = bytes_of c.parse_user.new.fields; starts = (rw c.register_masks.ensures at c.in_ok-user_registers.ensures); goes_on = (rw (c.contains-3.ensures tt) at c.in_ok-user_stack.ensures) } } }
+pub returns-clause-decodes : goal.returns-clause-decodes
+returns-clause-decodes c = record { middle = bytes_of c.read_raw_data_if.new.fields; starts = (rw (c.contains.ensures tt) at c.in_ok-raw.ensures.decodes); goes_on = record { middle = bytes_of c.parse_if.new.fields; starts = (rw (c.contains-2.ensures tt) at c.in_ok-branch_stack.ensures.decodes); goes_on = record { middle = bytes_of c.parse_user.new.fields; starts = (rw c.register_masks.ensures at c.in_ok-user_registers.ensures.decodes); goes_on = (rw (c.contains-3.ensures tt) at c.in_ok-user_stack.ensures.decodes) } } }

@@ -5,7 +5,7 @@ use Rattle.perfdata_events.specs.Sample.{branch_stack, branches_of}
 use Rattle.perfdata_events.proofs.Optional.{decodes_some}
 use Rattle.perfdata_events.proofs.sample_parts.BranchStack.parse_if.Goals as goal
 
-pub returns : goal.returns
-returns c =
+pub returns-clause-decodes : goal.returns-clause-decodes
+returns-clause-decodes c =
     let present : c.args.present ≡ true = search rules in
-    decodes_some (branch_stack (number_in c.args.endian) c.args.branch_sample_type.0) branches_of c.args.present (bytes_of c.args.fields.now) (bytes_of c.parse.new.fields) present c.parse.result c.map.result c.parse.ensures c.map.ensures.cases
+    decodes_some (branch_stack (number_in c.args.endian) c.args.branch_sample_type.0) branches_of c.args.present (bytes_of c.args.fields.now) (bytes_of c.parse.new.fields) present c.parse.result c.map.result c.parse.ensures.decodes c.map.ensures.cases

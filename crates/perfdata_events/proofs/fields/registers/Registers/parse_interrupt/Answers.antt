@@ -6,7 +6,7 @@ use Rattle.perfdata_events.specs.Registers.{registers, registers_of}
 use Rattle.perfdata_events.proofs.Optional.{decodes_some}
 use Rattle.perfdata_events.proofs.fields.registers.Registers.parse_interrupt.Goals as goal
 
-pub returns : goal.returns
-returns c =
+pub returns-clause-decodes : goal.returns-clause-decodes
+returns-clause-decodes c =
     let present : c.contains.result ≡ true = search rules in
-    decodes_some (registers (number_in c.args.endian) c.args.masks.interrupt) registers_of (is_set c.args.sample_format.0 18) (bytes_of c.args.fields.now) (bytes_of c.parse.new.fields) (sym (c.contains.ensures tt) ∙ present) c.parse.result c.map.result c.parse.ensures c.map.ensures.cases
+    decodes_some (registers (number_in c.args.endian) c.args.masks.interrupt) registers_of (is_set c.args.sample_format.0 18) (bytes_of c.args.fields.now) (bytes_of c.parse.new.fields) (sym (c.contains.ensures tt) ∙ present) c.parse.result c.map.result c.parse.ensures.decodes c.map.ensures.cases

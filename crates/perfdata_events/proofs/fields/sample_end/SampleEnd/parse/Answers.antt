@@ -5,20 +5,20 @@ use Rattle.std.specs.Option.{option_map}
 use Rattle.perfdata_events.specs.Registers.{registers_of}
 use Rattle.perfdata_events.proofs.fields.sample_end.SampleEnd.parse.Goals as goal
 
-pub returns-in_err-interrupt_registers : goal.returns-in_err-interrupt_registers
-returns-in_err-interrupt_registers c =
+pub returns-in_err-interrupt_registers-clause-decodes : goal.returns-in_err-interrupt_registers-clause-decodes
+returns-in_err-interrupt_registers-clause-decodes c =
     let p = err_from_is_err_and c.from_residual-in_err-interrupt_registers.result c.from_residual-in_err-interrupt_registers.ensures.1 in
-    rw (p.1, p.2) (inr record { value = c.in_ok-weight.weight; middle = bytes_of c.read_u64_if.new.fields; starts = (rw c.has_weight.ensures at c.in_ok-weight.ensures); error = (inr record { value = c.in_ok-data.data; middle = bytes_of c.parse.new.fields; starts = c.in_ok-data.ensures; error = (inl c.in_err-interrupt_registers.ensures) }) })
+    rw (p.1, p.2) (inr record { value = c.in_ok-weight.weight; middle = bytes_of c.read_u64_if.new.fields; starts = (rw c.has_weight.ensures at c.in_ok-weight.ensures.decodes); error = (inr record { value = c.in_ok-data.data; middle = bytes_of c.parse.new.fields; starts = c.in_ok-data.ensures.decodes; error = (inl c.in_err-interrupt_registers.ensures.decodes) }) })
 
-pub returns-in_err-pages : goal.returns-in_err-pages
-returns-in_err-pages c =
+pub returns-in_err-pages-clause-decodes : goal.returns-in_err-pages-clause-decodes
+returns-in_err-pages-clause-decodes c =
     let p = err_from_is_err_and c.from_residual-in_err-pages.result c.from_residual-in_err-pages.ensures.1 in
-    rw (p.1, p.2) (inr record { value = c.in_ok-weight.weight; middle = bytes_of c.read_u64_if.new.fields; starts = (rw c.has_weight.ensures at c.in_ok-weight.ensures); error = (inr record { value = c.in_ok-data.data; middle = bytes_of c.parse.new.fields; starts = c.in_ok-data.ensures; error = (inr record { value = option_map registers_of c.in_ok-interrupt_registers.interrupt_registers; middle = bytes_of c.parse_interrupt.new.fields; starts = c.in_ok-interrupt_registers.ensures; error = (inl c.in_err-pages.ensures) }) }) })
+    rw (p.1, p.2) (inr record { value = c.in_ok-weight.weight; middle = bytes_of c.read_u64_if.new.fields; starts = (rw c.has_weight.ensures at c.in_ok-weight.ensures.decodes); error = (inr record { value = c.in_ok-data.data; middle = bytes_of c.parse.new.fields; starts = c.in_ok-data.ensures.decodes; error = (inr record { value = option_map registers_of c.in_ok-interrupt_registers.interrupt_registers; middle = bytes_of c.parse_interrupt.new.fields; starts = c.in_ok-interrupt_registers.ensures.decodes; error = (inl c.in_err-pages.ensures.decodes) }) }) })
 
-pub returns-in_err-aux_data : goal.returns-in_err-aux_data
-returns-in_err-aux_data c =
+pub returns-in_err-aux_data-clause-decodes : goal.returns-in_err-aux_data-clause-decodes
+returns-in_err-aux_data-clause-decodes c =
     let p = err_from_is_err_and c.from_residual-in_err-aux_data.result c.from_residual-in_err-aux_data.ensures.1 in
-    rw (p.1, p.2) (inr record { value = c.in_ok-weight.weight; middle = bytes_of c.read_u64_if.new.fields; starts = (rw c.has_weight.ensures at c.in_ok-weight.ensures); error = (inr record { value = c.in_ok-data.data; middle = bytes_of c.parse.new.fields; starts = c.in_ok-data.ensures; error = (inr record { value = option_map registers_of c.in_ok-interrupt_registers.interrupt_registers; middle = bytes_of c.parse_interrupt.new.fields; starts = c.in_ok-interrupt_registers.ensures; error = (inr record { value = c.in_ok-pages.pages; middle = bytes_of c.parse-2.new.fields; starts = c.in_ok-pages.ensures; error = (rw (c.contains.ensures tt) at c.in_err-aux_data.ensures) }) }) }) })
+    rw (p.1, p.2) (inr record { value = c.in_ok-weight.weight; middle = bytes_of c.read_u64_if.new.fields; starts = (rw c.has_weight.ensures at c.in_ok-weight.ensures.decodes); error = (inr record { value = c.in_ok-data.data; middle = bytes_of c.parse.new.fields; starts = c.in_ok-data.ensures.decodes; error = (inr record { value = option_map registers_of c.in_ok-interrupt_registers.interrupt_registers; middle = bytes_of c.parse_interrupt.new.fields; starts = c.in_ok-interrupt_registers.ensures.decodes; error = (inr record { value = c.in_ok-pages.pages; middle = bytes_of c.parse-2.new.fields; starts = c.in_ok-pages.ensures.decodes; error = (rw (c.contains.ensures tt) at c.in_err-aux_data.ensures.decodes) }) }) }) })
 
-pub returns : goal.returns
-returns c = record { middle = bytes_of c.read_u64_if.new.fields; starts = (rw c.has_weight.ensures at c.in_ok-weight.ensures); goes_on = record { middle = bytes_of c.parse.new.fields; starts = c.in_ok-data.ensures; goes_on = record { middle = bytes_of c.parse_interrupt.new.fields; starts = c.in_ok-interrupt_registers.ensures; goes_on = record { middle = bytes_of c.parse-2.new.fields; starts = c.in_ok-pages.ensures; goes_on = (rw (c.contains.ensures tt) at c.in_ok-aux_data.ensures) } } } }
+pub returns-clause-decodes : goal.returns-clause-decodes
+returns-clause-decodes c = record { middle = bytes_of c.read_u64_if.new.fields; starts = (rw c.has_weight.ensures at c.in_ok-weight.ensures.decodes); goes_on = record { middle = bytes_of c.parse.new.fields; starts = c.in_ok-data.ensures.decodes; goes_on = record { middle = bytes_of c.parse_interrupt.new.fields; starts = c.in_ok-interrupt_registers.ensures.decodes; goes_on = record { middle = bytes_of c.parse-2.new.fields; starts = c.in_ok-pages.ensures.decodes; goes_on = (rw (c.contains.ensures tt) at c.in_ok-aux_data.ensures.decodes) } } } }

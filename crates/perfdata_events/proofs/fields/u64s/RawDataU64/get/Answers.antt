@@ -25,4 +25,4 @@ returns-in-Ok-clause-number c =
     let bytes = bytes_of c.args.self.now.bytes in
     let size = ap (λ n. n / 8) c.len.ensures in
     let more = c.if-index-len.false in
-    u64_of_slice c.args.self.now.endian c.args.index bytes (bytes_of c.in_ok-bytes.bytes) _ c.in-Ok.number (omega (arith, size, more)) c.in_ok-bytes.ensures.bytes c.in-Ok.ensures
+    u64_of_slice c.args.self.now.endian c.args.index bytes (bytes_of c.in_ok-bytes.bytes) _ c.in-Ok.number (omega (arith, size, more)) c.in_ok-bytes.ensures.bytes c.in-Ok.ensures.decodes
