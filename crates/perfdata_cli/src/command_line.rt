@@ -24,15 +24,22 @@ pub const FAILURE: u8 = 2;
 const AFTER_HELP: &str =
     "Exit status: 0 at the end of the input, 1 for invalid arguments, 2 for an error.";
 
-/// Creates the command of a program: its name, what it does, `FILE`, help and version.
+/// The help of `FILE` of a program that reads perf.data files and pipes.
+pub const RECORDING_HELP: &str =
+    "A perf.data file or a pipe of perf; '-' is standard input [default: standard input if it is a FIFO, else perf.data]";
+
+/// The help of `FILE` of a program that also reads jitdumps.
+pub const RECORDING_OR_JITDUMP_HELP: &str =
+    "A perf.data file, a pipe of perf or a jitdump; '-' is standard input [default: standard input if it is a FIFO, else perf.data]";
+
+/// Creates the command of a program: its name, what it does, `FILE` with its help, help and version.
 pub fn command<'a>(
     alloc: Global,
     name: &'a str,
     about: &'a str,
+    file_help: &'a str,
 ) -> Result<Command<'a>, AllocError> {
-    let file = Arg::new(alloc, FILE).help(
-        "A perf.data file, a pipe of perf or a jitdump; '-' is standard input [default: standard input if it is a FIFO, else perf.data]",
-    );
+    let file = Arg::new(alloc, FILE).help(file_help);
     Command::new(alloc, name)
         .about(about)
         .version(VERSION)

@@ -3,14 +3,16 @@ ghost use Rattle.std.specs.Prelude.{◌≡◌, [], IfOk};
 ghost use Rattle.perfdata_base.specs.CountedBuffer.{buffered_state, counted_buffer_bytes};
 ghost use Rattle.perfdata_base.specs.Source.{opaque_source};
 
+use crate::error::InputError;
 use crate::input_bytes::{InputBytes, Unread};
+use linux_perf_data::in_memory::InMemoryReader;
 use perfdata_base::source::CountedBuffer;
 use std::alloc::Global;
-use std::fs;
 use std::fs::File;
 use std::io::{BufReader, Cursor, Input as StandardInput, Read, Result, Seek};
 use std::os::unix::fs::FileTypeExt;
 use std::rt::Files;
+use std::{fs, result};
 
 /// The size of an input buffer in bytes.
 pub const BUFFER_SIZE: usize = 65536;
@@ -41,7 +43,8 @@ pub enum InputKind {
     Jit,
 }
 
-/// Returns the header size after the magic value of a perf.data file or pipe, in the byte order of that value.
+/// Returns the header size after the magic value of a perf.data file or pipe, in the byte order of that
+/// value.
 fn header_size(start: &[u8]) -> Option<u64> {
     let size = start.get(8..16)?.first_chunk::<8>()?;
     match start.get(..8)? {
@@ -122,6 +125,17 @@ impl Input {
         })
     }
 
+    /// Returns whether the input is a pipe, otherwise it is a perf.data file.
+    ///
+    /// Fails with `UnknownFormat` if it is neither.
+    pub fn is_pipe(&self) -> result::Result<bool, InputError> {
+        match self.kind {
+            Some(InputKind::File) => Ok(false),
+            Some(InputKind::Pipe) => Ok(true),
+            Some(InputKind::Jit) | None => Err(InputError::UnknownFormat),
+        }
+    }
+
     /// Reads the input into memory.
     pub fn into_bytes(self) -> Result<Vec<u8>> {
         let Input {
@@ -160,6 +174,21 @@ impl Input {
         with_buffer(alloc, self.into_input_bytes()?)
     }
 }
+
+/// Opens a pipe or a perf.data file in memory. Fails with `Metadata` if its metadata can't be read.
+pub fn open_in_memory(
+    alloc: Global,
+    bytes: &[u8],
+    is_pipe: bool,
+) -> result::Result<InMemoryReader<'_>, InputError> {
+    let opened = if is_pipe {
+        InMemoryReader::parse_pipe(alloc, bytes)
+    } else {
+        InMemoryReader::parse_file(alloc, bytes)
+    };
+    opened.map_err(InputError::Metadata)
+}
+
 /// Buffers a reader. Fails if the allocation of the buffer fails.
 fn with_buffer<R: Read + Drop>(alloc: Global, reader: R) -> Result<CountedBuffer<R>>
     ensures counts { IfOk result (λ s. buffered_state s ≡ opaque_source 0 0) }

@@ -59,8 +59,8 @@ pub struct ElfFile<R> {
 impl<R: PlacedSource + Drop> ElfFile<R> {
     /// Reads the file header, the section headers with their names, and the program headers.
     ///
-    /// The errors are those of [`ElfError`]. No count of the file reserves memory: tables are read in pieces of
-    /// at most 4,096 bytes.
+    /// The errors are those of [`ElfError`]. No count of the file reserves memory: tables are read in pieces
+    /// of at most 4,096 bytes.
     pub fn open(alloc: Global, mut source: R) -> Result<ElfFile<R>, ElfError> {
         let mut header = header::read_file_header(&mut source)?;
         let sections = header::read_sections(alloc, &mut source, &mut header)?;
@@ -100,8 +100,8 @@ impl<R: PlacedSource + Drop> ElfFile<R> {
         }
     }
 
-    /// Reads the build id, or `None` if the file has none: the first note of the type `NT_GNU_BUILD_ID` in the
-    /// `PT_NOTE` segments, or in the note sections. The first 65,536 bytes of each are searched.
+    /// Reads the build id, or `None` if the file has none: the first note of the type `NT_GNU_BUILD_ID` in
+    /// the `PT_NOTE` segments, or in the note sections. The first 65,536 bytes of each are searched.
     pub fn build_id(&mut self, alloc: Global) -> Result<Option<Vec<u8>>, ElfError> {
         let encoding = self.header.encoding;
         'notes: for range in self.notes.iter() {

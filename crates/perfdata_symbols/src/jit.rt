@@ -139,8 +139,8 @@ fn add_next<R: Source>(
 impl JitSymbols {
     /// Reads the load and move records of a jitdump, up to its end or its first incomplete record.
     ///
-    /// It fails with `Jitdump` if the file does not open as a jitdump, with `Io` if a record is invalid or the
-    /// source fails, and with `Memory` if out of memory.
+    /// It fails with `Jitdump` if the file does not open as a jitdump, with `Io` if a record is invalid or
+    /// the source fails, and with `Memory` if out of memory.
     pub fn read<R: Source + Drop>(alloc: Global, source: R) -> Result<JitSymbols, JitSymbolsError> {
         let mut reader = JitDumpReader::new(alloc, source)?;
         let mut loads = Loads {

@@ -67,12 +67,12 @@ fn extend_to_next(symbols: &mut [Symbol]) {
     }
 }
 
-/// Makes a table of the text of such a list. The symbol at an address below 2^64 - 1 is the last line of those
-/// with the greatest address at or before it.
+/// Makes a table of the text of such a list. The symbol at an address below 2^64 - 1 is the last line of
+/// those with the greatest address at or before it.
 ///
 /// A line is `ADDRESS TYPE NAME`, and after a tab the name of a module in brackets, which isn't part of the
-/// name. Lines of other types than T, W, D and B, in both cases, names that start with `$`, and malformed lines
-/// are skipped.
+/// name. Lines of other types than T, W, D and B, in both cases, names that start with `$`, and malformed
+/// lines are skipped.
 pub fn parse_kallsyms(alloc: Global, text: Vec<u8>) -> Result<SymbolTable, AllocError>
     ensures names { IfOk result (λ t. names_of t ≡ text.items) }
 {

@@ -30,8 +30,8 @@ fn symbol_of_line(line: &[u8], offset: usize) -> Option<Symbol>
 
 /// Makes a table of the text of such a file. The last line that contains an address is preferred.
 ///
-/// A line is `START SIZE NAME`: two hexadecimal numbers below 2^64, each followed by one space, and a name of at
-/// least one byte, which may contain spaces. Other lines are skipped.
+/// A line is `START SIZE NAME`: two hexadecimal numbers below 2^64, each followed by one space, and a name of
+/// at least one byte, which may contain spaces. Other lines are skipped.
 pub fn parse_perf_map(alloc: Global, text: Vec<u8>) -> Result<SymbolTable, AllocError>
     ensures names { IfOk result (λ t. names_of t ≡ text.items) }
 {

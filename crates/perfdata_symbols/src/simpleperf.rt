@@ -41,9 +41,9 @@ fn add_symbol(
     Ok(())
 }
 
-/// Makes a table of the symbols of a file. Their starts are offsets in the file if it is an ELF file (`vaddr -
-/// min_vaddr + file_offset_of_min_vaddr`), and addresses otherwise. The symbol with the greatest start is
-/// preferred.
+/// Makes a table of the symbols of a file. Their starts are offsets in the file if it is an ELF file
+/// (`vaddr - min_vaddr + file_offset_of_min_vaddr`), and addresses otherwise. The symbol with the greatest
+/// start is preferred.
 pub fn table_of_record(
     alloc: Global,
     record: &SimpleperfFileRecord,

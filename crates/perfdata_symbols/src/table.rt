@@ -26,8 +26,8 @@ pub struct SymbolTable {
 impl SymbolTable {
     ghost use Rattle.perfdata_symbols.specs.SymbolTable.{names_of, symbols_of};
 
-    /// Makes a table without symbols. `names` contains the names of the symbols that `push` will add, anywhere
-    /// and in any order.
+    /// Makes a table without symbols. `names` contains the names of the symbols that `push` will add,
+    /// anywhere and in any order.
     pub fn new(alloc: Global, names: Vec<u8>) -> SymbolTable
         ensures symbols { symbols_of result ≡ [] }
         ensures names { names_of result ≡ names.items }

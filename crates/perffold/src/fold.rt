@@ -38,10 +38,10 @@ pub(crate) struct Folder<'a> {
     names: NameTable,
     frame_names: FrameNames,
     /// The sum of the weights of each stack: the numbers of its names.
-    stacks: HashMap<Vec<u32>, u64>,
+    stacks: HashMap<Vec<usize>, u64>,
     /// The sum of all weights.
     total: u64,
-    stack: Vec<u32>,
+    stack: Vec<usize>,
     comm: Vec<u8>,
     records: u64,
     other_events: u64,
@@ -269,7 +269,7 @@ impl<'a> Folder<'a> {
 }
 
 /// Sets a line to the names of a stack.
-fn set_line(line: &mut Vec<u8>, names: &NameTable, stack: &[u32]) -> Result<(), AllocError> {
+fn set_line(line: &mut Vec<u8>, names: &NameTable, stack: &[usize]) -> Result<(), AllocError> {
     line.clear();
     for (at, number) in stack.iter().enumerate() {
         if at > 0 {

@@ -34,7 +34,7 @@ const MEMORY_PATHS: [&[u8]; 6] = [
 pub(crate) struct FrameNames {
     kind: NameKind,
     /// The number of the name of each mapping.
-    of_mappings: Vec<Option<u32>>,
+    of_mappings: Vec<Option<usize>>,
     text: Vec<u8>,
 }
 
@@ -71,9 +71,9 @@ impl FrameNames {
         }
     }
 
-    /// Returns the number of the name of a mapping: that of its file in brackets, or of the process's map file
-    /// for executable memory without a file.
-    fn file_number(&mut self, mapping: &Mapping, names: &mut NameTable) -> Result<u32, Error> {
+    /// Returns the number of the name of a mapping: that of its file in brackets, or of the process's map
+    /// file for executable memory without a file.
+    fn file_number(&mut self, mapping: &Mapping, names: &mut NameTable) -> Result<usize, Error> {
         self.text.clear();
         self.text.push(b'[')?;
         if is_anonymous(mapping) && mapping.protection & PROTECTION_EXEC != 0 {
@@ -91,7 +91,7 @@ impl FrameNames {
         index: u32,
         mapping: &Mapping,
         names: &mut NameTable,
-    ) -> Result<u32, Error> {
+    ) -> Result<usize, Error> {
         let at = index as usize;
         if let Some(Some(number)) = self.of_mappings.get(at) {
             return Ok(*number);
@@ -107,7 +107,7 @@ impl FrameNames {
     }
 
     /// Returns the number of an address as a name.
-    fn address_number(&mut self, address: u64, names: &mut NameTable) -> Result<u32, Error> {
+    fn address_number(&mut self, address: u64, names: &mut NameTable) -> Result<usize, Error> {
         self.text.clear();
         write!(self.text, "{address:#x}")?;
         Ok(names.number(self.text.as_slice())?)
@@ -120,7 +120,7 @@ impl FrameNames {
         frame: Frame,
         spaces: &AddressSpaces,
         names: &mut NameTable,
-    ) -> Result<u32, Error> {
+    ) -> Result<usize, Error> {
         if self.kind == NameKind::Address {
             return self.address_number(frame.address, names);
         }

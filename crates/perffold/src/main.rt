@@ -1,5 +1,5 @@
-//! Writes the stacks of a recording's samples as folded lines: the names of the frames with semicolons between
-//! them, and the number of samples.
+//! Writes the stacks of a recording's samples as folded lines: the names of the frames with semicolons
+//! between them, and the number of samples.
 #![tactic(auto)]
 
 mod fold;

@@ -2,7 +2,7 @@
 
 use crate::selection::Selection;
 use clap::{Arg, ArgAction, ArgMatches, Command, Error};
-use perfdata_cli::command_line::{FILE, command};
+use perfdata_cli::command_line::{FILE, RECORDING_HELP, command};
 use std::alloc::{AllocError, Global};
 
 /// What the program does.
@@ -135,7 +135,7 @@ fn with_names<'a>(alloc: Global, command: Command<'a>) -> Result<Command<'a>, Al
 
 /// Returns the command with its options.
 fn command_with_options<'a>(alloc: Global, name: &'a str) -> Result<Command<'a>, AllocError> {
-    let command = with_selection(alloc, command(alloc, name, ABOUT)?)?;
+    let command = with_selection(alloc, command(alloc, name, ABOUT, RECORDING_HELP)?)?;
     with_names(alloc, command)
 }
 

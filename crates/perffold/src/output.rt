@@ -5,7 +5,7 @@ use crate::options::Options;
 use crate::records::Records;
 use linux_perf_data::in_memory::InMemoryReader;
 use perfdata_cli::error::{InputError, ProgramError};
-use perfdata_cli::input::{Input, InputKind};
+use perfdata_cli::input::{Input, open_in_memory};
 use perfdata_stacks::counts::StackCounts;
 use std::io;
 use std::io::{BufWriter, Write};
@@ -63,16 +63,12 @@ pub(crate) fn fold_input(
     path: &str,
 ) -> Result<(), ProgramError> {
     let input = Input::open(rt, path).map_err(InputError::Io)?;
-    let is_pipe = match input.kind {
-        Some(InputKind::File) => false,
-        Some(InputKind::Pipe) => true,
-        Some(InputKind::Jit) | None => return Err(InputError::UnknownFormat.into()),
-    };
+    let is_pipe = input.is_pipe()?;
     let bytes = input.into_bytes().map_err(InputError::Io)?;
-    let opened = if is_pipe {
-        InMemoryReader::parse_pipe(rt.alloc(), &bytes)
-    } else {
-        InMemoryReader::parse_file(rt.alloc(), &bytes)
-    };
-    fold_opened(rt, name, options, opened.map_err(InputError::Metadata)?)
+    fold_opened(
+        rt,
+        name,
+        options,
+        open_in_memory(rt.alloc(), &bytes, is_pipe)?,
+    )
 }

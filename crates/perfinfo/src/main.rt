@@ -19,7 +19,8 @@ use linux_perf_data::PerfFileReader;
 use linux_perf_data::jitdump::{JitDumpError, JitDumpReader};
 use perfdata_base::source::CountedBuffer;
 use perfdata_cli::command_line::{
-    FILE, SUCCESS, arguments, command, print_argument_error, print_clap_error,
+    FILE, RECORDING_OR_JITDUMP_HELP, SUCCESS, arguments, command, print_argument_error,
+    print_clap_error,
 };
 use perfdata_cli::error::{InputError, ProgramError, print_error};
 use perfdata_cli::input::{Input, InputKind, display_name, path_of};
@@ -119,7 +120,7 @@ fn report_input(rt: &HostRuntime, path: &str) -> Result<(), ProgramError> {
 
 /// Parses the arguments.
 fn parse(alloc: Global, words: &[String]) -> Result<ArgMatches<'_>, Error> {
-    command(alloc, NAME, ABOUT)?.try_get_matches_from(words)
+    command(alloc, NAME, ABOUT, RECORDING_OR_JITDUMP_HELP)?.try_get_matches_from(words)
 }
 
 /// Reports on the input that the arguments name. Returns the exit status.

@@ -2,9 +2,8 @@
 use crate::by_time::list_by_time;
 use crate::options::Options;
 use crate::tracked_line::TrackedLine;
-use linux_perf_data::in_memory::InMemoryReader;
 use perfdata_cli::error::{InputError, ProgramError};
-use perfdata_cli::input::{Input, InputKind};
+use perfdata_cli::input::{Input, open_in_memory};
 use perfdata_cli::position::Position;
 use perfdata_cli::progress::Progress;
 use perfdata_json::JsonLine;
@@ -22,11 +21,7 @@ pub(crate) fn list_input(
     path: &str,
 ) -> Result<(), ProgramError> {
     let input = Input::open(rt, path).map_err(InputError::Io)?;
-    let is_pipe = match input.kind {
-        Some(InputKind::File) => false,
-        Some(InputKind::Pipe) => true,
-        Some(InputKind::Jit) | None => return Err(InputError::UnknownFormat.into()),
-    };
+    let is_pipe = input.is_pipe()?;
     if options.is_by_time {
         list_input_by_time(rt, options.byte_limit, input, is_pipe)
     } else {
@@ -67,12 +62,7 @@ fn list_input_by_time(
     is_pipe: bool,
 ) -> Result<(), ProgramError> {
     let bytes = input.into_bytes().map_err(InputError::Io)?;
-    let opened = if is_pipe {
-        InMemoryReader::parse_pipe(rt.alloc(), &bytes)
-    } else {
-        InMemoryReader::parse_file(rt.alloc(), &bytes)
-    };
-    let reader = opened.map_err(InputError::Metadata)?;
+    let reader = open_in_memory(rt.alloc(), &bytes, is_pipe)?;
     let mut out = output(rt)?;
     let listed = list_by_time(rt.alloc(), reader, byte_limit, &mut out);
     let position = Position {

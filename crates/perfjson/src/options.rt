@@ -1,6 +1,6 @@
 //! The program's command line.
 use clap::{Arg, ArgAction, Command, Error, value_parser};
-use perfdata_cli::command_line::{FILE, command};
+use perfdata_cli::command_line::{FILE, RECORDING_HELP, command};
 use std::alloc::{AllocError, Global};
 
 /// What the program does.
@@ -37,7 +37,9 @@ fn command_with_options<'a>(alloc: Global, name: &'a str) -> Result<Command<'a>,
         .value_name("N")
         .value_parser(value_parser!(usize))
         .help("Write the first N bytes of raw data, stacks and aux data [default: 64]");
-    command(alloc, name, ABOUT)?.arg(by_time)?.arg(bytes)
+    command(alloc, name, ABOUT, RECORDING_HELP)?
+        .arg(by_time)?
+        .arg(bytes)
 }
 
 /// Parses the arguments, of which the first is the program's name.

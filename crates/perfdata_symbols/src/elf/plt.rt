@@ -112,8 +112,8 @@ fn add_entry(
     Ok(())
 }
 
-// Adds the symbols of a section's entries. Stops at the end of the section, or once the names have eight times
-// the bytes of the string table, which only names that overlap can have.
+// Adds the symbols of a section's entries. Stops at the end of the section, or once the names have eight
+// times the bytes of the string table, which only names that overlap can have.
 pub(crate) fn add_plt(
     context: &PltContext<'_>,
     section: &Section,
