@@ -1,0 +1,10 @@
+-- The specifications that contracts use.
+pub mod AddressSpaces
+pub mod Effects
+pub mod Histories
+pub mod NameHistories
+pub mod Mappings
+pub mod Processes
+pub mod Ranges
+pub mod Spaces
+pub mod ThreadNames

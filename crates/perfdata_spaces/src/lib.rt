@@ -5,7 +5,8 @@
 #![tactic(auto)]
 
 pub mod address_spaces;
-mod bytes;
 pub mod mapping;
+mod processes;
 mod ranges;
+mod spaces;
 mod thread_names;

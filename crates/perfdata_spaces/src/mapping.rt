@@ -1,6 +1,10 @@
 //! Mappings of files and of kernel symbols.
 
-use crate::bytes::copy_bytes;
+ghost use Rattle.std.specs.Prelude.{◌≡◌, IfOk};
+ghost use Rattle.perfdata_base.specs.Raw.{bytes_of};
+ghost use Rattle.perfdata_spaces.specs.Mappings.{inode_of, build_id_of};
+
+use perfdata_base::raw::RawData;
 use perfdata_events::kernel::KsymbolRecord;
 use perfdata_events::mmap::MmapRecord;
 use perfdata_events::mmap2::{Mmap2FileId, Mmap2InodeAndVersion, Mmap2Record};
@@ -33,8 +37,8 @@ pub struct Mapping {
     pub page_offset: u64,
     /// What is mapped.
     pub kind: MappingKind,
-    /// The protection of the memory (`PROT_..` of Linux's `mman.h`), as bits. A record without it says whether
-    /// the memory is executable.
+    /// The protection of the memory (`PROT_..` of Linux's `mman.h`), as bits. A record without it says
+    /// whether the memory is executable.
     pub protection: u32,
     /// The flags of the mapping (`MAP_..` of Linux's `mman.h`), as bits.
     pub flags: u32,
@@ -46,54 +50,92 @@ pub struct Mapping {
     pub path: Vec<u8>,
 }
 
-// The kind of a mapping that isn't a kernel symbol.
-fn kind_of(is_data: bool) -> MappingKind {
-    if is_data {
-        MappingKind::Data
-    } else {
-        MappingKind::Code
+// A copy of bytes.
+pub(crate) fn to_vec(alloc: Global, bytes: RawData<'_>) -> Result<Vec<u8>, AllocError>
+    ensures { IfOk result (λ copy. copy.items ≡ bytes_of bytes.entry) }
+{
+    bytes.as_slice(alloc)?.into_owned(alloc)
+}
+
+impl MappingKind {
+    ghost use Rattle.perfdata_spaces.specs.Mappings.{kind_of};
+
+    // The kind of a mapping that isn't a kernel symbol.
+    fn new(is_data: bool) -> MappingKind
+        ensures { result ≡ kind_of is_data }
+    {
+        if is_data {
+            MappingKind::Data
+        } else {
+            MappingKind::Code
+        }
+    }
+}
+
+// The inode of a file, if the record has it.
+fn inode_of(file_id: Mmap2FileId<'_>) -> Option<Mmap2InodeAndVersion>
+    ensures { result ≡ inode_of file_id.entry }
+{
+    match file_id {
+        Mmap2FileId::InodeAndVersion(inode) => Some(inode),
+        Mmap2FileId::BuildId(_) => None,
+    }
+}
+
+// The build id of a file, empty if the record has none.
+fn build_id_of(alloc: Global, file_id: Mmap2FileId<'_>) -> Result<Vec<u8>, AllocError>
+    ensures { IfOk result (λ id. id.items ≡ build_id_of file_id.entry) }
+{
+    match file_id {
+        Mmap2FileId::InodeAndVersion(_) => Ok(Vec::new(alloc)),
+        Mmap2FileId::BuildId(id) => to_vec(alloc, id),
     }
 }
 
 impl Mapping {
-    /// Returns the mapping that a record describes.
-    pub fn of_mmap(alloc: Global, record: &MmapRecord<'_>) -> Result<Mapping, AllocError> {
+    ghost use Rattle.perfdata_spaces.specs.Mappings.{mapping_value, mapping_of_mmap, mapping_of_mmap2};
+    ghost use Rattle.perfdata_spaces.specs.Mappings.{mapping_of_ksymbol};
+
+    /// Returns the mapping that a record describes. Fails if memory runs out.
+    pub fn of_mmap(alloc: Global, record: &MmapRecord<'_>) -> Result<Mapping, AllocError>
+        ensures { IfOk result (λ mapping. mapping_value mapping ≡ mapping_of_mmap «record».now) }
+    {
         Ok(Mapping {
             pid: record.pid,
             start: record.address,
             length: record.length,
             page_offset: record.page_offset,
-            kind: kind_of(record.is_data),
+            kind: MappingKind::new(record.is_data),
             protection: if record.is_data { 0 } else { PROTECTION_EXEC },
             flags: 0,
             inode: None,
             build_id: Vec::new(alloc),
-            path: copy_bytes(alloc, record.path)?,
+            path: to_vec(alloc, record.path)?,
         })
     }
 
-    /// Returns the mapping that a record describes.
-    pub fn of_mmap2(alloc: Global, record: &Mmap2Record<'_>) -> Result<Mapping, AllocError> {
-        let (inode, build_id) = match record.file_id {
-            Mmap2FileId::InodeAndVersion(inode) => (Some(inode), Vec::new(alloc)),
-            Mmap2FileId::BuildId(id) => (None, copy_bytes(alloc, id)?),
-        };
+    /// Returns the mapping that a record describes. Fails if memory runs out.
+    pub fn of_mmap2(alloc: Global, record: &Mmap2Record<'_>) -> Result<Mapping, AllocError>
+        ensures { IfOk result (λ mapping. mapping_value mapping ≡ mapping_of_mmap2 «record».now) }
+    {
         Ok(Mapping {
             pid: record.pid,
             start: record.address,
             length: record.length,
             page_offset: record.page_offset,
-            kind: kind_of(record.is_data),
+            kind: MappingKind::new(record.is_data),
             protection: record.protection,
             flags: record.flags,
-            inode,
-            build_id,
-            path: copy_bytes(alloc, record.path)?,
+            inode: inode_of(record.file_id),
+            build_id: build_id_of(alloc, record.file_id)?,
+            path: to_vec(alloc, record.path)?,
         })
     }
 
-    /// Returns the range of a kernel symbol.
-    pub fn of_ksymbol(alloc: Global, record: &KsymbolRecord<'_>) -> Result<Mapping, AllocError> {
+    /// Returns the range of a kernel symbol. Fails if memory runs out.
+    pub fn of_ksymbol(alloc: Global, record: &KsymbolRecord<'_>) -> Result<Mapping, AllocError>
+        ensures { IfOk result (λ mapping. mapping_value mapping ≡ mapping_of_ksymbol «record».now) }
+    {
         Ok(Mapping {
             pid: 0,
             start: record.address,
@@ -104,7 +146,7 @@ impl Mapping {
             flags: 0,
             inode: None,
             build_id: Vec::new(alloc),
-            path: copy_bytes(alloc, record.name)?,
+            path: to_vec(alloc, record.name)?,
         })
     }
 }

@@ -88,19 +88,18 @@ impl FrameNames {
     /// Returns the number of the name of a mapping with an index.
     fn mapping_number(
         &mut self,
-        index: u32,
+        index: usize,
         mapping: &Mapping,
         names: &mut NameTable,
     ) -> Result<usize, Error> {
-        let at = index as usize;
-        if let Some(Some(number)) = self.of_mappings.get(at) {
+        if let Some(Some(number)) = self.of_mappings.get(index) {
             return Ok(*number);
         }
         let number = self.file_number(mapping, names)?;
-        if self.of_mappings.len() <= at {
-            self.of_mappings.resize(at.saturating_add(1), None)?;
+        if self.of_mappings.len() <= index {
+            self.of_mappings.resize(index.saturating_add(1), None)?;
         }
-        if let Some(entry) = self.of_mappings.get_mut(at) {
+        if let Some(entry) = self.of_mappings.get_mut(index) {
             *entry = Some(number);
         }
         Ok(number)

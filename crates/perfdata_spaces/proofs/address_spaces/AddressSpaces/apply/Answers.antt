@@ -1,0 +1,21 @@
+use Rattle.std.proofs.Common.{refl}
+use Rattle.std.proofs.lemmas.Result.{err_from_is_err_and}
+use Rattle.perfdata_spaces.proofs.Applying.{applied_ok, applied_err, follows_but, none_applied, from_follows_ok, from_follows_err}
+use Rattle.perfdata_spaces.proofs.address_spaces.AddressSpaces.apply.Goals as goal
+
+pub returns-clause-repeated_ok : goal.returns-clause-repeated_ok
+returns-clause-repeated_ok c = applied_ok c.args.misc c.args.record.now c.args.self.now _ c.apply-2.result c.in_ok-apply.ensures c.apply-2.ensures
+
+pub returns-clause-repeated_err : goal.returns-clause-repeated_err
+returns-clause-repeated_err c = applied_err c.args.misc c.args.record.now c.args.self.now _ c.apply-2.result c.in_ok-apply.ensures c.apply-2.ensures
+
+pub returns-clause-ok : goal.returns-clause-ok
+returns-clause-ok c = from_follows_ok c.args.record.now c.args.self.now _ c.apply-2.result (applied_ok c.args.misc c.args.record.now c.args.self.now _ c.apply-2.result c.in_ok-apply.ensures c.apply-2.ensures)
+
+pub returns-clause-err : goal.returns-clause-err
+returns-clause-err c = from_follows_err c.args.record.now c.args.self.now _ c.apply-2.result (applied_err c.args.misc c.args.record.now c.args.self.now _ c.apply-2.result c.in_ok-apply.ensures c.apply-2.ensures)
+
+pub returns-in_err-apply-clause-err : goal.returns-in_err-apply-clause-err
+returns-in_err-apply-clause-err c =
+    let p = err_from_is_err_and c.from_residual.result c.from_residual.ensures.1 in
+    rw p.1 (λ records follows. none_applied records c.args.misc c.args.record.now c.args.self.now _ (follows_but records c.args.record.now c.args.self.now follows) c.in_err-apply.ensures refl)

@@ -1,0 +1,43 @@
+-- Address spaces and names of threads after records.
+use Rattle.std.specs.Prelude.{ℕ, ℤ, ◌<◌, ◌⊎◌, List, [], ◌∷◌, ◌++◌, length, map, slice_get, Option, None, Some, IfSome}
+use Rattle.perfdata_events.specs.declared.event.EventRecord.{EventRecord}
+use Rattle.perfdata_events.specs.declared.fields.call_chain.CallContext.{CallContext}
+use Rattle.perfdata_spaces.specs.Effects.{Applied, SpaceEffect, NameEffect, space_effect, name_effect, naming_of}
+use Rattle.perfdata_spaces.specs.Histories.{IsFound}
+use Rattle.perfdata_spaces.specs.Mappings.{MappingValue}
+use Rattle.perfdata_spaces.specs.Spaces.{FollowsSpaces, values_of}
+use Rattle.perfdata_spaces.specs.ThreadNames.{AppliesName, FollowsNames, KeepsNames}
+use Rattle.perfdata_spaces.specs.declared.address_spaces.AddressSpaces.{AddressSpaces}
+use Rattle.perfdata_spaces.specs.declared.thread_names.ThreadNames.{ThreadNames}
+
+abbrev pub space_effects : List Applied → List SpaceEffect
+space_effects records = map space_effect records
+
+abbrev pub name_effects : List Applied → List NameEffect
+name_effects records = map name_effect records
+
+-- The records after one more was applied.
+abbrev pub then_applied : List Applied → ℕ → EventRecord → List Applied
+then_applied records misc event = records ++ record { misc = misc; event = event } ∷ []
+
+-- The address spaces are those after records.
+pub record Follows (records : List Applied) (spaces : AddressSpaces) : Type 0 where
+  pub spaces_follow : FollowsSpaces (space_effects records) spaces.spaces
+  pub names_follow : FollowsNames (name_effects records) spaces.names
+
+-- The address spaces are those after records, but the names may be those after one record more.
+pub record FollowsBut (records : List Applied) (next : EventRecord) (spaces : AddressSpaces) : Type 0 where
+  pub spaces_follow : FollowsSpaces (space_effects records) spaces.spaces
+  pub names : ThreadNames
+  pub names_follow : FollowsNames (name_effects records) names
+  pub named : KeepsNames names spaces.names ⊎ AppliesName (naming_of next) names spaces.names
+
+-- The mapping with an index.
+abbrev pub mapping_at : AddressSpaces → Option ℕ → Option MappingValue
+mapping_at spaces None = None
+mapping_at spaces (Some index) = slice_get (values_of spaces.spaces) index
+
+-- An index is that of the mapping at an address.
+pub record FindsIndex (records : List Applied) (spaces : AddressSpaces) (pid : ℤ) (address : ℕ) (context : CallContext) (index : Option ℕ) : Type 0 where
+  pub found : IsFound (space_effects records) pid address context (mapping_at spaces index)
+  pub within : IfSome index (λ i. i < length (values_of spaces.spaces))

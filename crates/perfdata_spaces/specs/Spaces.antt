@@ -1,0 +1,91 @@
+-- The address spaces of processes and of the kernel, as effects change them.
+use Rattle.std.specs.Prelude.{◌≡◌, ℕ, ℤ, ◌<◌, ◌^◌, ◌&&◌, List, [], ◌∷◌, ◌++◌, length, map, slice_get, Option, None, Some, Result, Ok, Err, if◌then◌else◌}
+use Rattle.std.specs.declared.alloc.AllocError.{AllocError}
+use Rattle.std.specs.Option.{option_or}
+use Rattle.perfdata_events.specs.declared.fields.call_chain.CallContext.{CallContext}
+use Rattle.perfdata_events.specs.declared.fields.call_chain.CallContext.TheVariants.{Kernel, User}
+use Rattle.perfdata_spaces.specs.Effects.{SpaceEffect, Maps, MapsKernel, Registers, Removes, Copies, Clears}
+use Rattle.perfdata_spaces.specs.Histories.{IsHistory, kernel_mappings, symbol_at, last_that}
+use Rattle.perfdata_spaces.specs.Mappings.{MappingValue, mapping_value, mapping_contains}
+use Rattle.perfdata_spaces.specs.Processes.{value_in, is_same}
+use Rattle.perfdata_spaces.specs.Ranges.{value_of, contains}
+use Rattle.perfdata_spaces.specs.declared.spaces.Spaces.{Spaces}
+
+-- All mappings that were added, by index.
+abbrev pub values_of : Spaces → List MappingValue
+values_of spaces = map mapping_value spaces.mappings.items
+
+-- The index of the mapping at an address.
+abbrev pub index_at : Spaces → ℤ → ℕ → CallContext → Option ℕ
+index_at spaces pid address User = value_in spaces.processes pid address
+index_at spaces pid address Kernel = option_or (value_of spaces.symbols address) (value_of spaces.kernel address)
+index_at spaces pid address _ = None
+
+-- The mapping that an effect adds.
+abbrev pub added : SpaceEffect → List MappingValue
+added (Maps pid mapping) = mapping ∷ []
+added (MapsKernel mapping) = mapping ∷ []
+added (Registers mapping) = mapping ∷ []
+added _ = []
+
+-- The index at an address of a process after an effect that adds its mapping at `next`. `index` is the one before.
+abbrev pub process_after : SpaceEffect → ℕ → (ℤ → ℕ → Option ℕ) → ℤ → ℕ → Option ℕ
+process_after (Maps owner mapping) next index pid address =
+    if is_same owner pid && mapping_contains address mapping then Some next else index pid address
+process_after (Copies child parent) next index pid address =
+    if is_same child pid then index parent address else index pid address
+process_after (Clears owner) next index pid address = if is_same owner pid then None else index pid address
+process_after _ next index pid address = index pid address
+
+abbrev pub kernel_after : SpaceEffect → ℕ → (ℕ → Option ℕ) → ℕ → Option ℕ
+kernel_after (MapsKernel mapping) next index address =
+    if mapping_contains address mapping then Some next else index address
+kernel_after _ next index address = index address
+
+abbrev pub symbol_after : SpaceEffect → ℕ → (ℕ → Option ℕ) → ℕ → Option ℕ
+symbol_after (Registers mapping) next index address =
+    if mapping_contains address mapping then Some next else index address
+symbol_after (Removes start size) next index address = if contains start size address then None else index address
+symbol_after _ next index address = index address
+
+-- An effect was applied.
+pub record Applies (effect : SpaceEffect) (old new : Spaces) : Type 0 where
+  pub mappings : values_of new ≡ values_of old ++ added effect
+  pub processes : (pid : ℤ) (address : ℕ) → address < 2 ^ 64 → value_in new.processes pid address
+      ≡ process_after effect (length (values_of old)) (value_in old.processes) pid address
+  pub kernel : (address : ℕ) → address < 2 ^ 64 → value_of new.kernel address
+      ≡ kernel_after effect (length (values_of old)) (value_of old.kernel) address
+  pub symbols : (address : ℕ) → address < 2 ^ 64 → value_of new.symbols address
+      ≡ symbol_after effect (length (values_of old)) (value_of old.symbols) address
+
+-- Nothing is mapped elsewhere than before. A mapping that isn't mapped anywhere may be added.
+pub record KeepsSpaces (old new : Spaces) : Type 0 where
+  pub more : List MappingValue
+  pub mappings : values_of new ≡ values_of old ++ more
+  pub processes : (pid : ℤ) (address : ℕ) → value_in new.processes pid address ≡ value_in old.processes pid address
+  pub kernel : (address : ℕ) → value_of new.kernel address ≡ value_of old.kernel address
+  pub symbols : (address : ℕ) → value_of new.symbols address ≡ value_of old.symbols address
+
+abbrev pub Changes : SpaceEffect → Spaces → Result (Unit {0}) AllocError → Spaces → Type 0
+Changes effect old (Ok done) new = Applies effect old new
+Changes effect old (Err error) new = KeepsSpaces old new
+
+-- An index is that of a mapping, or none.
+abbrev pub IsIndexOf : List MappingValue → Option ℕ → Option MappingValue → Type 0
+IsIndexOf mappings None found = found ≡ None
+IsIndexOf mappings (Some index) found = (index < length mappings) × (slice_get mappings index ≡ found)
+
+-- The indices at the addresses of a process are those of the last mappings that contain them.
+pub record FollowsProcess (effects : List SpaceEffect) (spaces : Spaces) (pid : ℤ) : Type 0 where
+  pub history : List MappingValue
+  pub is : IsHistory pid effects history
+  pub finds : (address : ℕ) → address < 2 ^ 64
+      → IsIndexOf (values_of spaces) (value_in spaces.processes pid address) (last_that (mapping_contains address) history)
+
+-- The spaces are those after effects.
+pub record FollowsSpaces (effects : List SpaceEffect) (spaces : Spaces) : Type 0 where
+  pub processes : (pid : ℤ) → FollowsProcess effects spaces pid
+  pub kernel : (address : ℕ) → address < 2 ^ 64 → IsIndexOf (values_of spaces) (value_of spaces.kernel address)
+      (last_that (mapping_contains address) (kernel_mappings effects))
+  pub symbols : (address : ℕ) → address < 2 ^ 64
+      → IsIndexOf (values_of spaces) (value_of spaces.symbols address) (symbol_at address effects)

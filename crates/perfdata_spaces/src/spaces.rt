@@ -1,0 +1,185 @@
+//! What is mapped in processes and in the kernel.
+
+ghost use Rattle.std.specs.Prelude.{◌≡◌, [], List, slice_get};
+ghost use Rattle.std.specs.Option.{option_copied};
+ghost use Rattle.perfdata_spaces.specs.Mappings.{mapping_value};
+ghost use Rattle.perfdata_spaces.specs.Effects.{Maps, MapsKernel, Registers, Removes, Copies, Clears};
+ghost use Rattle.perfdata_spaces.specs.Effects.{mapped_in, symbol_effect, forked, effect_of};
+
+use crate::mapping::Mapping;
+use crate::processes::Processes;
+use crate::ranges::{AddressRange, RangeMap};
+use bitflags::Flags;
+use perfdata_base::event::CpuMode;
+use perfdata_events::bits::MiscFlags;
+use perfdata_events::call_chain::CallContext;
+use perfdata_events::event::EventRecord;
+use perfdata_events::kernel::KsymbolRecord;
+use perfdata_events::task::ForkOrExitRecord;
+use std::alloc::{AllocError, Global};
+
+/// The flag of a removed kernel symbol (`PERF_RECORD_KSYMBOL_FLAGS_UNREGISTER`).
+const KSYMBOL_UNREGISTER: u16 = 1;
+
+/// What is mapped in each process and in the kernel, by indices of mappings.
+#[derive(Drop)]
+pub(crate) struct Spaces {
+    mappings: Vec<Mapping>,
+    processes: Processes,
+    kernel: RangeMap,
+    symbols: RangeMap,
+    alloc: Global,
+}
+
+impl Spaces {
+    ghost use Rattle.perfdata_spaces.specs.Spaces.{Changes, FollowsSpaces, index_at};
+
+    // Nothing is mapped.
+    pub(crate) fn new(alloc: Global) -> Spaces
+        ensures { FollowsSpaces [] result }
+    {
+        Spaces {
+            mappings: Vec::new(alloc),
+            processes: Processes::new(alloc),
+            kernel: RangeMap::new(),
+            symbols: RangeMap::new(),
+            alloc,
+        }
+    }
+
+    // The index of the mapping at an address of a process or of the kernel.
+    pub(crate) fn find_index(&self, pid: i32, address: u64, context: CallContext) -> Option<usize>
+        ensures { result ≡ index_at self.now pid address context }
+    {
+        match context {
+            CallContext::User => self.processes.get(pid, address),
+            CallContext::Kernel => match self.symbols.get(address) {
+                Some(index) => Some(index),
+                None => self.kernel.get(address),
+            },
+            _ => None,
+        }
+    }
+
+    // The mapping with an index.
+    pub(crate) fn mapping(&self, index: usize) -> Option<&Mapping>
+        ensures { option_copied result ≡ slice_get self.now.mappings.items index }
+    {
+        self.mappings.get(index)
+    }
+
+    // Adds a mapping to the space of a process.
+    fn map_process(&mut self, pid: i32, mapping: Mapping) -> Result<(), AllocError>
+        ensures { Changes (Maps pid (mapping_value mapping)) self.old result self.new }
+    {
+        let index = self.mappings.len();
+        let range = AddressRange::new(mapping.start, mapping.length);
+        self.mappings.push(mapping)?;
+        self.processes.set(pid, range, Some(index))
+    }
+
+    // Adds a mapping to the space of the kernel.
+    fn map_kernel(&mut self, mapping: Mapping) -> Result<(), AllocError>
+        ensures { Changes (MapsKernel (mapping_value mapping)) self.old result self.new }
+    {
+        let index = self.mappings.len();
+        let range = AddressRange::new(mapping.start, mapping.length);
+        self.mappings.push(mapping)?;
+        let kernel = self.kernel.with(self.alloc, range, Some(index))?;
+        self.kernel = kernel;
+        Ok(())
+    }
+
+    // Adds a mapping to the space of a process or of the kernel.
+    fn map(&mut self, mode: CpuMode, pid: i32, mapping: Mapping) -> Result<(), AllocError>
+        ensures { Changes (mapped_in mode pid (mapping_value mapping)) self.old result self.new }
+    {
+        match mode {
+            CpuMode::User => self.map_process(pid, mapping),
+            CpuMode::Kernel => self.map_kernel(mapping),
+            _ => Ok(()),
+        }
+    }
+
+    // Adds a symbol of the kernel.
+    fn register(&mut self, symbol: Mapping) -> Result<(), AllocError>
+        ensures { Changes (Registers (mapping_value symbol)) self.old result self.new }
+    {
+        let index = self.mappings.len();
+        let range = AddressRange::new(symbol.start, symbol.length);
+        self.mappings.push(symbol)?;
+        let symbols = self.symbols.with(self.alloc, range, Some(index))?;
+        self.symbols = symbols;
+        Ok(())
+    }
+
+    // Removes the symbols of the kernel in a range.
+    fn remove(&mut self, start: u64, length: u64) -> Result<(), AllocError>
+        ensures { Changes (Removes start length) self.old result self.new }
+    {
+        let range = AddressRange::new(start, length);
+        let symbols = self.symbols.with(self.alloc, range, None)?;
+        self.symbols = symbols;
+        Ok(())
+    }
+
+    // Registers or removes a symbol of the kernel.
+    fn change_symbol(&mut self, symbol: &KsymbolRecord<'_>) -> Result<(), AllocError>
+        ensures { Changes (symbol_effect symbol.now) self.old result self.new }
+    {
+        if symbol.flags & KSYMBOL_UNREGISTER != 0 {
+            self.remove(symbol.address, u64::from(symbol.length))
+        } else {
+            let mapping = Mapping::of_ksymbol(self.alloc, symbol)?;
+            self.register(mapping)
+        }
+    }
+
+    // Removes the mappings of a process.
+    fn clear(&mut self, pid: i32) -> Result<(), AllocError>
+        ensures { Changes (Clears pid) self.old result self.new }
+    {
+        self.processes.clear(pid);
+        Ok(())
+    }
+
+    // Gives a process the mappings of another.
+    fn copy(&mut self, pid: i32, parent: i32) -> Result<(), AllocError>
+        ensures { Changes (Copies pid parent) self.old result self.new }
+    {
+        self.processes.copy(pid, parent)
+    }
+
+    // Gives a new process the mappings of the process that forked it.
+    fn fork(&mut self, misc: u16, fork: &ForkOrExitRecord) -> Result<(), AllocError>
+        ensures { Changes (forked misc fork.now) self.old result self.new }
+    {
+        if fork.pid == fork.ppid {
+            Ok(())
+        } else if MiscFlags(misc).contains(MiscFlags::FORK_EXEC) {
+            self.clear(fork.pid)
+        } else {
+            self.copy(fork.pid, fork.ppid)
+        }
+    }
+
+    // Applies a record. `misc` is that of its header.
+    pub(crate) fn apply(&mut self, misc: u16, record: &EventRecord<'_>) -> Result<(), AllocError>
+        ensures { Changes (effect_of misc «record».now) self.old result self.new }
+    {
+        match record {
+            EventRecord::Mmap(mmap) => {
+                let mapping = Mapping::of_mmap(self.alloc, mmap)?;
+                self.map(CpuMode::from_misc(misc), mmap.pid, mapping)
+            }
+            EventRecord::Mmap2(mmap) => {
+                let mapping = Mapping::of_mmap2(self.alloc, mmap)?;
+                self.map(CpuMode::from_misc(misc), mmap.pid, mapping)
+            }
+            EventRecord::Ksymbol(symbol) => self.change_symbol(symbol),
+            EventRecord::Comm(comm) if comm.is_execve => self.clear(comm.pid),
+            EventRecord::Fork(fork) => self.fork(misc, fork),
+            _ => Ok(()),
+        }
+    }
+}
