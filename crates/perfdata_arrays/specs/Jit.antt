@@ -1,5 +1,5 @@
 -- The results for a jitdump in memory: its header, its records, a load record.
-use Rattle.std.specs.Prelude.{◌≡◌, ◌≢◌, ◌⊎◌, ℕ, ◌+◌, ◌≤◌, max, List, [], ◌∷◌, ◌++◌, length, take, drop, Option, None, Some, Result, Ok, Err}
+use Rattle.std.specs.Prelude.{◌≡◌, ◌≢◌, ◌⊎◌, ℕ, ◌+◌, ◌<◌, ◌≤◌, max, List, [], ◌∷◌, ◌++◌, length, take, drop, Option, None, Some, Result, Ok, Err}
 use Rattle.std.specs.List.{concat}
 use Rattle.perfdata_base.specs.declared.raw.Endianness.{Endianness}
 use Rattle.perfdata_base.specs.declared.raw.Endianness.TheVariants.{LittleEndian, BigEndian}
@@ -93,11 +93,11 @@ module _ (endian : Endianness) where
     pub within_capacity : length raw_records ≤ length old
     pub written : new ≡ with_prefix (jit_entries from raw_records) old
 
--- The array is full, or no complete record follows, or the record that follows has an invalid size.
+-- The array is full, or no complete record follows, or the array isn't full and the record that follows has an invalid size.
 abbrev pub EndsJitRecords : Endianness → List ℕ → ℕ → ℕ → ℕ → Status → Type 0
 EndsJitRecords endian bytes count capacity next status =
     ((status ≡ Success) × ((count ≡ capacity) ⊎ HasNoWholeRecord endian next (drop next bytes)))
-    ⊎ ((status ≡ JitBadRecordSize) × HasInvalidSize endian next (drop next bytes))
+    ⊎ ((status ≡ JitBadRecordSize) × (count < capacity) × HasInvalidSize endian next (drop next bytes))
 
 -- The records of a jitdump are written from offset `from` on, or from the first record on if `from` is within the header.
 pub record JitRecordsRead (bytes : List ℕ) (from : ℕ) (old : List JitRecord) (total : JitRecordsResult) (new : List JitRecord) : Type 0 where

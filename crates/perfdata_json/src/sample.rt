@@ -176,8 +176,8 @@ impl<'a> RegisterMembers<'a> {
     }
 }
 
-/// The members of a sample. They are written from the record itself, since a struct of its optional fields takes
-/// longer to fill than to write.
+/// The members of a sample. They are written from the record itself, since a struct of its optional fields
+/// takes longer to fill than to write.
 #[derive(Clone, Copy)]
 pub(crate) struct Sample<'a> {
     record: &'a SampleRecord<'a>,

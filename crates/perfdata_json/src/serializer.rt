@@ -6,8 +6,8 @@ use serde::{Case, NameKind, Serializer};
 use std::alloc::AllocError;
 use std::fmt::{Display, Write};
 
-/// Appends values to a buffer as JSON. Unlike `serde_json::to_vec` it doesn't allocate a buffer for each value.
-/// Its methods fail if memory runs out.
+/// Appends values to a buffer as JSON. Unlike `serde_json::to_vec` it doesn't allocate a buffer for each
+/// value. Its methods fail if memory runs out.
 #[derive(Drop)]
 pub(crate) struct LineSerializer {
     json: Writer,
