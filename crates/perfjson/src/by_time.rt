@@ -1,23 +1,27 @@
 //! Lists the records of an input in memory in order of time.
+ghost use Rattle.perfjson.specs.ByTime.{ListsByTime, ListsNextByTime};
 
 use linux_perf_data::PerfFile;
 use linux_perf_data::in_memory::InMemoryReader;
-use perfdata_json::JsonLine;
-use perfdata_listing::{ListCause, ListFault, write_record};
+use perfdata_listing::{ListCause, ListFault, RecordLine, write_record};
 use perfdata_order::in_memory::InMemoryOrderedRecords;
 use std::alloc::Global;
 use std::io::Write;
 
 /// Writes the line of the next record in order of time. Returns whether there is one.
-fn list_next<W: Write>(
+fn list_next<L: RecordLine, W: Write>(
     records: &mut InMemoryOrderedRecords<'_>,
     file: &mut PerfFile,
-    line: &mut JsonLine,
+    line: &mut L,
     out: &mut W,
-) -> Result<bool, ListCause> {
+) -> Result<bool, ListCause>
+    ensures { ListsNextByTime L.is_line L.allocates records.old file.old (W.contents out.old) result
+        (W.contents out.new) records.new file.new }
+{
     match records.next_record(file) {
         Ok(Some((place, record))) => {
-            write_record(place, &record, file, line, out).map(|()| true)
+            write_record(place, &record, file, line, out)?;
+            Ok(true)
         }
         Ok(None) => Ok(false),
         Err(error) => Err(ListCause::Perf(error)),
@@ -28,22 +32,23 @@ fn list_next<W: Write>(
 ///
 /// On an error `lines` is the number of complete lines that are written. If the input has an error, the lines
 /// of all records before it are written.
-pub fn list_by_time<W: Write>(
+pub(crate) fn list_by_time<L: RecordLine, W: Write>(
     alloc: Global,
     reader: InMemoryReader<'_>,
-    byte_limit: usize,
+    line: &mut L,
     out: &mut W,
-) -> Result<u64, ListFault> {
+) -> Result<u64, ListFault>
+    ensures { ListsByTime L.is_line L.allocates reader.entry.records reader.entry.perf_file
+        (W.contents out.old) result (W.contents out.new) }
+{
     let mut file = reader.perf_file;
     let mut records = InMemoryOrderedRecords::new(alloc, reader.records);
-    let mut line = JsonLine::new(alloc, byte_limit);
     let mut lines = 0u64;
-    for _ in 0..u64::MAX {
-        match list_next(&mut records, &mut file, &mut line, out) {
-            Ok(true) => lines = lines.saturating_add(1),
-            Ok(false) => break,
+    'records: loop {
+        match list_next(&mut records, &mut file, line, out) {
+            Ok(true) => lines += 1,
+            Ok(false) => return Ok(lines),
             Err(cause) => return Err(ListFault { lines, cause }),
         }
     }
-    Ok(lines)
 }

@@ -64,7 +64,8 @@ fn list_input_by_time(
     let bytes = input.into_bytes().map_err(InputError::Io)?;
     let reader = open_in_memory(rt.alloc(), &bytes, is_pipe)?;
     let mut out = output(rt)?;
-    let listed = list_by_time(rt.alloc(), reader, byte_limit, &mut out);
+    let mut line = JsonLine::new(rt.alloc(), byte_limit);
+    let listed = list_by_time(rt.alloc(), reader, &mut line, &mut out);
     let position = Position {
         records: lines_of(&listed),
         offset: None,

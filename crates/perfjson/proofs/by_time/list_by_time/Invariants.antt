@@ -1,0 +1,12 @@
+use Rattle.std.proofs.Common.{◌-◌, ◌^◌, ◌<◌}
+use Rattle.perfjson.specs.ByTime.{ListedSteps}
+use Rattle.perfjson.proofs.by_time.list_by_time.Given as goal
+
+abbrev pub invariant-records : goal.invariant-records
+invariant-records g l = record {
+  count_fits : l.lines < 2 ^ 64;
+  listed : ListedSteps g.L.RecordLine.is_line g.L.RecordLine.allocates l.initial.records l.initial.file (g.W.Write.contents l.initial.out) (g.W.Write.contents l.out) l.lines l.records l.file;
+}
+
+abbrev pub decreases-records : goal.decreases-records
+decreases-records g l = 2 ^ 64 - l.lines
