@@ -1,11 +1,13 @@
 -- Address spaces after a record is applied to their parts.
-use Rattle.std.proofs.Common.{◌≡◌, refl, List, ℕ, Result, Ok, Err, OnOk, OnErr, inl, inr}
+use Rattle.std.proofs.Common.{◌≡◌, ◌++◌, refl, List, ℕ, Result, Ok, Err, OnOk, OnErr, inl, inr}
 use Rattle.std.proofs.lemmas.List.{map_push}
 use Rattle.std.specs.declared.alloc.AllocError.{AllocError}
 use Rattle.perfdata_events.specs.declared.event.EventRecord.{EventRecord}
 use Rattle.perfdata_spaces.specs.AddressSpaces.{Follows, FollowsBut, space_effects, name_effects, then_applied}
-use Rattle.perfdata_spaces.specs.Effects.{Applied, effect_of, naming_of, space_effect, name_effect}
-use Rattle.perfdata_spaces.specs.Spaces.{Applies, Changes, KeepsSpaces}
+use Rattle.perfdata_spaces.specs.Effects.{Applied, SpaceEffect, effect_of, naming_of, space_effect, name_effect}
+use Rattle.perfdata_spaces.specs.Spaces.{Applies, Changes, KeepsSpaces, added, values_of}
+use Rattle.perfdata_spaces.specs.Mappings.{MappingValue}
+use Rattle.perfdata_spaces.specs.declared.spaces.Spaces.{Spaces}
 use Rattle.perfdata_spaces.specs.ThreadNames.{AppliesName, KeepsNames}
 use Rattle.perfdata_spaces.specs.declared.address_spaces.AddressSpaces.{AddressSpaces}
 use Rattle.perfdata_spaces.proofs.FollowSteps.{follows_step, follows_kept}
@@ -52,6 +54,10 @@ module _ (misc : ℕ) (next : EventRecord) (old new : AddressSpaces) where
   pub applied_err : (result : Result (Unit {0}) AllocError) → AppliesName (naming_of next) old.names new.names → Changes (effect_of misc next) old.spaces result new.spaces → OnErr result ((records : List Applied) → FollowsBut records next old → FollowsBut records next new)
   applied_err (Ok done) names spaces = tt
   applied_err (Err error) names spaces = λ records follows. names_applied records misc next old new follows names spaces
+
+pub indices_kept : (effect : SpaceEffect) (old new : Spaces) (result : Result (Unit {0}) AllocError) → Changes effect old result new → (more : List MappingValue) × (values_of new ≡ values_of old ++ more)
+indices_kept effect old new (Ok done) spaces = (added effect, spaces.mappings)
+indices_kept effect old new (Err error) spaces = (spaces.more, spaces.mappings)
 
 -- The same for spaces that follow.
 pub from_follows_ok : (next : EventRecord) (old : AddressSpaces) (new : List Applied → Type 0) (result : Result (Unit {0}) AllocError) → OnOk result ((records : List Applied) → FollowsBut records next old → new records) → OnOk result ((records : List Applied) → Follows records old → new records)

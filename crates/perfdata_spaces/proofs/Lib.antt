@@ -4,5 +4,7 @@ pub mod FollowSteps
 pub mod HistorySteps
 pub mod Lists
 pub mod NameSteps
+pub mod OneHistory
+pub mod OneName
 pub mod SpaceChanges
 pub mod Values

@@ -9,7 +9,7 @@ use Rattle.perfdata_spaces.specs.declared.thread_names.ThreadNames.{ThreadNames}
 use Rattle.perfdata_spaces.proofs.Lists.{split_push}
 use Rattle.perfdata_spaces.proofs.HistorySteps.{same_ids}
 
-name_push : (tid : ℤ) (effects : List NameEffect) (name : Option (List ℕ)) (effect : NameEffect) → names tid effect ≡ false → IsName tid effects name → IsName tid (effects ++ effect ∷ []) name
+pub name_push : (tid : ℤ) (effects : List NameEffect) (name : Option (List ℕ)) (effect : NameEffect) → names tid effect ≡ false → IsName tid effects name → IsName tid (effects ++ effect ∷ []) name
 name_push tid effects name effect kept (never_named _ _ _ none is) =
     never_named tid (effects ++ effect ∷ []) name (All-push (λ e. names tid e ≡ false) effects effect none kept) is
 name_push tid effects name effect kept (named _ _ earlier later bytes _ split none is) =
@@ -20,12 +20,12 @@ name_push tid effects name effect kept (inherited _ parent _ earlier later _ spl
 is_name_as : (tid : ℤ) (effects : List NameEffect) (name other : Option (List ℕ)) → other ≡ name → IsName tid effects name → IsName tid effects other
 is_name_as tid effects name other same is = rw same is
 
-named_step : (tid thread : ℤ) (bytes : List ℕ) (effects : List NameEffect) (name : Option (List ℕ)) (same : Bool) → is_same thread tid ≡ same → IsName tid effects name → IsName tid (effects ++ Names thread bytes ∷ []) (cond same (Some bytes) name)
+pub named_step : (tid thread : ℤ) (bytes : List ℕ) (effects : List NameEffect) (name : Option (List ℕ)) (same : Bool) → is_same thread tid ≡ same → IsName tid effects name → IsName tid (effects ++ Names thread bytes ∷ []) (cond same (Some bytes) name)
 named_step tid thread bytes effects name true is before =
     named tid (effects ++ Names thread bytes ∷ []) effects [] bytes (Some bytes) (ap (λ id. effects ++ Names id bytes ∷ []) (same_ids thread tid is)) (All-nil (λ e. names tid e ≡ false)) refl
 named_step tid thread bytes effects name false is before = name_push tid effects name (Names thread bytes) is before
 
-inherited_step : (tid thread parent : ℤ) (effects : List NameEffect) (name parent_name : Option (List ℕ)) (same : Bool) → is_same thread tid ≡ same → IsName tid effects name → IsName parent effects parent_name → IsName tid (effects ++ Inherits thread parent ∷ []) (cond same parent_name name)
+pub inherited_step : (tid thread parent : ℤ) (effects : List NameEffect) (name parent_name : Option (List ℕ)) (same : Bool) → is_same thread tid ≡ same → IsName tid effects name → IsName parent effects parent_name → IsName tid (effects ++ Inherits thread parent ∷ []) (cond same parent_name name)
 inherited_step tid thread parent effects name parent_name true is before from =
     inherited tid parent (effects ++ Inherits thread parent ∷ []) effects [] parent_name (ap (λ id. effects ++ Inherits id parent ∷ []) (same_ids thread tid is)) (All-nil (λ e. names tid e ≡ false)) from
 inherited_step tid thread parent effects name parent_name false is before from = name_push tid effects name (Inherits thread parent) is before

@@ -1,5 +1,5 @@
 -- Address spaces and names of threads after records.
-use Rattle.std.specs.Prelude.{ℕ, ℤ, ◌<◌, ◌⊎◌, List, [], ◌∷◌, ◌++◌, length, map, slice_get, Option, None, Some, IfSome}
+use Rattle.std.specs.Prelude.{◌≡◌, ℕ, ℤ, ◌<◌, ◌⊎◌, List, [], ◌∷◌, ◌++◌, length, map, slice_get, Option, None, Some, IfSome}
 use Rattle.perfdata_events.specs.declared.event.EventRecord.{EventRecord}
 use Rattle.perfdata_events.specs.declared.fields.call_chain.CallContext.{CallContext}
 use Rattle.perfdata_spaces.specs.Effects.{Applied, SpaceEffect, NameEffect, space_effect, name_effect, naming_of}
@@ -32,12 +32,20 @@ pub record FollowsBut (records : List Applied) (next : EventRecord) (spaces : Ad
   pub names_follow : FollowsNames (name_effects records) names
   pub named : KeepsNames names spaces.names ⊎ AppliesName (naming_of next) names spaces.names
 
+-- All mappings, by index.
+abbrev pub mapping_values : AddressSpaces → List MappingValue
+mapping_values spaces = values_of spaces.spaces
+
+-- Mappings keep their indices.
+abbrev pub KeepsIndices : AddressSpaces → AddressSpaces → Type 0
+KeepsIndices old new = ((more : List MappingValue) × (mapping_values new ≡ mapping_values old ++ more))
+
 -- The mapping with an index.
 abbrev pub mapping_at : AddressSpaces → Option ℕ → Option MappingValue
 mapping_at spaces None = None
-mapping_at spaces (Some index) = slice_get (values_of spaces.spaces) index
+mapping_at spaces (Some index) = slice_get (mapping_values spaces) index
 
 -- An index is that of the mapping at an address.
 pub record FindsIndex (records : List Applied) (spaces : AddressSpaces) (pid : ℤ) (address : ℕ) (context : CallContext) (index : Option ℕ) : Type 0 where
   pub found : IsFound (space_effects records) pid address context (mapping_at spaces index)
-  pub within : IfSome index (λ i. i < length (values_of spaces.spaces))
+  pub within : IfSome index (λ i. i < length (mapping_values spaces))

@@ -3,6 +3,7 @@ pub mod AddressSpaces
 pub mod Effects
 pub mod Histories
 pub mod NameHistories
+pub mod Laws
 pub mod Mappings
 pub mod Processes
 pub mod Ranges

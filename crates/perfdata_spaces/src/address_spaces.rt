@@ -7,7 +7,6 @@ ghost use Rattle.perfdata_spaces.specs.Effects.{Applied};
 ghost use Rattle.perfdata_spaces.specs.Histories.{context_in, IsFound};
 ghost use Rattle.perfdata_spaces.specs.Mappings.{mapping_value};
 ghost use Rattle.perfdata_spaces.specs.NameHistories.{IsName};
-ghost use Rattle.perfdata_spaces.specs.Spaces.{values_of};
 
 use crate::mapping::Mapping;
 use crate::spaces::Spaces;
@@ -39,8 +38,8 @@ pub fn context_of_mode(misc: u16) -> CallContext
 }
 
 impl AddressSpaces {
-    ghost use Rattle.perfdata_spaces.specs.AddressSpaces.{Follows, FollowsBut, FindsIndex};
-    ghost use Rattle.perfdata_spaces.specs.AddressSpaces.{space_effects, name_effects, then_applied};
+    ghost use Rattle.perfdata_spaces.specs.AddressSpaces.{Follows, FollowsBut, FindsIndex, KeepsIndices};
+    ghost use Rattle.perfdata_spaces.specs.AddressSpaces.{mapping_values, space_effects, name_effects, then_applied};
 
     /// Creates address spaces in which nothing is mapped.
     pub fn new(alloc: Global) -> AddressSpaces
@@ -60,6 +59,7 @@ impl AddressSpaces {
     pub fn apply(&mut self, misc: u16, record: &EventRecord<'_>) -> Result<(), AllocError>
         ensures ok { OnOk result ((records : List Applied) → Follows records self.old →
             Follows (then_applied records misc «record».now) self.new) }
+        ensures indices { KeepsIndices self.old self.new }
         ensures err { OnErr result ((records : List Applied) → Follows records self.old →
             FollowsBut records «record».now self.new) }
         ensures repeated_ok { OnOk result ((records : List Applied) →
@@ -95,7 +95,7 @@ impl AddressSpaces {
     /// Returns the mapping with an index that [`AddressSpaces::find_index`] returned. Mappings that were
     /// applied later have greater indices.
     pub fn mapping(&self, index: usize) -> Option<&Mapping>
-        ensures { option_map (λ m. mapping_value m.now) result ≡ slice_get (values_of self.now.spaces) index }
+        ensures { option_map (λ m. mapping_value m.now) result ≡ slice_get (mapping_values self.now) index }
     {
         self.spaces.mapping(index)
     }

@@ -5,6 +5,7 @@
 #![tactic(auto)]
 
 pub mod address_spaces;
+pub mod laws;
 pub mod mapping;
 mod processes;
 mod ranges;

@@ -1,6 +1,9 @@
-use Rattle.std.proofs.Common.{refl}
+use Rattle.std.proofs.Common.{[], refl, sym}
+use Rattle.std.proofs.lemmas.List.{append-nil}
+use Rattle.perfdata_spaces.specs.Effects.{effect_of}
+use Rattle.perfdata_spaces.specs.Spaces.{values_of}
 use Rattle.std.proofs.lemmas.Result.{err_from_is_err_and}
-use Rattle.perfdata_spaces.proofs.Applying.{applied_ok, applied_err, follows_but, none_applied, from_follows_ok, from_follows_err}
+use Rattle.perfdata_spaces.proofs.Applying.{applied_ok, applied_err, indices_kept, follows_but, none_applied, from_follows_ok, from_follows_err}
 use Rattle.perfdata_spaces.proofs.address_spaces.AddressSpaces.apply.Goals as goal
 
 pub returns-clause-repeated_ok : goal.returns-clause-repeated_ok
@@ -19,3 +22,9 @@ pub returns-in_err-apply-clause-err : goal.returns-in_err-apply-clause-err
 returns-in_err-apply-clause-err c =
     let p = err_from_is_err_and c.from_residual.result c.from_residual.ensures.1 in
     rw p.1 (λ records follows. none_applied records c.args.misc c.args.record.now c.args.self.now _ (follows_but records c.args.record.now c.args.self.now follows) c.in_err-apply.ensures refl)
+
+pub returns-clause-indices : goal.returns-clause-indices
+returns-clause-indices c = indices_kept (effect_of c.args.misc c.args.record.now) c.args.self.now.spaces c.apply-2.new.self c.apply-2.result c.apply-2.ensures
+
+pub returns-in_err-apply-clause-indices : goal.returns-in_err-apply-clause-indices
+returns-in_err-apply-clause-indices c = ([], sym (append-nil (values_of c.args.self.now.spaces)))
