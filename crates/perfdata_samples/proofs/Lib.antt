@@ -1,0 +1,10 @@
+-- The modules that proofs of goals use.
+pub mod WordFormats
+pub mod FrameLemmas
+pub mod Arrays
+pub mod RecordLemmas
+pub mod SampleBounds
+pub mod SampleWalks
+pub mod FilePages
+pub mod SamplePages
+pub mod PipeSamples

@@ -1,0 +1,7 @@
+-- The modules that contracts use.
+pub mod Bodies
+pub mod Samples
+pub mod Status
+pub mod Records
+pub mod Pages
+pub mod Pipes

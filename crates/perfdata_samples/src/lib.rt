@@ -1,0 +1,14 @@
+//! Decodes the samples of recordings in memory into arrays of plain structs, with the frames of their call
+//! chains.
+//!
+//! Each call keeps no state and allocates no memory for a sample. It fills arrays that the caller passes.
+#![tactic(auto)]
+
+mod array;
+pub mod body;
+pub mod frame;
+pub mod pages;
+pub mod pipes;
+mod records;
+pub mod sample;
+pub mod status;

@@ -1,0 +1,162 @@
+//! Samples as plain numbers.
+ghost use Rattle.std.specs.Prelude.{◌≡◌};
+ghost use Rattle.std.specs.Option.{unwrap_or};
+ghost use Rattle.perfdata_samples.specs.Samples.{sample_of, sample_with, error_code, task_or_none};
+
+use crate::body::{BodyError, SampleBody, WORD_BITS};
+use perfdata_events::bits::SampleFields;
+use perfdata_events::format::EventFormat;
+use perfdata_events::sample::SampleWords;
+use perfdata_events::sample_id::Task;
+use perfdata_events::sample_words::{EventWords, OriginWords};
+
+/// The bits of all fields that are known.
+const KNOWN_BITS: u64 = 0x1ffffff;
+
+/// A sample (`PERF_RECORD_SAMPLE` of Linux's `perf_event.h`) as plain numbers. A field that it doesn't have
+/// is 0.
+#[repr(C)]
+#[derive(Clone, Copy, Debug, PartialEq, Eq)]
+pub struct Sample {
+    /// The offset of the record in bytes, counted from the first record.
+    pub offset: u64,
+    /// The time, in nanoseconds of the recording's clock.
+    pub timestamp: u64,
+    /// The address of the instruction.
+    pub ip: u64,
+    /// The address in memory.
+    pub address: u64,
+    /// The identifier of the event: IDENTIFIER, otherwise ID.
+    pub id: u64,
+    /// The number of events since the previous sample.
+    pub period: u64,
+    /// The index of the first frame of its call chain in the array of frames.
+    pub frames_start: u64,
+    /// The number of frames of its call chain.
+    pub frames_count: u32,
+    /// The index of its attribute.
+    pub attr_index: u32,
+    /// The fields that the sample has, as a bit mask (`perf_event_sample_format`).
+    pub fields: u32,
+    /// The processor.
+    pub cpu: u32,
+    /// The process.
+    pub pid: i32,
+    /// The thread.
+    pub tid: i32,
+    /// The misc flags of the record header. The CPU mode is in the lowest three bits.
+    pub misc: u16,
+    /// 0 if all of these fields are decoded. 1 if the record ends inside a field, 2 if its attribute selects
+    /// a field that isn't known.
+    pub error: u8,
+    /// 0.
+    pub reserved: u8,
+    /// 0.
+    pub reserved_2: u32,
+}
+
+const _: () = prove!(size_of::<Sample>() == 88);
+
+/// What a sample has beside the fields of its body.
+#[derive(Clone, Copy, Debug)]
+pub struct SampleHead {
+    /// The offset of the record in bytes, counted from the first record.
+    pub offset: u64,
+    /// The index of its attribute.
+    pub attr_index: u32,
+    /// The misc flags of the record header.
+    pub misc: u16,
+    /// The index of the first frame.
+    pub frames_start: u64,
+    /// The number of frames.
+    pub frames_count: u32,
+}
+
+/// No words are selected.
+const NO_WORDS: SampleWords = SampleWords {
+    origin: OriginWords {
+        identifier: None,
+        ip: None,
+        task: None,
+        timestamp: None,
+    },
+    event: EventWords {
+        address: None,
+        id: None,
+        stream_id: None,
+        cpu: None,
+    },
+    period: None,
+};
+
+// The number of an error.
+fn error_code(error: BodyError) -> u8
+    ensures { result ≡ error_code error }
+{
+    match error {
+        BodyError::Truncated => 1,
+        BodyError::UnknownFields => 2,
+    }
+}
+
+// The process and the thread, or zeros.
+fn task_or_zeros(task: Option<Task>) -> Task
+    ensures { result ≡ task_or_none task }
+{
+    match task {
+        Some(task) => task,
+        None => Task { pid: 0, tid: 0 },
+    }
+}
+
+// The sample with these words, fields and error.
+#[inline(always)]
+fn with_words(head: SampleHead, words: &SampleWords, fields: u32, error: u8) -> Sample
+    ensures { result ≡ sample_with head words.now fields error }
+{
+    let task = task_or_zeros(words.origin.task);
+    Sample {
+        offset: head.offset,
+        timestamp: words.origin.timestamp.unwrap_or(0),
+        ip: words.origin.ip.unwrap_or(0),
+        address: words.event.address.unwrap_or(0),
+        id: words.origin.identifier.or(words.event.id).unwrap_or(0),
+        period: words.period.unwrap_or(0),
+        frames_start: head.frames_start,
+        frames_count: head.frames_count,
+        attr_index: head.attr_index,
+        fields,
+        cpu: words.event.cpu.unwrap_or(0),
+        pid: task.pid,
+        tid: task.tid,
+        misc: head.misc,
+        error,
+        reserved: 0,
+        reserved_2: 0,
+    }
+}
+
+impl Sample {
+    /// Returns the sample with a decoded body.
+    #[inline(always)]
+    pub fn new(head: SampleHead, format: &EventFormat, body: &SampleBody<'_>) -> Sample
+        ensures { result ≡ sample_of head format.now body.now }
+    {
+        let bits = format.sample_format.0;
+        match body {
+            SampleBody::Complete(words, _) => with_words(
+                head,
+                words,
+                (bits & KNOWN_BITS) as u32,
+                0,
+            ),
+            SampleBody::Words(words, error) => with_words(
+                head,
+                words,
+                (bits & WORD_BITS) as u32,
+                error_code(*error),
+            ),
+            SampleBody::Nothing => with_words(head, &NO_WORDS, 0, 1),
+        }
+    }
+}
