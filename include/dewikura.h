@@ -1,7 +1,7 @@
 /*
  * Dewikura reads recordings of Linux perf and Android simpleperf (perf.data files and pipes), and jitdumps, from memory into arrays of
  * plain structs. A call fills the caller's arrays and keeps nothing: there is nothing to open or free. A call that is given capacity 0
- * counts, except dewikura_read_file_records, which continues where a cursor points.
+ * counts, except the calls with a cursor, which continue where it points.
  *
  * The library is formally verified. No input makes a call read outside the input or write outside the arrays. The written elements are
  * exactly what the format says, in order. The elements after them are unchanged. The status is the first error in the input.
@@ -77,7 +77,8 @@ enum dewikura_status_code {
     DEWIKURA_JIT_BAD_RECORD_SIZE = 21,    // a jitdump record gives a size below 16, or ends past 2^64 - 1
     DEWIKURA_JIT_WRONG_TYPE = 22,         // the jitdump record at this offset is of another type
     DEWIKURA_JIT_BAD_BODY = 23,           // the body of the jitdump record is malformed
-    DEWIKURA_BAD_SYMBOL_TABLE = 24        // a record of simpleperf's symbol tables is malformed
+    DEWIKURA_BAD_SYMBOL_TABLE = 24,       // a record of simpleperf's symbol tables is malformed
+    DEWIKURA_NO_SPACE = 25                // the array of frames is smaller than a call chain
 };
 
 // ---- structs: numbers are in the machine's byte order, whatever the byte order of the input is
@@ -100,6 +101,33 @@ struct dewikura_record {
     uint16_t misc;         // misc bits of the record header
     uint8_t has_timestamp; // 0 or 1
     uint8_t has_attr;      // 1 for kernel records, 0 for user (tool) records
+};
+
+// A sample (DEWIKURA_RECORD_SAMPLE), decoded. What it doesn't have is 0: `fields` says what it has.
+struct dewikura_sample {
+    uint64_t offset;       // of the record header, in bytes from the first record, as in dewikura_record
+    uint64_t timestamp;    // in nanoseconds of the recording's clock
+    uint64_t ip;           // address of the instruction
+    uint64_t address;      // address in memory
+    uint64_t id;           // of the event: IDENTIFIER, else ID
+    uint64_t period;       // events since the previous sample
+    uint64_t frames_start; // index of the first frame of its call chain in the array of frames
+    uint32_t frames_count; // frames of its call chain
+    uint32_t attr_index;   // index of its attribute
+    uint32_t fields;       // DEWIKURA_SAMPLE_* bits of its attribute; after an error, of the fields that are decoded
+    uint32_t cpu;
+    int32_t pid;
+    int32_t tid;
+    uint16_t misc;         // misc bits of the record header; `misc & 7` is a DEWIKURA_MODE_*
+    uint8_t error;         // DEWIKURA_BODY_*: whether the fields up to the call chain are decoded
+    uint8_t reserved[5];   // 0
+};
+
+// A frame of a call chain. Context changes are no frames.
+struct dewikura_frame {
+    uint64_t address;
+    uint32_t context;  // DEWIKURA_CONTEXT_*
+    uint32_t reserved; // 0
 };
 
 // An event attribute: perf_event_attr, by the kernel's names.
@@ -502,6 +530,37 @@ enum dewikura_symbol_file_type {
     DEWIKURA_SYMBOL_FILE_UNKNOWN = 5
 };
 
+// ---- samples and frames
+
+// The mode of the processor (dewikura_sample.misc & 7).
+enum dewikura_cpu_mode {
+    DEWIKURA_MODE_UNKNOWN = 0,
+    DEWIKURA_MODE_KERNEL = 1,
+    DEWIKURA_MODE_USER = 2,
+    DEWIKURA_MODE_HYPERVISOR = 3,
+    DEWIKURA_MODE_GUEST_KERNEL = 4,
+    DEWIKURA_MODE_GUEST_USER = 5
+};
+
+// The context of a frame (dewikura_frame.context): the mode of the processor, or a guest whose mode isn't known.
+enum dewikura_frame_context {
+    DEWIKURA_CONTEXT_UNKNOWN = 0,
+    DEWIKURA_CONTEXT_KERNEL = 1,
+    DEWIKURA_CONTEXT_USER = 2,
+    DEWIKURA_CONTEXT_HYPERVISOR = 3,
+    DEWIKURA_CONTEXT_GUEST_KERNEL = 4,
+    DEWIKURA_CONTEXT_GUEST_USER = 5,
+    DEWIKURA_CONTEXT_GUEST = 6
+};
+
+// Whether the fields of a sample up to its call chain are decoded (dewikura_sample.error). After an error the fields up to the period
+// are decoded if they are complete.
+enum dewikura_body_error {
+    DEWIKURA_BODY_COMPLETE = 0,      // they are decoded
+    DEWIKURA_BODY_TRUNCATED = 1,     // the record ends inside one of them
+    DEWIKURA_BODY_UNKNOWN_FIELDS = 2 // the attribute selects a field that isn't known
+};
+
 // ---- jitdump record types (dewikura_jit_record.type)
 
 enum dewikura_jit_record_type {
@@ -520,6 +579,11 @@ DEWIKURA_NONNULL dewikura_status dewikura_read_file_records_raw(const void *data
     struct dewikura_record *records, size_t capacity, uint64_t *count);
 DEWIKURA_NONNULL dewikura_status dewikura_read_pipe_records_raw(const void *data, size_t size, uint64_t start,
     struct dewikura_record *records, size_t capacity, uint64_t *total);
+DEWIKURA_NONNULL dewikura_status dewikura_read_file_samples_raw(const void *data, size_t size, struct dewikura_cursor *cursor,
+    struct dewikura_sample *samples, size_t capacity, uint64_t *count, struct dewikura_frame *frames, size_t frames_capacity,
+    uint64_t *frames_count);
+DEWIKURA_NONNULL dewikura_status dewikura_read_pipe_samples_raw(const void *data, size_t size, struct dewikura_sample *samples, size_t capacity,
+    uint64_t *total, struct dewikura_frame *frames, size_t frames_capacity, uint64_t *frames_total);
 DEWIKURA_NONNULL dewikura_status dewikura_sort_records_raw(struct dewikura_record *records, size_t count);
 DEWIKURA_NONNULL dewikura_status dewikura_read_file_attrs_raw(const void *data, size_t size, struct dewikura_attr *attrs,
     size_t attrs_capacity, char *names, size_t names_capacity, uint64_t *ids, size_t ids_capacity, struct dewikura_attr_totals *totals);
@@ -602,6 +666,48 @@ DEWIKURA_NODISCARD static inline dewikura_status dewikura_read_pipe_records(cons
     uint64_t unused;
     return dewikura_read_pipe_records_raw(data ? data : &no_data, size, start, records ? records : &no_record, capacity,
         total ? total : &unused);
+}
+
+// Writes the samples of a perf.data file from *cursor on and the frames of their call chains, in the order of the file, as many as both
+// arrays have capacity for, and moves *cursor past the last of them. `data` is the whole file. The first call has a cursor of zeros. With
+// NULL for `cursor`, a call starts at the first record. With a `frames_capacity` of 0, call chains are left out, and samples have no frames.
+//
+// *count is the number of written samples, *frames_count that of written frames. Both pointers may be NULL. A call with the moved cursor
+// writes the samples that follow. If *count is 0 and the status is DEWIKURA_OK, there are no more samples. Calls with arrays of any
+// capacity write the same samples as one call with arrays for all of them, but for `frames_start`, which counts from the start of a call's
+// frames.
+//
+// DEWIKURA_NO_SPACE means that the call chain of the next sample has more frames than `frames_capacity`; *frames_count is their number,
+// *count is 0, and *cursor is at the sample. A sample whose fields can't be decoded is written with its `error`; its offset and its
+// attribute are valid. The other errors are those of dewikura_read_file_records.
+DEWIKURA_NODISCARD static inline dewikura_status dewikura_read_file_samples(const void *data, size_t size, struct dewikura_cursor *cursor,
+    struct dewikura_sample *samples, size_t capacity, uint64_t *count, struct dewikura_frame *frames, size_t frames_capacity,
+    uint64_t *frames_count)
+{
+    const char no_data = 0;
+    struct dewikura_cursor first = {0, 0};
+    struct dewikura_sample no_sample;
+    struct dewikura_frame no_frame;
+    uint64_t unused_count, unused_frames;
+    return dewikura_read_file_samples_raw(data ? data : &no_data, size, cursor ? cursor : &first, samples ? samples : &no_sample, capacity,
+        count ? count : &unused_count, frames ? frames : &no_frame, frames_capacity, frames_count ? frames_count : &unused_frames);
+}
+
+// Writes the samples of a pipe and the frames of their call chains, in the order of the pipe, each up to the capacity of its array. `data`
+// is the whole pipe. A truncated record ends a pipe without an error.
+//
+// *total counts all samples of the pipe, *frames_total all of their frames; after an error those before it, and 0 if the pipe doesn't open.
+// Both pointers may be NULL. A sample whose fields can't be decoded is written with its `error`. The errors are those of
+// dewikura_read_pipe_records.
+DEWIKURA_NODISCARD static inline dewikura_status dewikura_read_pipe_samples(const void *data, size_t size, struct dewikura_sample *samples,
+    size_t capacity, uint64_t *total, struct dewikura_frame *frames, size_t frames_capacity, uint64_t *frames_total)
+{
+    const char no_data = 0;
+    struct dewikura_sample no_sample;
+    struct dewikura_frame no_frame;
+    uint64_t unused_total, unused_frames;
+    return dewikura_read_pipe_samples_raw(data ? data : &no_data, size, samples ? samples : &no_sample, capacity,
+        total ? total : &unused_total, frames ? frames : &no_frame, frames_capacity, frames_total ? frames_total : &unused_frames);
 }
 
 // Sorts records by time. Records without a time come first, and records with one time keep their order; the times 0 and 2^64 - 1 count as

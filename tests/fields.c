@@ -221,6 +221,117 @@ static void check_file(void)
     CHECK(is_present, 0);
 }
 
+// A file with one attribute, whose samples have all words and a call chain: a complete sample, one whose call chain is truncated, and one
+// whose words are.
+static void check_samples(void)
+{
+    static const uint64_t words = DEWIKURA_SAMPLE_IDENTIFIER | DEWIKURA_SAMPLE_IP | DEWIKURA_SAMPLE_TID | DEWIKURA_SAMPLE_TIME | DEWIKURA_SAMPLE_ADDR
+        | DEWIKURA_SAMPLE_ID | DEWIKURA_SAMPLE_STREAM_ID | DEWIKURA_SAMPLE_CPU | DEWIKURA_SAMPLE_PERIOD;
+    struct dewikura_cursor cursor = {0, 0};
+    struct dewikura_sample samples[4];
+    struct dewikura_frame frames[4];
+    uint64_t count = 0, frames_count = 0;
+    int i;
+    size = 0;
+    put_text("PERFILE2", 8);
+    put(104, 8);
+    put(152, 8); // the size of an entry of the attribute section
+    put(104, 8);
+    put(152, 8);
+    put(256, 8); // the data section
+    put(8 + 128 + 96 + 24, 8);
+    put(0, 48);
+    put_attr(0x1101, words | DEWIKURA_SAMPLE_CALLCHAIN);
+    put(0, 16);
+    CHECK(size, 256);
+    put_header(DEWIKURA_RECORD_FINISHED_ROUND, 0, 8);
+    for (i = 0; i < 2; i++) {
+        put_header(DEWIKURA_RECORD_SAMPLE, DEWIKURA_MODE_KERNEL, i ? 96 : 128);
+        put(0x701, 8); // the identifier
+        put(0x702, 8); // ip
+        put((uint32_t)-3, 4); // pid
+        put(0x704, 4); // tid
+        put(0x705, 8); // time
+        put(0x706, 8); // address
+        put(0x707, 8); // id
+        put(0x708, 8); // stream id
+        put(0x709, 4); // cpu
+        put(0, 4);
+        put(0x70a, 8); // period
+        put(5, 8);     // values of the call chain
+        put((uint64_t)-128, 8);
+        if (i)
+            break;
+        put(0x70b, 8);
+        put((uint64_t)-512, 8);
+        put(0x70c, 8);
+        put(0x70d, 8);
+    }
+    put_header(DEWIKURA_RECORD_SAMPLE, DEWIKURA_MODE_USER, 24);
+    put(0x701, 8);
+    put(0x702, 8);
+    memset(samples, 0xab, sizeof samples);
+    memset(frames, 0xab, sizeof frames);
+    CHECK(dewikura_read_file_samples(input, size, &cursor, samples, 4, &count, frames, 2, &frames_count), DEWIKURA_NO_SPACE);
+    CHECK(count, 0);
+    CHECK(frames_count, 3);
+    CHECK(cursor.offset, 0);
+    CHECK(samples[0].cpu, 0xabababab);
+    CHECK(frames[0].context, 0xabababab);
+    CHECK(dewikura_read_file_samples(input, size, &cursor, samples, 4, &count, frames, 4, &frames_count), DEWIKURA_OK);
+    CHECK(count, 3);
+    CHECK(frames_count, 3);
+    CHECK(cursor.offset, 256);
+    CHECK(cursor.round, 1);
+    CHECK(samples[0].offset, 8);
+    CHECK(samples[0].timestamp, 0x705);
+    CHECK(samples[0].ip, 0x702);
+    CHECK(samples[0].address, 0x706);
+    CHECK(samples[0].id, 0x701);
+    CHECK(samples[0].period, 0x70a);
+    CHECK(samples[0].frames_start, 0);
+    CHECK(samples[0].frames_count, 3);
+    CHECK(samples[0].attr_index, 0);
+    CHECK(samples[0].fields, words | DEWIKURA_SAMPLE_CALLCHAIN);
+    CHECK(samples[0].cpu, 0x709);
+    CHECK(samples[0].pid, -3);
+    CHECK(samples[0].tid, 0x704);
+    CHECK(samples[0].misc, DEWIKURA_MODE_KERNEL);
+    CHECK(samples[0].error, DEWIKURA_BODY_COMPLETE);
+    for (i = 0; i < 5; i++)
+        CHECK(samples[0].reserved[i], 0);
+    CHECK(frames[0].address, 0x70b);
+    CHECK(frames[0].context, DEWIKURA_CONTEXT_KERNEL);
+    CHECK(frames[0].reserved, 0);
+    CHECK(frames[1].address, 0x70c);
+    CHECK(frames[1].context, DEWIKURA_CONTEXT_USER);
+    CHECK(frames[2].address, 0x70d);
+    CHECK(frames[2].context, DEWIKURA_CONTEXT_USER);
+    CHECK(frames[3].context, 0xabababab);
+    CHECK(samples[1].offset, 136);
+    CHECK(samples[1].period, 0x70a);
+    CHECK(samples[1].frames_start, 3);
+    CHECK(samples[1].frames_count, 0);
+    CHECK(samples[1].fields, words);
+    CHECK(samples[1].error, DEWIKURA_BODY_TRUNCATED);
+    CHECK(samples[2].offset, 232);
+    CHECK(samples[2].ip, 0);
+    CHECK(samples[2].fields, 0);
+    CHECK(samples[2].misc, DEWIKURA_MODE_USER);
+    CHECK(samples[2].error, DEWIKURA_BODY_TRUNCATED);
+    CHECK(samples[3].cpu, 0xabababab);
+    CHECK(dewikura_read_file_samples(input, size, &cursor, samples, 4, &count, frames, 4, &frames_count), DEWIKURA_OK);
+    CHECK(count | frames_count, 0);
+    CHECK(cursor.offset, 256);
+    CHECK(dewikura_read_file_samples(input, size, NULL, samples, 1, NULL, NULL, 0, NULL), DEWIKURA_OK);
+    CHECK(samples[0].frames_count, 0);
+    CHECK(samples[0].fields, words | DEWIKURA_SAMPLE_CALLCHAIN);
+    put_at(256 + 8 + 128 + 96 + 6, 7, 2); // a record size below that of a record header
+    CHECK(dewikura_read_file_samples(input, size, NULL, samples, 4, &count, frames, 4, &frames_count), DEWIKURA_BAD_RECORD_SIZE);
+    CHECK(count, 2);
+    CHECK(frames_count, 3);
+}
+
 static void check_build_id(void)
 {
     struct dewikura_build_id entry;
@@ -597,6 +708,8 @@ static void check_empty(void)
     CHECK(dewikura_is_big_endian(NULL, 0), 0);
     CHECK(dewikura_read_file_records(NULL, 0, NULL, NULL, 0, NULL), DEWIKURA_TRUNCATED);
     CHECK(dewikura_read_pipe_records(NULL, 0, 0, NULL, 0, NULL), DEWIKURA_TRUNCATED);
+    CHECK(dewikura_read_file_samples(NULL, 0, NULL, NULL, 0, NULL, NULL, 0, NULL), DEWIKURA_TRUNCATED);
+    CHECK(dewikura_read_pipe_samples(NULL, 0, NULL, 0, NULL, NULL, 0, NULL), DEWIKURA_TRUNCATED);
     CHECK(dewikura_read_file_attrs(NULL, 0, NULL, 0, NULL, 0, NULL, 0, NULL), DEWIKURA_TRUNCATED);
     CHECK(dewikura_read_pipe_attrs(NULL, 0, NULL, 0, NULL, 0, NULL, 0, NULL), DEWIKURA_TRUNCATED);
     CHECK(dewikura_read_file_feature_set(NULL, 0, &set), DEWIKURA_TRUNCATED);
@@ -639,8 +752,8 @@ static void check_texts(void)
     dewikura_status status;
     size_t length;
     CHECK(dewikura_version(), DEWIKURA_VERSION);
-    CHECK(dewikura_status_text(DEWIKURA_BAD_SYMBOL_TABLE + 1, unknown, sizeof unknown), 14);
-    for (status = DEWIKURA_OK; status <= DEWIKURA_BAD_SYMBOL_TABLE; status++) {
+    CHECK(dewikura_status_text(DEWIKURA_NO_SPACE + 1, unknown, sizeof unknown), 14);
+    for (status = DEWIKURA_OK; status <= DEWIKURA_NO_SPACE; status++) {
         length = dewikura_status_text(status, text, sizeof text);
         CHECK(length, strlen(text));
         CHECK(!strcmp(text, unknown), 0);
@@ -655,6 +768,7 @@ static void check_texts(void)
 int main(void)
 {
     check_file();
+    check_samples();
     check_build_id();
     check_string();
     check_meta_info();

@@ -1,4 +1,4 @@
-//! C exports of the calls of `perfdata_arrays`; `include/dewikura.h` declares them.
+//! C exports of the calls of `perfdata_arrays` and `perfdata_samples`; `include/dewikura.h` declares them.
 //!
 //! The names end in `_raw` where a call takes pointers: no pointer may be NULL. The functions of the header
 //! that have the names without `_raw` accept NULL.
@@ -21,9 +21,12 @@ ghost use Rattle.linux_perf_data.specs.RecordEntries.{with_prefix};
 ghost use Rattle.perfdata_arrays.specs.Pages.{ReadsFilePage};
 ghost use Rattle.perfdata_arrays.specs.Records.{ReadsPipeRecords};
 ghost use Rattle.perfdata_arrays.specs.Sorting.{SortsByTime};
-ghost use Rattle.perfdata_arrays.specs.Status.{IsCodeOf, code_text};
+ghost use Rattle.perfdata_arrays.specs.Status.{IsCodeOf};
 ghost use Rattle.perfdata_arrays.specs.Strings.{ReadsString};
 ghost use Rattle.perfdata_arrays.specs.SymbolTables.{ReadsSymbolTables};
+ghost use Rattle.perfdata_samples.specs.Pages.{ReadsSamplePage};
+ghost use Rattle.perfdata_samples.specs.Pipes.{ReadsPipeSamples};
+ghost use Rattle.perfdata_samples.specs.Status.{IsSamplesCodeOf, all_code_text};
 ghost use Rattle.dewikura.specs.Numbers.{endian_from, number_of_bool};
 
 use linux_perf_data::Endianness;
@@ -40,8 +43,11 @@ use perfdata_arrays::strings::StringEntry;
 use perfdata_arrays::symbol_tables::{Symbol, SymbolFile, SymbolTotals};
 use perfdata_arrays::{
     attrs, build_ids, byte_order, feature_set, features, jit, jit_bodies, jit_debug, meta_info,
-    records, sort, status, strings, symbol_tables,
+    records, sort, strings, symbol_tables,
 };
+use perfdata_samples::frame::FrameEntry;
+use perfdata_samples::sample::Sample;
+use perfdata_samples::{pages, pipes, status};
 use std::alloc::Global;
 
 /// The version of the library: 10,000 times the major number, 100 times the minor number, and the patch
@@ -67,11 +73,12 @@ pub extern "C" fn dewikura_version() -> u32
     VERSION
 }
 
-/// Writes the text of a status code, as `status::status_text` does.
+/// Writes the text of a status code, as `perfdata_samples::status::status_text` does.
 #[unsafe(no_mangle)]
 pub extern "C" fn dewikura_status_text_raw(code: u32, buf: &mut [u8]) -> usize
-    ensures size { result ≡ length (code_text code) }
-    ensures written { buf.new ≡ with_prefix (take (length buf.old - 1) (code_text code) ++ 0 ∷ []) buf.old }
+    ensures size { result ≡ length (all_code_text code) }
+    ensures written { buf.new ≡ with_prefix (take (length buf.old - 1) (all_code_text code) ++ 0 ∷ [])
+        buf.old }
 {
     status::status_text(code, buf)
 }
@@ -116,6 +123,46 @@ pub extern "C" fn dewikura_read_pipe_records_raw(
 {
     let outcome = records::pipe_records(alloc, input, start, entries);
     *count = outcome.count;
+    outcome.status.code()
+}
+
+/// Reads the samples of a perf.data file from a cursor on, as `pages::file_samples` does.
+#[unsafe(no_mangle)]
+pub extern "C" fn dewikura_read_file_samples_raw(
+    alloc: Global,
+    input: &[u8],
+    cursor: &mut RecordPosition,
+    samples: &mut [Sample],
+    count: &mut u64,
+    frames: &mut [FrameEntry],
+    frames_count: &mut u64,
+) -> u32
+    ensures { IsSamplesCodeOf result (λ s. ReadsSamplePage input.now cursor.old samples.old frames.old
+        (record { count = count.new; frames_count = frames_count.new; status = s }) cursor.new samples.new
+        frames.new) }
+{
+    let outcome = pages::file_samples(alloc, input, cursor, samples, frames);
+    *count = outcome.count;
+    *frames_count = outcome.frames_count;
+    outcome.status.code()
+}
+
+/// Reads the samples of a perf.data pipe, as `pipes::pipe_samples` does.
+#[unsafe(no_mangle)]
+pub extern "C" fn dewikura_read_pipe_samples_raw(
+    alloc: Global,
+    input: &[u8],
+    samples: &mut [Sample],
+    total: &mut u64,
+    frames: &mut [FrameEntry],
+    frames_total: &mut u64,
+) -> u32
+    ensures { IsSamplesCodeOf result (λ s. ReadsPipeSamples input.now samples.old frames.old
+        (record { count = total.new; frames_count = frames_total.new; status = s }) samples.new frames.new) }
+{
+    let outcome = pipes::pipe_samples(alloc, input, samples, frames);
+    *total = outcome.count;
+    *frames_total = outcome.frames_count;
     outcome.status.code()
 }
 

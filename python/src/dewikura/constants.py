@@ -31,6 +31,7 @@ class Status(enum.IntEnum):
     JIT_WRONG_TYPE = 22
     JIT_BAD_BODY = 23
     BAD_SYMBOL_TABLE = 24
+    NO_SPACE = 25
 
 
 class RecordType(enum.IntEnum):
@@ -163,6 +164,37 @@ class SymbolFileType(enum.IntEnum):
     DEX = 3
     SYMBOL_MAP = 4
     UNKNOWN = 5
+
+
+class CpuMode(enum.IntEnum):
+    """The mode of the processor at a record."""
+
+    UNKNOWN = 0
+    KERNEL = 1
+    USER = 2
+    HYPERVISOR = 3
+    GUEST_KERNEL = 4
+    GUEST_USER = 5
+
+
+class FrameContext(enum.IntEnum):
+    """The context of a frame."""
+
+    UNKNOWN = 0
+    KERNEL = 1
+    USER = 2
+    HYPERVISOR = 3
+    GUEST_KERNEL = 4
+    GUEST_USER = 5
+    GUEST = 6
+
+
+class BodyError(enum.IntEnum):
+    """Whether the fields of a sample up to its call chain are decoded."""
+
+    COMPLETE = 0
+    TRUNCATED = 1
+    UNKNOWN_FIELDS = 2
 
 
 class JitRecordType(enum.IntEnum):
