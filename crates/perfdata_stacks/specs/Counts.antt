@@ -1,5 +1,5 @@
 -- The sum of the weights of each line.
-use Rattle.std.specs.Prelude.{◌≡◌, ℕ, ◌+◌, ◌≤◌, ◌^◌, false, List, Option, Some, Result, Ok, Err, Vec}
+use Rattle.std.specs.Prelude.{◌≡◌, ℕ, ◌+◌, ◌≤◌, ◌^◌, Bool, false, List, [], ◌∷◌, Option, None, Some, Result, Ok, Err, Vec, filter, map, slice_get}
 use Rattle.std.specs.declared.alloc.Global.{Global}
 use Rattle.std.specs.List.{sum_by}
 use Rattle.std.specs.Option.{unwrap_or}
@@ -7,7 +7,7 @@ use Rattle.std.specs.Ordering.{is_eq, nat_cmp}
 use Rattle.std.specs.declared.cmp.Ordering.{Ordering}
 use Rattle.std.specs.Cmp.Lexicographic.{slice_cmp}
 use Rattle.std.specs.Map.{values_of}
-use Rattle.std.specs.BTreeMap.{get}
+use Rattle.std.specs.BTreeMap.{get_by, IsOrdered}
 use Rattle.perfdata_stacks.specs.declared.counts.StackCounts.{StackCounts}
 use Rattle.perfdata_stacks.specs.declared.counts.CountError.{CountError}
 use Rattle.perfdata_stacks.specs.declared.counts.CountError.TheVariants.{Overflow, Memory}
@@ -16,24 +16,30 @@ use Rattle.perfdata_stacks.specs.declared.counts.CountError.TheVariants.{Overflo
 abbrev pub line_cmp : Vec ℕ Global → Vec ℕ Global → Ordering
 line_cmp first second = slice_cmp nat_cmp first.items second.items
 
+-- Whether two lines are the same.
+abbrev pub is_line : List ℕ → List ℕ → Bool
+is_line line other = is_eq (slice_cmp nat_cmp line other)
+
 -- The lines with their counts, in the order of the iterator.
 abbrev pub counted_lines : StackCounts → List (Vec ℕ Global × ℕ)
 counted_lines counts = counts.counts.entries
 
+-- The lines ascend by bytes, and each is there once.
+abbrev pub IsAscending : StackCounts → Type 0
+IsAscending counts = IsOrdered line_cmp counts.counts
+
 -- The count of a line, if it is counted.
-abbrev pub count_of : StackCounts → Vec ℕ Global → Option ℕ
-count_of counts line = get line_cmp counts.counts line
+abbrev pub count_of : StackCounts → List ℕ → Option ℕ
+count_of counts line = get_by (λ (counted : Vec ℕ Global). slice_cmp nat_cmp line counted.items) counts.counts
 
 -- The sum of all counts.
 abbrev pub sum_of_counts : StackCounts → ℕ
 sum_of_counts counts = sum_by (λ count. count) (values_of counts.counts.entries)
 
--- The weight is added to the count of the line with these bytes, and to no other.
-pub record CountsLine (old : StackCounts) (bytes : List ℕ) (weight : ℕ) (new : StackCounts) : Type 0 where
-  pub line : Vec ℕ Global
-  pub is : line.items ≡ bytes
+-- The weight is added to the count of a line, and to no other.
+pub record CountsLine (old : StackCounts) (line : List ℕ) (weight : ℕ) (new : StackCounts) : Type 0 where
   pub counted : count_of new line ≡ Some (unwrap_or (count_of old line) 0 + weight)
-  pub others : (other : Vec ℕ Global) → is_eq (line_cmp line other) ≡ false → count_of new other ≡ count_of old other
+  pub others : (other : List ℕ) → is_line line other ≡ false → count_of new other ≡ count_of old other
   pub sum : sum_of_counts new ≡ sum_of_counts old + weight
 
 -- Why a weight isn't added.
@@ -42,5 +48,31 @@ IsCause old weight Overflow = 2 ^ 64 ≤ sum_of_counts old + weight
 IsCause old weight Memory = Unit {0}
 
 abbrev pub AddsToLine : StackCounts → List ℕ → ℕ → Result (Unit {0}) CountError → StackCounts → Type 0
-AddsToLine old bytes weight (Ok done) new = CountsLine old bytes weight new
-AddsToLine old bytes weight (Err error) new = (counted_lines new ≡ counted_lines old) × IsCause old weight error
+AddsToLine old line weight (Ok done) new = CountsLine old line weight new
+AddsToLine old line weight (Err error) new = (counted_lines new ≡ counted_lines old) × IsCause old weight error
+
+-- A line with its weight, as it was added.
+pub record Added : Type 0 where
+  pub line : List ℕ
+  pub weight : ℕ
+
+-- The sum of weights, or `None` if there are none.
+abbrev pub sum_of : List ℕ → Option ℕ
+sum_of [] = None
+sum_of (weight ∷ weights) = Some (sum_by (λ w. w) (weight ∷ weights))
+
+-- The weights with which a line was added.
+abbrev pub weights_of : List ℕ → List Added → List ℕ
+weights_of line added = map (λ a. a.weight) (filter (λ a. is_line line a.line) added)
+
+-- Each line has the sum of its weights as its count, and the sum of all counts is that of all weights.
+pub record Counts (added : List Added) (counts : StackCounts) : Type 0 where
+  pub lines : (line : List ℕ) → count_of counts line ≡ sum_of (weights_of line added)
+  pub sum : sum_of_counts counts ≡ sum_by (λ a. a.weight) added
+
+-- The entries are the lines that were added, each with the sum of its weights.
+pub record ListsLines (added : List Added) (entries : List (Vec ℕ Global × ℕ)) : Type 0 where
+  pub each : (index : ℕ) (line : Vec ℕ Global) (count : ℕ) → slice_get entries index ≡ Some (line, count)
+      → sum_of (weights_of line.items added) ≡ Some count
+  pub all : (line : List ℕ) (count : ℕ) → sum_of (weights_of line added) ≡ Some count
+      → ((index : ℕ) × (counted : Vec ℕ Global) × (slice_get entries index ≡ Some (counted, count)) × (counted.items ≡ line))

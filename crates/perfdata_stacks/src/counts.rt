@@ -1,5 +1,5 @@
 //! Counts of lines.
-ghost use Rattle.std.specs.Prelude.{◌≡◌, []};
+ghost use Rattle.std.specs.Prelude.{◌≡◌, [], ◌∷◌, ◌++◌, List, OnOk, OnErr};
 ghost use Rattle.std.specs.List.{sum_by};
 ghost use Rattle.std.specs.Map.{values_of};
 
@@ -29,12 +29,13 @@ pub struct StackCounts {
 }
 
 impl StackCounts {
-    ghost use Rattle.std.specs.BTreeMap.{IsOrdered};
-    ghost use Rattle.perfdata_stacks.specs.Counts.{AddsToLine, counted_lines, line_cmp, sum_of_counts};
+    ghost use Rattle.perfdata_stacks.specs.Counts.{Added, AddsToLine, Counts, ListsLines, IsAscending};
+    ghost use Rattle.perfdata_stacks.specs.Counts.{counted_lines, sum_of_counts};
 
     /// Creates counts without lines.
     pub fn new(alloc: Global) -> StackCounts
-        ensures { counted_lines result ≡ [] }
+        ensures none { counted_lines result ≡ [] }
+        ensures counts { Counts [] result }
     {
         StackCounts {
             counts: BTreeMap::new(alloc),
@@ -48,7 +49,10 @@ impl StackCounts {
     /// Fails with [`CountError::Overflow`] if the sum of all weights exceeds 2^64 - 1, and with
     /// [`CountError::Memory`] if memory runs out. Then nothing is counted.
     pub fn add(&mut self, line: &[u8], weight: u64) -> Result<(), CountError>
-        ensures { AddsToLine self.old line.now weight result self.new }
+        ensures line { AddsToLine self.old line.now weight result self.new }
+        ensures counts { OnOk result ((added : List Added) → Counts added self.old →
+            Counts (added ++ record { line = line.now; weight = weight } ∷ []) self.new) }
+        ensures err { OnErr result ((added : List Added) → Counts added self.old → Counts added self.new) }
     {
         let Some(total) = self.total.checked_add(weight) else {
             return Err(CountError::Overflow);
@@ -69,7 +73,8 @@ impl StackCounts {
 
     /// Returns the sum of all counts.
     pub fn total(&self) -> u64
-        ensures { result ≡ sum_of_counts self.now }
+        ensures sum { result ≡ sum_of_counts self.now }
+        ensures counts { (added : List Added) → Counts added self.now → result ≡ sum_by (λ a. a.weight) added }
     {
         self.total
     }
@@ -77,7 +82,8 @@ impl StackCounts {
     /// Returns the lines, ascending by bytes, with their counts.
     pub fn iter(&self) -> Iter<'_, Vec<u8>, u64>
         ensures rest { result ≡ counted_lines self.now }
-        ensures ascending { IsOrdered line_cmp self.now.counts }
+        ensures ascending { IsAscending self.now }
+        ensures lines { (added : List Added) → Counts added self.now → ListsLines added (counted_lines self.now) }
     {
         self.counts.iter()
     }
