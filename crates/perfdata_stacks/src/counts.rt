@@ -74,7 +74,8 @@ impl StackCounts {
     /// Returns the sum of all counts.
     pub fn total(&self) -> u64
         ensures sum { result ≡ sum_of_counts self.now }
-        ensures counts { (added : List Added) → Counts added self.now → result ≡ sum_by (λ a. a.weight) added }
+        ensures counts { (added : List Added) → Counts added self.now →
+            result ≡ sum_by (λ a. a.weight) added }
     {
         self.total
     }
@@ -83,7 +84,8 @@ impl StackCounts {
     pub fn iter(&self) -> Iter<'_, Vec<u8>, u64>
         ensures rest { result ≡ counted_lines self.now }
         ensures ascending { IsAscending self.now }
-        ensures lines { (added : List Added) → Counts added self.now → ListsLines added (counted_lines self.now) }
+        ensures lines { (added : List Added) → Counts added self.now →
+            ListsLines added (counted_lines self.now) }
     {
         self.counts.iter()
     }
