@@ -203,6 +203,83 @@ def debug_info(data, offset):
     return code_address, tuple(entries)
 
 
+class SampleTest(unittest.TestCase):
+    """The fields are taken from the bodies by hand: PERF_RECORD_SAMPLE of the kernel's perf_event.h."""
+
+    def test_samples_of_words(self):
+        # IDENTIFIER, IP, TID, TIME, PERIOD
+        with dewikura.open(SEVERAL) as recording:
+            records = [record for record in recording.records if record.type == dewikura.RecordType.SAMPLE]
+            samples = recording.samples
+            self.assertEqual((len(samples), len(recording.frames)), (35, 0))
+            for record, sample in zip(records, samples):
+                identifier, ip, pid, tid, time, period = struct.unpack("<QQiiQQ", recording.body(record))
+                self.assertEqual((sample.offset, sample.attr_index, sample.misc), (record.offset, record.attr_index, record.misc))
+                self.assertEqual((sample.id, sample.ip, sample.pid, sample.tid, sample.timestamp, sample.period), (identifier, ip, pid, tid, time, period))
+                self.assertEqual((sample.address, sample.cpu, int(sample.fields)), (0, 0, 0x10107))
+                self.assertEqual((sample.error, sample.frames_count), (dewikura.BodyError.COMPLETE, 0))
+            self.assertEqual(samples[0].cpu_mode, dewikura.CpuMode.KERNEL)
+            self.assertEqual([sample.offset for sample in samples[3:1:-1]], [samples[3].offset, samples[2].offset])
+
+    def test_frames(self):
+        # IDENTIFIER, IP, TID, TIME, PERIOD, CALLCHAIN
+        contexts = {2 ** 64 - 128: dewikura.FrameContext.KERNEL, 2 ** 64 - 512: dewikura.FrameContext.USER}
+        for path in (CALLS, CALLS_PIPE):
+            with dewikura.open(path) as recording:
+                records = [record for record in recording.records if record.type == dewikura.RecordType.SAMPLE]
+                samples, start = recording.samples, 0
+                self.assertEqual(len(samples), len(records))
+                for record, sample in zip(records, samples):
+                    body, wanted, context = recording.body(record), [], dewikura.FrameContext.USER
+                    for value in struct.unpack_from(f"<{int.from_bytes(body[40:48], 'little')}Q", body, 48):
+                        if value in contexts:
+                            context = contexts[value]
+                        else:
+                            wanted.append((value, context))
+                    self.assertEqual([(frame.address, frame.context) for frame in samples.frames_of(sample)], wanted)
+                    self.assertEqual((sample.frames_start, sample.frames_count), (start, len(wanted)))
+                    start += len(wanted)
+                self.assertEqual(len(recording.frames), start)
+                self.assertGreater(start, 100)
+
+    def test_many_pages(self):
+        # Records of 8 bytes: more of them than the first array has elements.
+        header, count = bytearray(FIRST.read_bytes()[:104]), 500
+        attribute = struct.pack("<IIQQQQQ", 1, 64, 0, 0, 1 << 2, 0, 0) + bytes(16) + struct.pack("<QQ", 0, 0)
+        struct.pack_into("<QQQQQQQQ", header, 8, 104, 80, 104, 80, 184, 8 * count, 0, 0)
+        header[72:104] = bytes(32)
+        data = bytes(header) + attribute + struct.pack("<IHH", 9, 2, 8) * count
+        with dewikura.from_buffer(data) as recording:
+            samples = recording.samples
+            self.assertEqual([sample.offset for sample in samples], [8 * index for index in range(count)])
+            self.assertEqual({sample.error for sample in samples}, {dewikura.BodyError.TRUNCATED})
+
+    def test_errors(self):
+        data = SEVERAL.read_bytes()
+        with dewikura.from_buffer(data) as recording:
+            last = recording.samples[-1]
+            start = int.from_bytes(data[40:48], "little")
+        damaged = bytearray(data)
+        damaged[start + last.offset + 6:start + last.offset + 8] = b"\1\0"
+        with dewikura.from_buffer(damaged) as recording:
+            samples, error = recording.partial_samples()
+            self.assertEqual((len(samples), error.status), (34, dewikura.Status.BAD_RECORD_SIZE))
+            self.assertRaises(dewikura.FormatError, lambda: recording.samples)
+        with dewikura.from_buffer(b"") as recording:
+            self.assertRaises(dewikura.TruncatedError, lambda: recording.samples)
+
+    @unittest.skipUnless(HAS_NUMPY, "numpy isn't installed")
+    def test_numpy(self):
+        with dewikura.open(CALLS) as recording:
+            samples, frames = recording.samples.to_numpy(), recording.frames.to_numpy()
+            self.assertEqual(samples["ip"].tolist(), [sample.ip for sample in recording.samples])
+            self.assertEqual(samples["pid"].tolist(), [sample.pid for sample in recording.samples])
+            self.assertEqual(samples["misc"].tolist(), [sample.misc for sample in recording.samples])
+            self.assertEqual(frames["address"].tolist(), [frame.address for frame in recording.frames])
+            self.assertEqual((samples.itemsize, frames.itemsize), (88, 16))
+            self.assertIs(samples.flags.owndata, False)
+
+
 class JitDumpTest(unittest.TestCase):
     def test_loads(self):
         with dewikura.open_jitdump(DUMP) as jitdump:

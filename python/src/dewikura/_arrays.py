@@ -12,7 +12,9 @@ def numpy_dtype(struct: Type[ctypes.Structure]) -> Any:
     import numpy
 
     codes = {ctypes.c_uint64: "u8", ctypes.c_uint32: "u4", ctypes.c_uint16: "u2", ctypes.c_uint8: "u1", ctypes.c_int32: "i4"}
-    return numpy.dtype([(name.lstrip("_"), codes[kind]) for name, kind in struct._fields_])
+    members = [(name.lstrip("_"), codes[kind], getattr(struct, name).offset) for name, kind in struct._fields_ if kind in codes]
+    names, formats, offsets = zip(*members)
+    return numpy.dtype({"names": names, "formats": formats, "offsets": offsets, "itemsize": ctypes.sizeof(struct)})
 
 
 class StructSequence(Sequence[T]):

@@ -46,6 +46,9 @@ def _declare_reads(name, *kinds):
 is_big_endian = _declare_read("is_big_endian_raw")
 read_file_records = _declare_read("read_file_records_raw", POINTER(_structs.Cursor), POINTER(_structs.Record), size, POINTER(u64))
 read_pipe_records = _declare_read("read_pipe_records_raw", u64, POINTER(_structs.Record), size, POINTER(u64))
+read_file_samples = _declare_read("read_file_samples_raw", POINTER(_structs.Cursor), POINTER(_structs.Sample), size, POINTER(u64),
+                                  POINTER(_structs.Frame), size, POINTER(u64))
+read_pipe_samples = _declare_read("read_pipe_samples_raw", POINTER(_structs.Sample), size, POINTER(u64), POINTER(_structs.Frame), size, POINTER(u64))
 sort_records = _declare("sort_records_raw", POINTER(_structs.Record), size)
 read_attrs = _declare_reads("attrs", POINTER(_structs.Attr), size, POINTER(u8), size, POINTER(u64), size, POINTER(_structs.AttrTotals))
 read_feature_set = _declare_reads("feature_set", POINTER(_structs.FeatureSet))

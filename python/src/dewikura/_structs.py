@@ -4,7 +4,7 @@ import ctypes
 from ctypes import c_int32 as i32, c_uint8 as u8, c_uint16 as u16, c_uint32 as u32, c_uint64 as u64
 from typing import Optional, Union
 
-from .constants import JitRecordType, RecordType
+from .constants import BodyError, CpuMode, FrameContext, JitRecordType, RecordType, SampleType
 
 
 def known(kind, number):
@@ -52,6 +52,61 @@ class Record(ctypes.Structure):
     def __repr__(self) -> str:
         return (f"Record(type={self.type!r}, offset={self.offset}, body_size={self.body_size}, "
                 f"timestamp={self.timestamp}, attr_index={self.attr_index})")
+
+
+class Sample(ctypes.Structure):
+    """A sample. A field that it doesn't have is 0."""
+
+    offset: int
+    timestamp: int
+    ip: int
+    address: int
+    id: int
+    period: int
+    frames_start: int
+    frames_count: int
+    attr_index: int
+    cpu: int
+    pid: int
+    tid: int
+    misc: int
+    _fields_ = [*((name, u64) for name in ("offset", "timestamp", "ip", "address", "id", "period", "frames_start")),
+                *((name, u32) for name in ("frames_count", "attr_index", "_fields", "cpu")), ("pid", i32), ("tid", i32),
+                ("misc", u16), ("_error", u8), ("_reserved", u8 * 5)]
+
+    @property
+    def fields(self) -> SampleType:
+        """The fields that the sample has."""
+        return SampleType(self._fields)
+
+    @property
+    def cpu_mode(self) -> Union[CpuMode, int]:
+        """The mode of the processor."""
+        return known(CpuMode, self.misc & 7)
+
+    @property
+    def error(self) -> BodyError:
+        """Whether the fields up to the call chain are decoded."""
+        return BodyError(self._error)
+
+    def __repr__(self) -> str:
+        return (f"Sample(offset={self.offset}, timestamp={self.timestamp}, attr_index={self.attr_index}, pid={self.pid}, tid={self.tid}, "
+                f"ip={self.ip:#x}, period={self.period}, frames_count={self.frames_count})")
+
+
+class Frame(ctypes.Structure):
+    """A frame of a call chain."""
+
+    address: int
+    _fields_ = [("address", u64), ("_context", u32), ("_reserved", u32)]
+
+    @property
+    def context(self) -> FrameContext:
+        """The context of the address."""
+        return FrameContext(self._context)
+
+    def __repr__(self) -> str:
+        return f"Frame(address={self.address:#x}, context={self.context!r})"
 
 
 class Attr(ctypes.Structure):
@@ -166,7 +221,7 @@ class JitDebugEntryStruct(ctypes.Structure):
     _fields_ = [("code_address", u64), ("path_offset", u64), ("path_size", u64), ("line", u32), ("column", u32)]
 
 
-for _struct, _size in ((Record, 56), (Attr, 168), (AttrTotals, 24), (FeatureSet, 32), (BuildIdEntry, 48), (JitHeaderStruct, 40),
+for _struct, _size in ((Record, 56), (Sample, 88), (Frame, 16), (Attr, 168), (AttrTotals, 24), (FeatureSet, 32), (BuildIdEntry, 48), (JitHeaderStruct, 40),
                        (JitRecord, 24), (JitLoadStruct, 64), (StringStruct, 24), (JitMoveStruct, 48), (JitUnwindingStruct, 40),
                        (MetaPairStruct, 32), (SymbolFileStruct, 72), (SymbolStruct, 32), (SymbolTotals, 32), (JitDebugEntryStruct, 32)):
     if ctypes.sizeof(_struct) != _size:

@@ -14,7 +14,7 @@ from typing import Any, ContextManager, Iterator, Literal, Mapping, NamedTuple, 
 
 from . import _native, _structs
 from ._arrays import StructSequence
-from ._structs import Record, known
+from ._structs import Frame, Record, Sample, known
 from .constants import AttrFlag, DsoKind, EventType, Feature, ReadFormat, SampleType, Status, SymbolFileType
 from .errors import PerfDataError, check, error_of
 
@@ -45,6 +45,31 @@ class Records(StructSequence[Record]):
         array = self.to_numpy()
         present = {"timestamp": "has_timestamp", "attr_index": "has_attr"}[field]
         return numpy.ma.masked_array(array[field], mask=array[present] == 0)
+
+
+class Frames(StructSequence[Frame]):
+    """The frames of the samples of a recording, or of one sample."""
+
+    _struct = Frame
+
+
+class Samples(StructSequence[Sample]):
+    """The samples of a recording, as a sequence over the array that the library filled."""
+
+    _struct = Sample
+
+    def __init__(self, array: Any, indices: range, frames: Frames) -> None:
+        super().__init__(array, indices)
+        self._frames = frames
+
+    def _slice(self, indices: range) -> "Samples":
+        return Samples(self._array, indices, self._frames)
+
+    def frames_of(self, sample: Union[Sample, int]) -> Frames:
+        """Returns the frames of a sample's call chain, innermost first."""
+        if not isinstance(sample, Sample):
+            sample = self[sample]
+        return self._frames[sample.frames_start:sample.frames_start + sample.frames_count]
 
 
 @dataclasses.dataclass(frozen=True)
@@ -138,6 +163,30 @@ def _symbol_file(file: _structs.SymbolFileStruct, symbols, names: bytes, offsets
         tuple(offsets[file.dex_offsets_start:file.dex_offsets_start + file.dex_offsets_count]))
 
 
+class _Growing:
+    """An array of structs with free capacity after those in use."""
+
+    def __init__(self, struct: Any, capacity: int) -> None:
+        self.struct, self.capacity, self.used = struct, capacity, 0
+        self.array = (struct * capacity)()
+
+    def free(self) -> Any:
+        """The elements after those in use."""
+        return (self.struct * (self.capacity - self.used)).from_buffer(self.array, self.used * ctypes.sizeof(self.struct))
+
+    def added(self, count: int) -> Any:
+        """The first elements after those in use."""
+        return itertools.islice(self.free(), count)
+
+    def grow(self, count: int) -> None:
+        """Makes room for as many more elements, and for some more, unless there is."""
+        if self.capacity - self.used < count:
+            self.capacity = max(2 * self.capacity, self.used + count)
+            larger = (self.struct * self.capacity)()
+            ctypes.memmove(larger, self.array, ctypes.sizeof(self.array))
+            self.array = larger
+
+
 class _Features(Mapping[int, memoryview]):
     """The feature sections of a recording, by number. A section is read when it is first used."""
 
@@ -216,6 +265,23 @@ class Recording(ContextManager["Recording"]):
     def records_by_time(self) -> Records:
         """A copy of all records in order of time: those without a time first, records with one time in the order of the input."""
         return self._keep("records_by_time", lambda _data: self._sorted(self.records))
+
+    def partial_samples(self) -> Tuple[Samples, Optional[Exception]]:
+        """Returns the samples before the first error, and that error, or None if there is none."""
+        return self._keep("samples", self._read_samples)
+
+    @property
+    def samples(self) -> Samples:
+        """All samples in the order of the input, decoded. Raises the first error of the input."""
+        samples, error = self.partial_samples()
+        if error is not None:
+            raise error
+        return samples
+
+    @property
+    def frames(self) -> Frames:
+        """The frames of all samples, in the order of the samples. Raises the first error of the input."""
+        return self.samples._frames
 
     def events(self) -> Iterator[Record]:
         """Iterates over the records with an attribute, which the kernel wrote."""
@@ -332,6 +398,47 @@ class Recording(ContextManager["Recording"]):
             if total.value <= capacity:
                 return array, total.value, status
             capacity = total.value
+
+    def _read_samples(self, data: memoryview) -> Tuple[Samples, Optional[Exception]]:
+        read = self._read_file_samples if self.kind is Kind.FILE else self._read_pipe_samples
+        samples, count, frames, frames_count, status = read(data)
+        error = None if status == Status.OK else error_of(status)
+        return Samples(samples, range(count), Frames(frames, range(frames_count))), error
+
+    @staticmethod
+    def _read_file_samples(data: memoryview) -> Tuple[Any, int, Any, int, int]:
+        """Fills arrays, which grow while the file has more samples."""
+        cursor, count, frames_count = _structs.Cursor(), u64(), u64()
+        samples, frames = _Growing(Sample, len(data) // 32 + 1), _Growing(Frame, len(data) // 16 + 1)
+        with _native.Input(data) as (address, size):
+            while True:
+                status = _native.read_file_samples(address, size, cursor, samples.free(), samples.capacity - samples.used, count,
+                                                   frames.free(), frames.capacity - frames.used, frames_count)
+                if status == Status.NO_SPACE:
+                    frames.grow(frames_count.value)
+                    continue
+                if frames.used:
+                    for sample in samples.added(count.value):
+                        sample.frames_start += frames.used
+                samples.used += count.value
+                frames.used += frames_count.value
+                if status != Status.OK or (count.value == 0 and samples.used < samples.capacity):
+                    return samples.array, samples.used, frames.array, frames.used, status
+                samples.grow(1)
+                frames.grow(1)
+
+    @staticmethod
+    def _read_pipe_samples(data: memoryview) -> Tuple[Any, int, Any, int, int]:
+        """Counts the samples and the frames of a pipe, and fills arrays for them."""
+        total, frames_total, samples, frames = u64(), u64(), (Sample * 1)(), (Frame * 1)()
+        capacity, frames_capacity = 0, 0
+        while True:
+            with _native.Input(data) as (address, size):
+                status = _native.read_pipe_samples(address, size, samples, capacity, total, frames, frames_capacity, frames_total)
+            if (capacity, frames_capacity) == (total.value, frames_total.value):
+                return samples, capacity, frames, frames_capacity, status
+            capacity, frames_capacity = total.value, frames_total.value
+            samples, frames = (Sample * max(capacity, 1))(), (Frame * max(frames_capacity, 1))()
 
     @staticmethod
     def _sorted(records: Records) -> Records:
