@@ -5,6 +5,7 @@
 //   events       one with eight attributes and their identifiers, in the layout of perf record: ids, attributes, records, EVENT_DESC
 //   rounds       the same of a system-wide recording: in each round one CPU's records after the other's, so most are later than the next CPU's
 //   pipe         the records of `one` as a pipe
+//   chains       one of samples with call chains of 20 frames
 //   pipe-events  the records of `events` as a pipe
 //   late         a pipe that begins with one attribute and contains SIZE late ones, with a sample after each
 //   late-named   the same with an EVENT_DESC after the first attribute
@@ -28,7 +29,7 @@ enum { MOST_BODY = 200, ROUND = 1000, MOST_RECORD = 4096 };
 enum { MMAP = 1, LOST = 2, COMM = 3, EXIT = 4, FORK = 7, SAMPLE = 9, MMAP2 = 10, ATTR = 64, FINISHED_ROUND = 68, THREAD_MAP = 73, FEATURE = 80 };
 enum { EVENT_DESC = 12, PMU_MAPPINGS = 16 };
 
-static const uint64_t IP = 1 << 0, TID = 1 << 1, TIME = 1 << 2, CPU = 1 << 7, PERIOD = 1 << 8, IDENTIFIER = 1 << 16;
+static const uint64_t IP = 1 << 0, TID = 1 << 1, TIME = 1 << 2, CALLCHAIN = 1 << 5, CPU = 1 << 7, PERIOD = 1 << 8, IDENTIFIER = 1 << 16;
 static const uint64_t SAMPLE_ID_ALL = 1 << 18;
 
 static FILE *out;
@@ -124,6 +125,19 @@ static size_t put_small(unsigned char *at, uint64_t number, uint64_t *state) {
     return 32;
 }
 
+// A sample with a call chain of 20 frames: 5 of the kernel and 15 of a program.
+static size_t put_chain(unsigned char *at, uint64_t number, uint64_t *state) {
+    const size_t size = 8 + 5 * 8 + 22 * 8;
+    put_head(at, SAMPLE, 1, size);
+    put(at + 8, next(state) * 2654435761u, 8);
+    put(at + 16, 0x700000007, 8);
+    put(at + 24, clock_of(number, state), 8);
+    put(at + 32, 1 + next(state) % 1000, 8);
+    put(at + 40, 22, 8);
+    for (int i = 0; i < 22; i++) put(at + 48 + 8 * i, i == 0 ? (uint64_t)-128 : i == 6 ? (uint64_t)-512 : next(state) * 2654435761u, 8);
+    return size;
+}
+
 static uint64_t write_records(Put put_one, uint64_t wanted) {
     uint64_t state = 1, size = 0;
     for (uint64_t number = 0; size < wanted; number++) {
@@ -146,9 +160,9 @@ static void write_header(uint64_t attr_size, uint64_t attrs, uint64_t attrs_size
 static const uint64_t ONE_TYPE = IP | TID | TIME;
 static const uint64_t EVENT_TYPE = IDENTIFIER | IP | TID | TIME | CPU | PERIOD;
 
-static void write_plain(Put put_one, uint64_t wanted) {
+static void write_plain(Put put_one, uint64_t type, uint64_t wanted) {
     unsigned char attribute[ATTRIBUTE];
-    put_attribute(attribute, sizeof attribute, ONE_TYPE, SAMPLE_ID_ALL);
+    put_attribute(attribute, sizeof attribute, type, SAMPLE_ID_ALL);
     write_header(ATTRIBUTE, HEADER, ATTRIBUTE, HEADER + ATTRIBUTE, 0, 0);
     write_bytes(attribute, sizeof attribute);
     uint64_t size = write_records(put_one, wanted);
@@ -156,9 +170,11 @@ static void write_plain(Put put_one, uint64_t wanted) {
     write_header(ATTRIBUTE, HEADER, ATTRIBUTE, HEADER + ATTRIBUTE, size, 0);
 }
 
-static void write_one(uint64_t wanted) { write_plain(put_record, wanted); }
+static void write_one(uint64_t wanted) { write_plain(put_record, ONE_TYPE, wanted); }
 
-static void write_small(uint64_t wanted) { write_plain(put_small, wanted); }
+static void write_small(uint64_t wanted) { write_plain(put_small, ONE_TYPE, wanted); }
+
+static void write_chains(uint64_t wanted) { write_plain(put_chain, ONE_TYPE | PERIOD | CALLCHAIN, wanted); }
 
 // An EVENT_DESC section: each attribute with its name and its identifiers.
 static void write_descriptions(void) {
@@ -462,7 +478,7 @@ static void write_jit(uint64_t wanted) {
 
 int main(int argc, char **argv) {
     static const struct { const char *name; void (*write)(uint64_t); } kinds[] = {
-        {"one", write_one}, {"small", write_small}, {"events", write_events}, {"rounds", write_rounds},
+        {"one", write_one}, {"small", write_small}, {"events", write_events}, {"chains", write_chains}, {"rounds", write_rounds},
         {"pipe", write_pipe}, {"pipe-events", write_pipe_events},
         {"late", write_late}, {"late-named", write_late_named}, {"described", write_described}, {"opening", write_opening}, {"renamed", write_renamed},
         {"ids-up", write_ids_up}, {"ids-down", write_ids_down}, {"single-up", write_single_up}, {"single-down", write_single_down},

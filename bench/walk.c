@@ -1,6 +1,8 @@
 // A walk over a mapped perf.data file with little-endian numbers: `walk library PATH` fills an array by the library, `walk pages PATH` one
 // of 4,096 records again and again, and `walk own PATH` fills the same array by plain C: the identifiers of the attributes are in a sorted
-// array, and time and identifier at fixed offsets. These print the number of records. `walk compare PATH` compares both arrays.
+// array, and time and identifier at fixed offsets. These print the number of records. `walk compare PATH` compares both arrays. `walk samples
+// PATH` and `walk own-samples PATH` fill arrays of samples and their frames, and print the number of samples; `walk compare-samples PATH`
+// compares them.
 #include "dewikura.h"
 #include <fcntl.h>
 #include <inttypes.h>
@@ -114,6 +116,113 @@ static uint64_t pages(const uint8_t *bytes, size_t size, struct dewikura_record 
     return total;
 }
 
+// ---- samples
+
+typedef struct {
+    struct dewikura_sample *samples;
+    struct dewikura_frame *frames;
+    uint64_t count, frames_count;
+} Samples;
+
+static uint32_t context_of(uint64_t value) {
+    switch ((int64_t)value) {
+    case -32: return DEWIKURA_CONTEXT_HYPERVISOR;
+    case -128: return DEWIKURA_CONTEXT_KERNEL;
+    case -512: return DEWIKURA_CONTEXT_USER;
+    case -2048: return DEWIKURA_CONTEXT_GUEST;
+    case -2176: return DEWIKURA_CONTEXT_GUEST_KERNEL;
+    case -2560: return DEWIKURA_CONTEXT_GUEST_USER;
+    default: return DEWIKURA_CONTEXT_UNKNOWN;
+    }
+}
+
+// The next word. Returns 0 if it isn't complete.
+static inline int next_word(const uint8_t **at, const uint8_t *end, uint64_t *word) {
+    if (end - *at < 8) return 0;
+    *word = number_at(*at);
+    *at += 8;
+    return 1;
+}
+
+// Decodes the words of a sample, and its call chain. Returns 0 if it is truncated.
+static int decode(uint64_t type, const uint8_t *at, const uint8_t *end, struct dewikura_sample *sample, struct dewikura_frame *frames) {
+    uint64_t task = 0, id = 0, cpu = 0, unused, count = 0;
+    if (is_set(type, 16) && !next_word(&at, end, &sample->id)) return 0;
+    if (is_set(type, 0) && !next_word(&at, end, &sample->ip)) return 0;
+    if (is_set(type, 1) && !next_word(&at, end, &task)) return 0;
+    if (is_set(type, 2) && !next_word(&at, end, &sample->timestamp)) return 0;
+    if (is_set(type, 3) && !next_word(&at, end, &sample->address)) return 0;
+    if (is_set(type, 6) && !next_word(&at, end, &id)) return 0;
+    if (is_set(type, 9) && !next_word(&at, end, &unused)) return 0;
+    if (is_set(type, 7) && !next_word(&at, end, &cpu)) return 0;
+    if (is_set(type, 8) && !next_word(&at, end, &sample->period)) return 0;
+    if (!is_set(type, 16)) sample->id = id;
+    sample->pid = (int32_t)task;
+    sample->tid = (int32_t)(task >> 32);
+    sample->cpu = (uint32_t)cpu;
+    if (is_set(type, 5)) {
+        uint32_t context = DEWIKURA_CONTEXT_USER, written = 0;
+        if (!next_word(&at, end, &count) || count > (uint64_t)(end - at) / 8) return 0;
+        for (uint64_t i = 0; i < count; i++) {
+            uint64_t value = number_at(at + 8 * i);
+            if (value >= (uint64_t)-4095) context = context_of(value);
+            else frames[written++] = (struct dewikura_frame){value, context, 0};
+        }
+        sample->frames_count = written;
+    }
+    sample->fields = (uint32_t)type;
+    return 1;
+}
+
+static void own_samples(const uint8_t *bytes, Samples *all) {
+    static Pair pairs[1 << 16];
+    uint64_t start = number_at(bytes + 40), size = number_at(bytes + 48), offset = 0;
+    uint64_t entry_size = number_at(bytes + 16), attrs = number_at(bytes + 24), has_several = number_at(bytes + 32) > entry_size;
+    uint64_t type = number_at(bytes + attrs + 24);
+    Offsets offsets = offsets_of(type, number_at(bytes + attrs + 40));
+    size_t pairs_count = has_several ? read_pairs(bytes, entry_size, pairs) : 0;
+    while (offset < size) {
+        const uint8_t *header = bytes + start + offset;
+        uint64_t number = number_at(header), id, index = 0;
+        uint16_t record_size = (uint16_t)(number >> 48);
+        if (record_size < 8) break;
+        if ((uint32_t)number == DEWIKURA_RECORD_SAMPLE) {
+            struct dewikura_sample *sample = &all->samples[all->count++];
+            if (has_several) {
+                if (find(header + 8, record_size - 8u, 1, offsets.id, offsets.id_from_end, &id)) index = index_of(pairs, pairs_count, id);
+                type = number_at(bytes + attrs + index * entry_size + 24);
+            }
+            memset(sample, 0, sizeof *sample);
+            sample->error = !decode(type, header + 8, header + record_size, sample, all->frames + all->frames_count);
+            sample->offset = offset;
+            sample->attr_index = (uint32_t)index;
+            sample->misc = (uint16_t)(number >> 32);
+            sample->frames_start = all->frames_count;
+            all->frames_count += sample->frames_count;
+        }
+        offset += record_size;
+    }
+}
+
+static void *reserve(size_t size) {
+    void *found = mmap(NULL, size, PROT_READ | PROT_WRITE, MAP_PRIVATE | MAP_ANONYMOUS | MAP_NORESERVE, -1, 0);
+    if (found == MAP_FAILED) exit(1);
+    return found;
+}
+
+static uint64_t read_samples(const char *mode, const uint8_t *bytes, size_t size) {
+    size_t capacity = size / 8;
+    Samples all = {reserve(capacity * sizeof *all.samples), reserve(capacity * sizeof *all.frames), 0, 0};
+    if (strcmp(mode, "samples")) own_samples(bytes, &all);
+    if (!strcmp(mode, "own-samples")) return all.count;
+    Samples found = {reserve(capacity * sizeof *all.samples), reserve(capacity * sizeof *all.frames), 0, 0};
+    if (dewikura_read_file_samples(bytes, size, NULL, found.samples, capacity, &found.count, found.frames, capacity, &found.frames_count)) exit(2);
+    if (strcmp(mode, "samples")
+        && (found.count != all.count || memcmp(found.samples, all.samples, all.count * sizeof *all.samples) || found.frames_count != all.frames_count
+            || memcmp(found.frames, all.frames, all.frames_count * sizeof *all.frames))) exit(3);
+    return found.count;
+}
+
 int main(int argc, char **argv) {
     struct stat file_stat;
     int file = argc == 3 ? open(argv[2], O_RDONLY) : -1;
@@ -124,7 +233,8 @@ int main(int argc, char **argv) {
     struct dewikura_record *records = mmap(NULL, capacity * sizeof *records, PROT_READ | PROT_WRITE, MAP_PRIVATE | MAP_ANONYMOUS | MAP_NORESERVE, -1, 0);
     uint64_t total = 0;
     if (bytes == MAP_FAILED || records == MAP_FAILED) return 1;
-    if (!strcmp(argv[1], "own")) total = own(bytes, records);
+    if (strstr(argv[1], "samples")) total = read_samples(argv[1], bytes, size);
+    else if (!strcmp(argv[1], "own")) total = own(bytes, records);
     else if (!strcmp(argv[1], "compare")) {
         struct dewikura_record *others = calloc(total = own(bytes, records), sizeof *others);
         uint64_t count = 0;
