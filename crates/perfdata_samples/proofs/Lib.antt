@@ -1,5 +1,5 @@
 -- The modules that proofs of goals use.
-pub mod WordFormats
+pub mod LedFormats
 pub mod FrameLemmas
 pub mod Arrays
 pub mod RecordLemmas

@@ -11,7 +11,7 @@ use Rattle.perfdata_events.specs.ReadValues.{Values, counter_width, single, grou
 use Rattle.perfdata_events.specs.Words.{after, u64s_of, word_size}
 use Rattle.perfdata_events.specs.declared.fields.call_chain.CallContext.TheVariants.{User}
 use Rattle.perfdata_events.specs.declared.format.EventFormat.{EventFormat}
-use Rattle.perfdata_events.specs.declared.sample.SampleWords.{SampleWords}
+use Rattle.perfdata_samples.specs.declared.body.SampleWords.{SampleWords}
 use Rattle.perfdata_samples.proofs.FrameLemmas.{frames_within}
 use Rattle.perfdata_samples.specs.Bodies.{IsBody, StartsWith, number}
 use Rattle.perfdata_samples.specs.Records.{AddsOf, frames_of_body}

@@ -1,7 +1,6 @@
 -- The fields of a sample up to its call chain, as far as its body contains them.
 use Rattle.std.specs.Prelude.{◌≡◌, ℕ, true, false, List, Option}
 use Rattle.std.specs.Option.{option_map}
-use Rattle.std.specs.Int.RustNames.{bit_and}
 use Rattle.std.specs.declared.io.ErrorKind.{ErrorKind}
 use Rattle.perfdata_base.specs.Endian.{number_in}
 use Rattle.perfdata_base.specs.ParseInfo.{is_set}
@@ -14,7 +13,7 @@ use Rattle.perfdata_events.specs.Sample.{origin_words, event_words, sample_start
 use Rattle.perfdata_events.specs.SampleFormat.{PERIOD, READ, CALLCHAIN}
 use Rattle.perfdata_events.specs.Words.{word}
 use Rattle.perfdata_events.specs.declared.format.EventFormat.{EventFormat}
-use Rattle.perfdata_events.specs.declared.sample.SampleWords.{SampleWords}
+use Rattle.perfdata_samples.specs.declared.body.SampleWords.{SampleWords}
 use Rattle.perfdata_events.specs.declared.sample_words.EventWords.{EventWords}
 use Rattle.perfdata_events.specs.declared.sample_words.OriginWords.{OriginWords}
 use Rattle.perfdata_samples.specs.declared.body.BodyError.TheVariants.{Truncated, UnknownFields}
@@ -24,18 +23,6 @@ use Rattle.perfdata_samples.specs.declared.body.SampleBody.TheVariants.{Complete
 -- The bits of the words up to the period: 0 to 3 and 6 to 9, and 16.
 abbrev pub word_bits : ℕ
 word_bits = 66511
-
--- The format of samples that have only the words of another format.
-abbrev pub words_format_of : EventFormat → EventFormat
-words_format_of format = record {
-  endian = format.endian;
-  sample_format = record { 0 = bit_and format.sample_format.0 word_bits };
-  read_format = format.read_format;
-  branch_sample_type = format.branch_sample_type;
-  sample_regs_user = format.sample_regs_user;
-  sample_regs_intr = format.sample_regs_intr;
-  sample_id_all = format.sample_id_all;
-}
 
 -- The words of a sample, each a value and then the others.
 abbrev pub WordValues : Type 0

@@ -8,7 +8,7 @@ use Rattle.perfdata_events.specs.declared.fields.call_chain.CallContext.TheVaria
 use Rattle.perfdata_events.specs.declared.fields.call_chain.Frame.{Frame}
 use Rattle.perfdata_events.specs.declared.fields.task.Task.{Task}
 use Rattle.perfdata_events.specs.declared.format.EventFormat.{EventFormat}
-use Rattle.perfdata_events.specs.declared.sample.SampleWords.{SampleWords}
+use Rattle.perfdata_samples.specs.declared.body.SampleWords.{SampleWords}
 use Rattle.perfdata_samples.specs.Bodies.{word_bits}
 use Rattle.perfdata_samples.specs.declared.body.BodyError.{BodyError}
 use Rattle.perfdata_samples.specs.declared.body.BodyError.TheVariants.{Truncated, UnknownFields}

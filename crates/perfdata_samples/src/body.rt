@@ -4,15 +4,18 @@ ghost use Rattle.std.specs.Option.{option_map};
 ghost use Rattle.perfdata_base.specs.Raw.{bytes_of};
 ghost use Rattle.perfdata_events.specs.CallChain.{chain_values_of};
 ghost use Rattle.perfdata_events.specs.Format.{Decodes};
-ghost use Rattle.perfdata_samples.specs.Bodies.{IsBody, chain_after_values, values_of_words, words, words_format_of};
+ghost use Rattle.perfdata_base.specs.Endian.{number_in};
+ghost use Rattle.perfdata_events.specs.Sample.{origin_words, event_words};
+ghost use Rattle.perfdata_samples.specs.Bodies.{IsBody, chain_after_values, values_of_words, words};
 
 use bitflags::Flags;
-use perfdata_base::raw::RawData;
+use perfdata_base::raw::{Endianness, RawData};
 use perfdata_events::bits::SampleFields;
 use perfdata_events::call_chain::CallChain;
+use perfdata_events::fields::words::{read_task_if, read_u32_if, read_u64_if};
 use perfdata_events::format::EventFormat;
 use perfdata_events::read_values::ReadValues;
-use perfdata_events::sample::SampleWords;
+use perfdata_events::sample_words::{EventWords, OriginWords};
 use std::io::Result;
 
 /// The bits of the words up to the period.
@@ -27,6 +30,17 @@ pub enum BodyError {
     UnknownFields,
 }
 
+/// The words of a sample up to its period. A field is `None` if the attribute doesn't select it.
+#[derive(Clone, Copy, Debug)]
+pub struct SampleWords {
+    /// The first words.
+    pub origin: OriginWords,
+    /// The next words.
+    pub event: EventWords,
+    /// The number of events since the previous sample.
+    pub period: Option<u64>,
+}
+
 /// The fields of a sample up to its call chain, as far as they can be decoded.
 #[derive(Clone, Copy, Debug)]
 pub enum SampleBody<'a> {
@@ -38,20 +52,48 @@ pub enum SampleBody<'a> {
     Nothing,
 }
 
-// The format of samples that have only the words of `format`.
+// Removes the first words.
 #[inline(always)]
-fn words_format(format: &EventFormat) -> EventFormat
-    ensures { result ≡ words_format_of format.now }
+fn parse_origin(
+    endian: Endianness,
+    format: SampleFields,
+    fields: &mut RawData<'_>,
+) -> Result<OriginWords>
+    ensures { Decodes (origin_words (number_in endian) format.0) (λ v. v) (bytes_of fields.old) result
+        (bytes_of fields.new) }
 {
-    EventFormat {
-        endian: format.endian,
-        sample_format: SampleFields(format.sample_format.0 & WORD_BITS),
-        read_format: format.read_format,
-        branch_sample_type: format.branch_sample_type,
-        sample_regs_user: format.sample_regs_user,
-        sample_regs_intr: format.sample_regs_intr,
-        sample_id_all: format.sample_id_all,
-    }
+    let identifier = read_u64_if(endian, fields, format.contains(SampleFields::IDENTIFIER))?;
+    let ip = read_u64_if(endian, fields, format.contains(SampleFields::IP))?;
+    let task = read_task_if(endian, fields, format.contains(SampleFields::TID))?;
+    let timestamp = read_u64_if(endian, fields, format.contains(SampleFields::TIME))?;
+    Ok(OriginWords {
+        identifier,
+        ip,
+        task,
+        timestamp,
+    })
+}
+
+// Removes the next words.
+#[inline(always)]
+fn parse_event(
+    endian: Endianness,
+    format: SampleFields,
+    fields: &mut RawData<'_>,
+) -> Result<EventWords>
+    ensures { Decodes (event_words (number_in endian) format.0) (λ v. v) (bytes_of fields.old) result
+        (bytes_of fields.new) }
+{
+    let address = read_u64_if(endian, fields, format.contains(SampleFields::ADDR))?;
+    let id = read_u64_if(endian, fields, format.contains(SampleFields::ID))?;
+    let stream_id = read_u64_if(endian, fields, format.contains(SampleFields::STREAM_ID))?;
+    let cpu = read_u32_if(endian, fields, format.contains(SampleFields::CPU))?;
+    Ok(EventWords {
+        address,
+        id,
+        stream_id,
+        cpu,
+    })
 }
 
 // Removes the words up to the period.
@@ -59,7 +101,16 @@ fn words_format(format: &EventFormat) -> EventFormat
 fn parse_words(format: &EventFormat, fields: &mut RawData<'_>) -> Result<SampleWords>
     ensures { Decodes (words format.now) values_of_words (bytes_of fields.old) result (bytes_of fields.new) }
 {
-    SampleWords::parse(&words_format(format), fields)
+    let endian = format.endian;
+    let bits = format.sample_format;
+    let origin = parse_origin(endian, bits, fields)?;
+    let event = parse_event(endian, bits, fields)?;
+    let period = read_u64_if(endian, fields, bits.contains(SampleFields::PERIOD))?;
+    Ok(SampleWords {
+        origin,
+        event,
+        period,
+    })
 }
 
 // Removes the counter values and the call chain, and returns the call chain.

@@ -3,10 +3,9 @@ ghost use Rattle.std.specs.Prelude.{◌≡◌};
 ghost use Rattle.std.specs.Option.{unwrap_or};
 ghost use Rattle.perfdata_samples.specs.Samples.{sample_of, sample_with, error_code, task_or_none};
 
-use crate::body::{BodyError, SampleBody, WORD_BITS};
+use crate::body::{BodyError, SampleBody, SampleWords, WORD_BITS};
 use perfdata_events::bits::SampleFields;
 use perfdata_events::format::EventFormat;
-use perfdata_events::sample::SampleWords;
 use perfdata_events::sample_id::Task;
 use perfdata_events::sample_words::{EventWords, OriginWords};
 

@@ -6,7 +6,7 @@ use Rattle.perfdata_events.specs.Format.{optional}
 use Rattle.perfdata_events.specs.ReadValues.{read_values, values_of}
 use Rattle.perfdata_events.specs.SampleFormat.{READ, CALLCHAIN}
 use Rattle.perfdata_samples.specs.Bodies.{bits, number}
-use Rattle.perfdata_samples.proofs.WordFormats.{led_goes_on}
+use Rattle.perfdata_samples.proofs.LedFormats.{led_goes_on}
 use Rattle.perfdata_samples.proofs.body.parse_chain.Goals as goal
 
 pub returns : goal.returns
@@ -14,4 +14,4 @@ returns c =
     let format = c.args.format.now in
     led_goes_on (optional (is_set (bits format) READ) (read_values (number format) format.read_format.0)) (λ _. optional (is_set (bits format) CALLCHAIN) (chain (number format))) (option_map chain_values_of)
     (bytes_of c.args.fields.now) (bytes_of c.parse_if.new.fields) (bytes_of c.parse_if-2.new.fields) (option_map values_of c.in_ok-parse_if.field-0) c.parse_if-2.result
-    (rw (c.contains.ensures tt) at c.in_ok-parse_if.ensures) (rw (c.contains-2.ensures tt) at c.parse_if-2.ensures)
+    (rw (c.contains.ensures tt) at c.in_ok-parse_if.ensures.decodes) (rw (c.contains-2.ensures tt) at c.parse_if-2.ensures.decodes)
