@@ -1,4 +1,4 @@
-//! A safe wrapper of the calls that list the records of perf.data files, perf pipes and jitdumps.
+//! A safe wrapper of the calls that list the records of perf.data files, perf pipes and jitdumps, and the samples of recordings.
 //!
 //! A slice of Rust is never NULL and never changes while it is borrowed, so each call meets the obligations of `include/dewikura.h`.
 use std::fmt;
@@ -54,12 +54,76 @@ pub struct JitRecord {
     pub size: u32,
 }
 
-const _: () = assert!(size_of::<Record>() == 56 && size_of::<JitRecord>() == 24);
+/// A sample, decoded (`struct dewikura_sample`). A field that it doesn't have is 0: `fields` says what it has.
+#[repr(C)]
+#[derive(Clone, Copy, Debug, Default, PartialEq, Eq)]
+pub struct Sample {
+    pub offset: u64,
+    pub timestamp: u64,
+    pub ip: u64,
+    pub address: u64,
+    pub id: u64,
+    pub period: u64,
+    frames_start: u64,
+    frames_count: u32,
+    pub attr_index: u32,
+    pub fields: u32,
+    pub cpu: u32,
+    pub pid: i32,
+    pub tid: i32,
+    pub misc: u16,
+    pub error: u8,
+    reserved: [u8; 5],
+}
+
+/// A frame of a call chain (`struct dewikura_frame`).
+#[repr(C)]
+#[derive(Clone, Copy, Debug, Default, PartialEq, Eq)]
+pub struct Frame {
+    pub address: u64,
+    pub context: u32,
+    reserved: u32,
+}
+
+/// Samples, and the frames of their call chains.
+#[derive(Clone, Debug, Default, PartialEq, Eq)]
+pub struct Samples {
+    samples: Vec<Sample>,
+    frames: Vec<Frame>,
+}
+
+impl Samples {
+    /// Each sample with its frames, innermost first.
+    pub fn iter(&self) -> impl Iterator<Item = (&Sample, &[Frame])> {
+        self.samples.iter().map(|sample| (sample, &self.frames[sample.frames_start as usize..][..sample.frames_count as usize]))
+    }
+
+    /// The number of samples.
+    pub fn len(&self) -> usize {
+        self.samples.len()
+    }
+
+    /// Whether there are no samples.
+    pub fn is_empty(&self) -> bool {
+        self.samples.is_empty()
+    }
+}
+
+const _: () = assert!(size_of::<Record>() == 56 && size_of::<JitRecord>() == 24 && size_of::<Sample>() == 88 && size_of::<Frame>() == 16);
+
+/// The status DEWIKURA_NO_SPACE.
+const NO_SPACE: u32 = 25;
 
 extern "C" {
     fn dewikura_status_text_raw(status: u32, buffer: *mut u8, capacity: usize) -> usize;
     fn dewikura_read_file_records_raw(data: *const u8, size: usize, cursor: *mut Cursor, records: *mut Record, capacity: usize, count: *mut u64) -> u32;
     fn dewikura_read_pipe_records_raw(data: *const u8, size: usize, start: u64, records: *mut Record, capacity: usize, total: *mut u64) -> u32;
+    fn dewikura_read_file_samples_raw(
+        data: *const u8, size: usize, cursor: *mut Cursor, samples: *mut Sample, capacity: usize, count: *mut u64, frames: *mut Frame, frames_capacity: usize, frames_count: *mut u64,
+    ) -> u32;
+    fn dewikura_read_pipe_samples_raw(
+        data: *const u8, size: usize, samples: *mut Sample, capacity: usize, total: *mut u64, frames: *mut Frame, frames_capacity: usize, frames_total: *mut u64,
+    ) -> u32;
     fn dewikura_read_jit_records_raw(data: *const u8, size: usize, start_offset: u64, records: *mut JitRecord, capacity: usize, count: *mut u64, next_offset: *mut u64) -> u32;
 }
 
@@ -121,6 +185,50 @@ pub fn pipe_records(input: &[u8]) -> (Vec<Record>, Result<(), Error>) {
         if is_complete {
             return (records, result_of(status));
         }
+    }
+}
+
+/// Returns the samples of a perf.data file, and the error after them.
+pub fn file_samples(input: &[u8]) -> (Samples, Result<(), Error>) {
+    let (mut all, mut cursor) = (Samples::default(), Cursor::default());
+    let mut page = vec![Sample::default(); 1024];
+    let mut frames = vec![Frame::default(); 1024 * 16];
+    loop {
+        let (mut count, mut frames_count) = (0, 0);
+        // SAFETY: the pointers are those of slices, with their lengths; the arrays are initialized.
+        let status = unsafe {
+            dewikura_read_file_samples_raw(
+                input.as_ptr(), input.len(), &mut cursor, page.as_mut_ptr(), page.len(), &mut count, frames.as_mut_ptr(), frames.len(), &mut frames_count,
+            )
+        };
+        if status == NO_SPACE {
+            frames.resize(frames_count as usize, Frame::default());
+            continue;
+        }
+        let start = all.frames.len() as u64;
+        all.samples.extend(page[..count as usize].iter().map(|sample| Sample { frames_start: start + sample.frames_start, ..*sample }));
+        all.frames.extend_from_slice(&frames[..frames_count as usize]);
+        if status != 0 || count == 0 {
+            return (all, result_of(status));
+        }
+    }
+}
+
+/// Returns the samples of a perf.data pipe, and the error after them. A first call counts, and a second one fills the arrays.
+pub fn pipe_samples(input: &[u8]) -> (Samples, Result<(), Error>) {
+    let (mut all, mut total, mut frames_total) = (Samples::default(), 0, 0);
+    loop {
+        // SAFETY: the pointers are those of slices, with their lengths; the arrays are initialized.
+        let status = unsafe {
+            dewikura_read_pipe_samples_raw(
+                input.as_ptr(), input.len(), all.samples.as_mut_ptr(), all.samples.len(), &mut total, all.frames.as_mut_ptr(), all.frames.len(), &mut frames_total,
+            )
+        };
+        if (total as usize, frames_total as usize) == (all.samples.len(), all.frames.len()) {
+            return (all, result_of(status));
+        }
+        all.samples.resize(total as usize, Sample::default());
+        all.frames.resize(frames_total as usize, Frame::default());
     }
 }
 
