@@ -1,10 +1,11 @@
 //! Counts the stacks of samples.
 
-use crate::frame_names::FrameNames;
+use crate::frame_names::{FrameNames, NameSource, SampleOrigin};
 use crate::names::NameTable;
 use crate::options::{Options, ThreadIds, Weight};
 use crate::records::Records;
 use crate::selection::Selection;
+use crate::symbols::FileCounts;
 use bitflags::Flags;
 use linux_perf_data::attr::PerfEventAttr;
 use linux_perf_data::event::RawEventRecord;
@@ -36,7 +37,9 @@ pub(crate) struct Folder<'a> {
     selection: Selection<'a>,
     spaces: AddressSpaces,
     names: NameTable,
-    frame_names: FrameNames,
+    frame_names: FrameNames<'a>,
+    /// Whether the metadata of the recording was read for its symbols.
+    has_metadata: bool,
     /// The sum of the weights of each stack: the numbers of its names.
     stacks: HashMap<Vec<usize>, u64>,
     /// The sum of all weights.
@@ -68,6 +71,14 @@ fn task_of(sample: &SampleRecord<'_>) -> Task {
     sample.task.unwrap_or(Task { pid: 0, tid: 0 })
 }
 
+/// Returns the process and the time of a sample. All code is loaded before samples without a time.
+fn origin_of(task: Task, sample: &SampleRecord<'_>) -> SampleOrigin {
+    SampleOrigin {
+        pid: task.pid,
+        time: sample.timestamp.unwrap_or(u64::MAX),
+    }
+}
+
 /// Appends a number and the byte before it.
 fn push_number(text: &mut Vec<u8>, before: u8, number: i32) -> Result<(), Error> {
     text.push(before)?;
@@ -75,14 +86,15 @@ fn push_number(text: &mut Vec<u8>, before: u8, number: i32) -> Result<(), Error>
 }
 
 impl<'a> Folder<'a> {
-    pub(crate) fn new(alloc: Global, options: Options<'a>) -> Folder<'a> {
+    pub(crate) fn new(alloc: Global, options: Options<'a>, source: NameSource<'a>) -> Folder<'a> {
         Folder {
             alloc,
             options,
             selection: options.selection,
             spaces: AddressSpaces::new(alloc),
             names: NameTable::new(alloc),
-            frame_names: FrameNames::new(alloc, options.name_kind),
+            frame_names: FrameNames::new(alloc, source),
+            has_metadata: false,
             stacks: HashMap::new(alloc),
             total: 0,
             stack: Vec::new(alloc),
@@ -95,6 +107,11 @@ impl<'a> Folder<'a> {
     /// Returns the number of samples of events that aren't selected.
     pub(crate) fn other_events(&self) -> u64 {
         self.other_events
+    }
+
+    /// Returns how many files with symbols there are of which kind, if files are read.
+    pub(crate) fn file_counts(&self) -> Option<FileCounts> {
+        self.frame_names.file_counts()
     }
 
     /// Sets the name of a thread, without its ids.
@@ -120,12 +137,17 @@ impl<'a> Folder<'a> {
     }
 
     /// Sets the stack to the numbers of the names of a sample's frames, that of the leaf first.
-    fn set_frames(&mut self, pid: i32, misc: u16, sample: &SampleRecord<'_>) -> Result<(), Error> {
+    fn set_frames(
+        &mut self,
+        origin: SampleOrigin,
+        misc: u16,
+        sample: &SampleRecord<'_>,
+    ) -> Result<(), Error> {
         self.stack.clear();
         for frame in SampleFrames::new(sample, context_of_mode(misc)) {
             let number = self
                 .frame_names
-                .number(pid, frame, &self.spaces, &mut self.names)?;
+                .number(origin, frame, &self.spaces, &mut self.names)?;
             self.stack.push(number)?;
         }
         Ok(())
@@ -134,7 +156,7 @@ impl<'a> Folder<'a> {
     /// Sets the stack to the numbers of the names of a sample: the thread's, then the root's to the leaf's.
     fn set_stack(&mut self, misc: u16, sample: &SampleRecord<'_>) -> Result<(), Error> {
         let task = task_of(sample);
-        self.set_frames(task.pid, misc, sample)?;
+        self.set_frames(origin_of(task, sample), misc, sample)?;
         self.set_comm(task.tid)?;
         self.push_ids(task)?;
         let comm = self.names.number(self.comm.as_slice())?;
@@ -157,6 +179,15 @@ impl<'a> Folder<'a> {
             }
         }
         Ok(())
+    }
+
+    /// Reads the metadata of the recording for its symbols, before the first sample.
+    fn read_metadata(&mut self, file: &PerfFile) -> Result<(), Error> {
+        if self.has_metadata {
+            return Ok(());
+        }
+        self.has_metadata = true;
+        self.frame_names.read_metadata(file)
     }
 
     /// Adds a sample of an event.
@@ -184,12 +215,16 @@ impl<'a> Folder<'a> {
         match format.parse(raw)? {
             EventRecord::Sample(sample) => {
                 if self.selection.selects(file, index) {
+                    self.read_metadata(file)?;
                     return self.add_sample(event.attributes(), raw.misc, &sample);
                 }
                 self.other_events = self.other_events.saturating_add(1);
                 Ok(())
             }
-            record => Ok(self.spaces.apply(raw.misc, &record)?),
+            record => {
+                self.spaces.apply(raw.misc, &record)?;
+                Ok(self.frame_names.apply(raw.misc, &record, &self.spaces)?)
+            }
         }
     }
 

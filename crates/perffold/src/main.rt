@@ -9,23 +9,49 @@ mod options;
 mod output;
 mod records;
 mod selection;
+mod symbols;
 
-use options::{Options, parse};
+use frame_names::NameSource;
+use options::{NameKind, Options, parse};
 use output::fold_input;
 use perfdata_cli::command_line::{SUCCESS, arguments, print_argument_error, print_clap_error};
-use perfdata_cli::error::print_error;
+use perfdata_cli::error::{InputError, ProgramError, print_error};
 use perfdata_cli::input::{display_name, path_of};
 use std::process::ExitCode;
+use symbols::Symbols;
+use symbols::directories::PathError;
 
 /// The program's name.
 const NAME: &str = "perffold";
 
-/// Folds the input that the options name. Returns the exit status.
-fn run(rt: &HostRuntime, options: Options<'_>) -> u8 {
+/// Folds the input that the options name, with these names of frames. Returns the exit status.
+fn fold_with(rt: &HostRuntime, options: Options<'_>, source: NameSource<'_>) -> u8 {
     let path = path_of(rt, options.file);
-    match fold_input(rt, NAME, options, path) {
+    match fold_input(rt, NAME, options, source, path) {
         Ok(()) => SUCCESS,
         Err(error) => print_error(rt, NAME, display_name(path), &error),
+    }
+}
+
+/// Returns which names frames have.
+fn name_source<'a>(
+    rt: &'a HostRuntime,
+    options: &Options<'a>,
+) -> Result<NameSource<'a>, PathError<'a>> {
+    match options.name_kind {
+        NameKind::Symbol => Ok(NameSource::Symbols(Symbols::open(rt, &options.symbols)?)),
+        NameKind::File => Ok(NameSource::Files),
+        NameKind::Address => Ok(NameSource::Addresses),
+    }
+}
+
+/// Opens the files that the options name, and folds the input. Returns the exit status.
+fn run(rt: &HostRuntime, options: Options<'_>) -> u8 {
+    match name_source(rt, &options) {
+        Ok(source) => fold_with(rt, options, source),
+        Err(PathError { path, error }) => {
+            print_error(rt, NAME, path, &ProgramError::Input(InputError::Io(error)))
+        }
     }
 }
 

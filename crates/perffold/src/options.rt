@@ -36,6 +36,18 @@ const NO_SYMBOLS: &str = "no-symbols";
 /// The id of the flag for addresses.
 const RAW: &str = "raw";
 
+/// The id of the option of the directory of mapped files.
+const SYMFS: &str = "symfs";
+
+/// The id of the option of the directory of debug files.
+const DEBUG_DIR: &str = "debug-dir";
+
+/// The id of the option of the kernel's list of symbols.
+const KALLSYMS: &str = "kallsyms";
+
+/// The id of the option of the directory of perf-PID.map files.
+const MAPS: &str = "maps";
+
 /// What a sample counts.
 #[derive(Clone, Copy, PartialEq, Eq)]
 pub(crate) enum Weight {
@@ -48,6 +60,8 @@ pub(crate) enum Weight {
 /// Which name a frame has.
 #[derive(Clone, Copy, PartialEq, Eq)]
 pub(crate) enum NameKind {
+    /// The symbol, or the file where there is none.
+    Symbol,
     /// The file.
     File,
     /// The address.
@@ -65,6 +79,19 @@ pub(crate) enum ThreadIds {
     Thread,
 }
 
+/// Where symbols are.
+#[derive(Clone, Copy)]
+pub(crate) struct SymbolOptions<'a> {
+    /// The directory that precedes the paths of files.
+    pub(crate) symfs: Option<&'a str>,
+    /// The directory of debug files.
+    pub(crate) debug_dir: Option<&'a str>,
+    /// The kernel's list of symbols.
+    pub(crate) kallsyms: Option<&'a str>,
+    /// The directory of perf-PID.map files.
+    pub(crate) maps: Option<&'a str>,
+}
+
 /// What the arguments select.
 #[derive(Clone, Copy)]
 pub(crate) struct Options<'a> {
@@ -74,6 +101,7 @@ pub(crate) struct Options<'a> {
     pub(crate) weight: Weight,
     pub(crate) thread_ids: ThreadIds,
     pub(crate) name_kind: NameKind,
+    pub(crate) symbols: SymbolOptions<'a>,
 }
 
 /// Returns a flag.
@@ -116,6 +144,35 @@ fn with_selection<'a>(alloc: Global, command: Command<'a>) -> Result<Command<'a>
         .arg(weight_option(alloc))
 }
 
+/// Adds the options that say where symbols are.
+fn with_symbols<'a>(alloc: Global, command: Command<'a>) -> Result<Command<'a>, AllocError> {
+    command
+        .arg(option(
+            alloc,
+            SYMFS,
+            "DIR",
+            "Look for mapped files and debug files below DIR, which no link may leave",
+        ))?
+        .arg(option(
+            alloc,
+            DEBUG_DIR,
+            "DIR",
+            "Look for debug files in DIR [default: /usr/lib/debug]",
+        ))?
+        .arg(option(
+            alloc,
+            KALLSYMS,
+            "FILE",
+            "Name the kernel's functions by FILE, a copy of /proc/kallsyms",
+        ))?
+        .arg(option(
+            alloc,
+            MAPS,
+            "DIR",
+            "Look for perf-PID.map files in DIR [default: /tmp]",
+        ))
+}
+
 /// Adds the flags for the names in lines.
 fn with_names<'a>(alloc: Global, command: Command<'a>) -> Result<Command<'a>, AllocError> {
     command
@@ -125,18 +182,14 @@ fn with_names<'a>(alloc: Global, command: Command<'a>) -> Result<Command<'a>, Al
             TID,
             "Add the process id and the thread id to the name of the thread",
         ))?
-        .arg(flag(
-            alloc,
-            NO_SYMBOLS,
-            "Name frames by their files, as is the default",
-        ))?
+        .arg(flag(alloc, NO_SYMBOLS, "Name frames by their files"))?
         .arg(flag(alloc, RAW, "Name frames by their addresses"))
 }
 
 /// Returns the command with its options.
 fn command_with_options<'a>(alloc: Global, name: &'a str) -> Result<Command<'a>, AllocError> {
     let command = with_selection(alloc, command(alloc, name, ABOUT, RECORDING_HELP)?)?;
-    with_names(alloc, command)
+    with_names(alloc, with_symbols(alloc, command)?)
 }
 
 /// Returns which samples are counted.
@@ -169,6 +222,27 @@ fn thread_ids_of(matches: &ArgMatches<'_>) -> ThreadIds {
     }
 }
 
+/// Returns which name a frame has.
+fn name_kind_of(matches: &ArgMatches<'_>) -> NameKind {
+    if matches.get_flag(RAW) {
+        NameKind::Address
+    } else if matches.get_flag(NO_SYMBOLS) {
+        NameKind::File
+    } else {
+        NameKind::Symbol
+    }
+}
+
+/// Returns where symbols are.
+fn symbols_of<'a>(matches: &ArgMatches<'a>) -> SymbolOptions<'a> {
+    SymbolOptions {
+        symfs: matches.get_str(SYMFS),
+        debug_dir: matches.get_str(DEBUG_DIR),
+        kallsyms: matches.get_str(KALLSYMS),
+        maps: matches.get_str(MAPS),
+    }
+}
+
 /// Parses the arguments, of which the first is the program's name.
 pub(crate) fn parse<'a>(
     alloc: Global,
@@ -181,10 +255,7 @@ pub(crate) fn parse<'a>(
         selection: selection_of(&matches),
         weight: weight_of(&matches),
         thread_ids: thread_ids_of(&matches),
-        name_kind: if matches.get_flag(RAW) {
-            NameKind::Address
-        } else {
-            NameKind::File
-        },
+        name_kind: name_kind_of(&matches),
+        symbols: symbols_of(&matches),
     })
 }

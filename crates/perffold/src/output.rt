@@ -1,8 +1,10 @@
 //! Writes the folded lines of an input on standard output.
 
 use crate::fold::Folder;
+use crate::frame_names::NameSource;
 use crate::options::Options;
 use crate::records::Records;
+use crate::symbols::FileCounts;
 use linux_perf_data::in_memory::InMemoryReader;
 use perfdata_cli::error::{InputError, ProgramError};
 use perfdata_cli::input::{Input, open_in_memory};
@@ -27,6 +29,23 @@ fn print_other_events(rt: &HostRuntime, name: &str, samples: u64) {
     }
 }
 
+/// Writes on standard error how many files with symbols weren't used or compared, if there are any.
+fn print_file_counts(rt: &HostRuntime, name: &str, counts: FileCounts) {
+    let (different, unknown) = (counts.different, counts.unknown);
+    if different != 0 || unknown != 0 {
+        let _ = eprintln!(rt;
+            "{name}: {different} files differ from the recorded ones, {unknown} have no build id to compare"
+        );
+    }
+}
+
+/// Writes on standard error how many files with symbols can't be read, if there are any.
+fn print_unreadable(rt: &HostRuntime, name: &str, files: u64) {
+    if files != 0 {
+        let _ = eprintln!(rt; "{name}: {files} files with symbols can't be read");
+    }
+}
+
 /// Writes the lines of the samples that were read, and fails with the error that ended them, if there is one.
 fn finish(
     rt: &HostRuntime,
@@ -35,9 +54,14 @@ fn finish(
     read: Result<(), InputError>,
 ) -> Result<(), ProgramError> {
     let other_events = folder.other_events();
+    let file_counts = folder.file_counts();
     let counts = folder.finish()?;
     write_lines(rt, &counts).map_err(ProgramError::Output)?;
     print_other_events(rt, name, other_events);
+    if let Some(counts) = file_counts {
+        print_file_counts(rt, name, counts);
+        print_unreadable(rt, name, counts.unreadable);
+    }
     Ok(read?)
 }
 
@@ -46,11 +70,12 @@ fn fold_opened(
     rt: &HostRuntime,
     name: &str,
     options: Options<'_>,
+    source: NameSource<'_>,
     reader: InMemoryReader<'_>,
 ) -> Result<(), ProgramError> {
     let mut file = reader.perf_file;
     let mut records = Records::new(rt.alloc(), &file, reader.records);
-    let mut folder = Folder::new(rt.alloc(), options);
+    let mut folder = Folder::new(rt.alloc(), options, source);
     let read = folder.add_all(&mut records, &mut file);
     finish(rt, name, folder, read)
 }
@@ -60,15 +85,12 @@ pub(crate) fn fold_input(
     rt: &HostRuntime,
     name: &str,
     options: Options<'_>,
+    source: NameSource<'_>,
     path: &str,
 ) -> Result<(), ProgramError> {
     let input = Input::open(rt, path).map_err(InputError::Io)?;
     let is_pipe = input.is_pipe()?;
     let bytes = input.into_bytes().map_err(InputError::Io)?;
-    fold_opened(
-        rt,
-        name,
-        options,
-        open_in_memory(rt.alloc(), &bytes, is_pipe)?,
-    )
+    let reader = open_in_memory(rt.alloc(), &bytes, is_pipe)?;
+    fold_opened(rt, name, options, source, reader)
 }

@@ -1,0 +1,92 @@
+//! The paths at which the debug file of a mapped file is looked for.
+
+use perfdata_symbols::DebugLink;
+use std::alloc::{AllocError, Global};
+
+/// The directories before the path of a debug file.
+#[derive(Clone, Copy)]
+pub(crate) enum DebugPlace {
+    /// Those of mapped files.
+    Files,
+    /// Those of debug files.
+    DebugFiles,
+}
+
+/// The path of a debug file.
+#[derive(Drop)]
+pub(crate) struct DebugPath {
+    pub(crate) place: DebugPlace,
+    /// The path below the directory, which starts with a slash.
+    pub(crate) path: String,
+}
+
+/// Returns the path of the directory of a file, with a slash at the end.
+fn directory_of(path: &str) -> &str {
+    match path.rsplit_once('/') {
+        Some((directory, _name)) => path.get(..directory.len().saturating_add(1)).unwrap_or("/"),
+        None => "/",
+    }
+}
+
+/// Adds the paths of the debug file that a mapped file in this directory names.
+fn add_linked(
+    alloc: Global,
+    directory: &str,
+    name: &str,
+    paths: &mut Vec<DebugPath>,
+) -> Result<(), AllocError> {
+    paths.push(DebugPath {
+        place: DebugPlace::Files,
+        path: format!(in alloc; "{directory}{name}")?,
+    })?;
+    paths.push(DebugPath {
+        place: DebugPlace::Files,
+        path: format!(in alloc; "{directory}.debug/{name}")?,
+    })?;
+    paths.push(DebugPath {
+        place: DebugPlace::DebugFiles,
+        path: format!(in alloc; "{directory}{name}")?,
+    })?;
+    Ok(())
+}
+
+/// Returns the path of the debug file with a build id: `/.build-id/`, two digits, `/`, the other digits and
+/// `.debug`.
+fn build_id_path(alloc: Global, id: &[u8]) -> Result<String, AllocError> {
+    let mut path = String::from_str(alloc, "/.build-id/")?;
+    for (index, byte) in id.iter().enumerate() {
+        if index == 1 {
+            path.push('/')?;
+        }
+        write!(path, "{byte:02x}")?;
+    }
+    path.push_str(".debug")?;
+    Ok(path)
+}
+
+/// Returns the paths of the debug files of a mapped file, in the order in which they are looked for: those of
+/// its debug link, of its build id if that isn't empty, and of its own path.
+pub(crate) fn debug_paths(
+    alloc: Global,
+    path: &str,
+    link: Option<&DebugLink>,
+    id: &[u8],
+) -> Result<Vec<DebugPath>, AllocError> {
+    let mut paths = Vec::new(alloc);
+    if let Some(link) = link {
+        if let Ok(name) = str::from_utf8(&link.file_name) {
+            add_linked(alloc, directory_of(path), name, &mut paths)?;
+        }
+    }
+    if !id.is_empty() {
+        paths.push(DebugPath {
+            place: DebugPlace::DebugFiles,
+            path: build_id_path(alloc, id)?,
+        })?;
+    }
+    paths.push(DebugPath {
+        place: DebugPlace::DebugFiles,
+        path: String::from_str(alloc, path)?,
+    })?;
+    Ok(paths)
+}

@@ -1,0 +1,218 @@
+//! The symbols of mapped ELF files, from them or from their debug files.
+
+use crate::symbols::debug_paths::{DebugPath, DebugPlace, debug_paths};
+use crate::symbols::directories::Directories;
+use perfdata_base::source::CountedBuffer;
+use perfdata_symbols::{DebugLink, ElfError, ElfFile, SymbolSection, SymbolTable};
+use std::alloc::AllocError;
+use std::fs::File;
+use std::io::{BufReader, ErrorKind};
+
+/// An ELF file whose headers are read.
+type Elf = ElfFile<CountedBuffer<File>>;
+
+/// Numbers of files.
+#[derive(Clone, Copy)]
+pub(crate) struct FileCounts {
+    /// Files that weren't used, since their build ids aren't the recorded ones.
+    pub(crate) different: u64,
+    /// Files that were used without a recorded build id.
+    pub(crate) unknown: u64,
+    /// Files that can't be read.
+    pub(crate) unreadable: u64,
+}
+
+/// The ELF files.
+#[derive(Drop)]
+pub(crate) struct ElfFiles<'a> {
+    rt: &'a HostRuntime,
+    pub(crate) directories: Directories,
+    pub(crate) counts: FileCounts,
+}
+
+/// Returns whether a build id is another one with zeros after it. Old recordings don't have its size.
+fn is_extended(long: &[u8], short: &[u8]) -> bool {
+    match long.strip_prefix(short) {
+        Some(rest) => rest.iter().all(|byte| *byte == 0),
+        None => false,
+    }
+}
+
+/// Returns whether the build id of a file is the recorded one.
+fn is_recorded(id: &[u8], recorded: &[u8]) -> bool {
+    !id.is_empty() && (is_extended(id, recorded) || is_extended(recorded, id))
+}
+
+/// Returns whether a debug file has more symbols than the mapped file.
+fn is_preferred(debug: &Elf, mapped: &Elf) -> bool {
+    debug.symbol_section() == Some(SymbolSection::Full)
+        || mapped.symbol_section() != Some(SymbolSection::Full)
+}
+
+impl<'a> ElfFiles<'a> {
+    pub(crate) fn new(rt: &'a HostRuntime, directories: Directories) -> ElfFiles<'a> {
+        ElfFiles {
+            rt,
+            directories,
+            counts: FileCounts {
+                different: 0,
+                unknown: 0,
+                unreadable: 0,
+            },
+        }
+    }
+
+    /// Counts a file that can't be read.
+    pub(crate) fn count_unreadable(&mut self) {
+        self.counts.unreadable = self.counts.unreadable.saturating_add(1);
+    }
+
+    /// Counts a file that can't be read for this reason, if it is an ELF file. Fails if memory has run out.
+    fn count_error(&mut self, error: ElfError) -> Result<(), AllocError> {
+        match error {
+            ElfError::Memory => Err(AllocError),
+            ElfError::Io(error) if error.kind() == ErrorKind::OutOfMemory => Err(AllocError),
+            ElfError::NotElf => Ok(()),
+            _ => {
+                self.count_unreadable();
+                Ok(())
+            }
+        }
+    }
+
+    /// Returns what was read, or `None` if it can't be.
+    fn readable<T: Drop>(&mut self, read: Result<T, ElfError>) -> Result<Option<T>, AllocError> {
+        match read {
+            Ok(value) => Ok(Some(value)),
+            Err(error) => {
+                self.count_error(error)?;
+                Ok(None)
+            }
+        }
+    }
+
+    /// Reads the headers of a file.
+    fn open(&mut self, file: File) -> Result<Option<Elf>, AllocError> {
+        let alloc = self.rt.alloc();
+        let Ok(reader) = BufReader::new(alloc, file) else {
+            return Err(AllocError);
+        };
+        self.readable(ElfFile::open(alloc, CountedBuffer::new(reader)))
+    }
+
+    /// Returns the build id of a file, which is empty if it has none or if it can't be read.
+    fn build_id(&mut self, elf: &mut Elf) -> Result<Vec<u8>, AllocError> {
+        let alloc = self.rt.alloc();
+        match self.readable(elf.build_id(alloc))? {
+            Some(Some(id)) => Ok(id),
+            _ => Ok(Vec::new(alloc)),
+        }
+    }
+
+    /// Opens a file whose build id is the recorded one, if that is known.
+    fn open_recorded(&mut self, file: File, recorded: &[u8]) -> Result<Option<Elf>, AllocError> {
+        let Some(mut elf) = self.open(file)? else {
+            return Ok(None);
+        };
+        if recorded.is_empty() || is_recorded(&self.build_id(&mut elf)?, recorded) {
+            return Ok(Some(elf));
+        }
+        self.counts.different = self.counts.different.saturating_add(1);
+        Ok(None)
+    }
+
+    /// Opens the mapped file.
+    fn open_mapped(&mut self, path: &str, recorded: &[u8]) -> Result<Option<Elf>, AllocError> {
+        match self.directories.files.open(self.rt, path)? {
+            Some(file) => self.open_recorded(file, recorded),
+            None => Ok(None),
+        }
+    }
+
+    /// Opens a debug file.
+    fn open_debug(&mut self, path: &DebugPath, recorded: &[u8]) -> Result<Option<Elf>, AllocError> {
+        let directory = match path.place {
+            DebugPlace::Files => &self.directories.files,
+            DebugPlace::DebugFiles => &self.directories.debug_files,
+        };
+        match directory.open(self.rt, path.path.as_str())? {
+            Some(file) => self.open_recorded(file, recorded),
+            None => Ok(None),
+        }
+    }
+
+    /// Returns the first debug file with all symbols, or else the first with those for the dynamic linker.
+    fn first_with_symbols(
+        &mut self,
+        paths: &[DebugPath],
+        recorded: &[u8],
+    ) -> Result<Option<Elf>, AllocError> {
+        let mut dynamic = None;
+        for path in paths {
+            let Some(elf) = self.open_debug(path, recorded)? else {
+                continue;
+            };
+            match elf.symbol_section() {
+                Some(SymbolSection::Full) => return Ok(Some(elf)),
+                Some(SymbolSection::Dynamic) if dynamic.is_none() => dynamic = Some(elf),
+                _ => {}
+            }
+        }
+        Ok(dynamic)
+    }
+
+    /// Returns the name of the debug file in a mapped file.
+    fn debug_link(&mut self, mapped: &mut Elf) -> Result<Option<DebugLink>, AllocError> {
+        let link = mapped.debug_link(self.rt.alloc());
+        match self.readable(link)? {
+            Some(link) => Ok(link),
+            None => Ok(None),
+        }
+    }
+
+    /// Returns the symbols of a mapped file and its debug file.
+    fn merged_table(&mut self, mut mapped: Elf, mut debug: Elf) -> Result<SymbolTable, ElfError> {
+        let alloc = self.rt.alloc();
+        let mut symbols = debug.symbols(alloc, mapped.segments())?;
+        mapped.add_plt_symbols(alloc, &mut symbols)?;
+        Ok(symbols.into_table(alloc)?)
+    }
+
+    /// Returns the symbols of a mapped file.
+    fn own_table(&mut self, mut mapped: Elf) -> Result<SymbolTable, ElfError> {
+        let alloc = self.rt.alloc();
+        let segments = Vec::from_slice(alloc, mapped.segments())?;
+        let mut symbols = mapped.symbols(alloc, &segments)?;
+        mapped.add_plt_symbols(alloc, &mut symbols)?;
+        Ok(symbols.into_table(alloc)?)
+    }
+
+    /// Returns the symbols of a mapped file that was opened.
+    fn table_of(&mut self, mapped: Elf, debug: Option<Elf>) -> Result<SymbolTable, ElfError> {
+        match debug {
+            Some(debug) if is_preferred(&debug, &mapped) => self.merged_table(mapped, debug),
+            _ => self.own_table(mapped),
+        }
+    }
+
+    /// Returns the symbols of the file at a path, whose build id was recorded if it isn't empty. Their starts
+    /// are offsets in the file.
+    pub(crate) fn table(
+        &mut self,
+        path: &str,
+        recorded: &[u8],
+    ) -> Result<Option<SymbolTable>, AllocError> {
+        let Some(mut mapped) = self.open_mapped(path, recorded)? else {
+            return Ok(None);
+        };
+        let link = self.debug_link(&mut mapped)?;
+        let id = self.build_id(&mut mapped)?;
+        let paths = debug_paths(self.rt.alloc(), path, link.as_ref(), &id)?;
+        let debug = self.first_with_symbols(&paths, &id)?;
+        if recorded.is_empty() {
+            self.counts.unknown = self.counts.unknown.saturating_add(1);
+        }
+        let table = self.table_of(mapped, debug);
+        self.readable(table)
+    }
+}
