@@ -5,6 +5,8 @@ pub mod Arrays
 pub mod RecordLemmas
 pub mod SampleBounds
 pub mod SampleWalks
+pub mod TaskWalks
 pub mod FilePages
 pub mod SamplePages
 pub mod PipeSamples
+pub mod TaskPageLemmas

@@ -25,12 +25,17 @@ use Rattle.perfdata_samples.specs.declared.frame.FrameEntry.{FrameEntry}
 use Rattle.perfdata_samples.specs.declared.records.SampleParts.{SampleParts}
 use Rattle.perfdata_samples.specs.declared.sample.Sample.{Sample}
 
+-- the format of an event whose attribute is at an index
+pub format_at : (order : Endianness) (ds : List AttributeDescription) (index : ℕ) (places : RecordParseInfo) (d : AttributeDescription) → slice_get ds index ≡ Some d
+    → format_of_event order (described_attributes ds) (Some (record { index = index; parse_info = places })) ≡ Some (event_format_of (attr_in d) order)
+format_at order ds index places d found =
+    let format = λ (o : Option AttributeDescription). option_map (λ a. event_format_of a.attr order) (option_map described_attribute o) in
+    ap (option_map (λ a. event_format_of a.attr order)) (slice_get-map described_attribute ds index) ∙ ap format found
+
 -- the format of a sample whose attribute is at an index
 pub format_found : (order : Endianness) (ds : List AttributeDescription) (kind index : ℕ) (places : RecordParseInfo) (d : AttributeDescription) → kind ≡ 9 → slice_get ds index ≡ Some d
     → (if kind == 9 then format_of_event order (described_attributes ds) (Some (record { index = index; parse_info = places })) else None) ≡ Some (event_format_of (attr_in d) order)
-format_found order ds kind index places d nine found =
-    let format = λ (o : Option AttributeDescription). option_map (λ a. event_format_of a.attr order) (option_map described_attribute o) in
-    rw nine (ap (option_map (λ a. event_format_of a.attr order)) (slice_get-map described_attribute ds index) ∙ ap format found)
+format_found order ds kind index places d nine found = rw nine (format_at order ds index places d found)
 
 -- the offset of a record
 offset_of_view : (place : RecordPlace) (r : PerfFileRecord) → (record_view_of place r).offset ≡ place.offset

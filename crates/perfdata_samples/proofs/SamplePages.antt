@@ -64,7 +64,7 @@ module _ (bytes : List ℕ) (from : RecordPosition) (reader : InMemoryReader) (p
   abbrev file : PerfFile
   file = reader.perf_file
 
-  unchanged : (records : List RecordView) → attributes_after reader.records file records ≡ attributes_of_file file
+  pub unchanged : (records : List RecordView) → attributes_after reader.records file records ≡ attributes_of_file file
   unchanged records =
       let section = parsed.0.at_position.section_size in
       ap (λ l. attributes_of_file file ++ l) (no_attributes reader.records.iter.endian (section_size_of memory_state reader.records.iter) (header_of bytes from reader parsed).data_section.size records section)

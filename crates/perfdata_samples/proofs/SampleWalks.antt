@@ -32,7 +32,7 @@ use Rattle.perfdata_samples.specs.declared.sample.Sample.{Sample}
 
 -- ---- attributes
 
-one_more_attribute : (order : Endianness) (bound : SectionSize) (records : List RecordView) (h : RecordView)
+pub one_more_attribute : (order : Endianness) (bound : SectionSize) (records : List RecordView) (h : RecordView)
     → attributes_in_views order bound (records ++ h ∷ []) ≡ attributes_in_views order bound records ++ attributes_in_record order bound h.record_type h.body
 one_more_attribute order bound [] h = append-nil (attributes_in_record order bound h.record_type h.body)
 one_more_attribute order bound (k ∷ ks) h =

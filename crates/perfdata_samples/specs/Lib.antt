@@ -5,3 +5,5 @@ pub mod Status
 pub mod Records
 pub mod Pages
 pub mod Pipes
+pub mod Tasks
+pub mod TaskPages

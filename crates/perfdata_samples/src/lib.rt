@@ -12,3 +12,4 @@ pub mod pipes;
 mod records;
 pub mod sample;
 pub mod status;
+pub mod tasks;
