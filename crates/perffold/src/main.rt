@@ -12,7 +12,7 @@ mod selection;
 mod symbols;
 
 use frame_names::NameSource;
-use options::{NameKind, Options, parse};
+use options::{Arguments, NameKind, Options, parse};
 use output::fold_input;
 use perfdata_cli::command_line::{SUCCESS, arguments, print_argument_error, print_clap_error};
 use perfdata_cli::error::{InputError, ProgramError, print_error};
@@ -25,9 +25,9 @@ use symbols::directories::PathError;
 const NAME: &str = "perffold";
 
 /// Folds the input that the options name, with these names of frames. Returns the exit status.
-fn fold_with(rt: &HostRuntime, options: Options<'_>, source: NameSource<'_>) -> u8 {
-    let path = path_of(rt, options.file);
-    match fold_input(rt, NAME, options, source, path) {
+fn fold_with(rt: &HostRuntime, arguments: Arguments<'_>, source: NameSource<'_>) -> u8 {
+    let path = path_of(rt, arguments.options.file);
+    match fold_input(rt, NAME, arguments, source, path) {
         Ok(()) => SUCCESS,
         Err(error) => print_error(rt, NAME, display_name(path), &error),
     }
@@ -46,9 +46,9 @@ fn name_source<'a>(
 }
 
 /// Opens the files that the options name, and folds the input. Returns the exit status.
-fn run(rt: &HostRuntime, options: Options<'_>) -> u8 {
-    match name_source(rt, &options) {
-        Ok(source) => fold_with(rt, options, source),
+fn run(rt: &HostRuntime, arguments: Arguments<'_>) -> u8 {
+    match name_source(rt, &arguments.options) {
+        Ok(source) => fold_with(rt, arguments, source),
         Err(PathError { path, error }) => {
             print_error(rt, NAME, path, &ProgramError::Input(InputError::Io(error)))
         }
@@ -58,7 +58,7 @@ fn run(rt: &HostRuntime, options: Options<'_>) -> u8 {
 fn main(rt: HostRuntime) -> ExitCode {
     let status = match arguments(&rt) {
         Ok(words) => match parse(rt.alloc(), NAME, &words) {
-            Ok(options) => run(&rt, options),
+            Ok(arguments) => run(&rt, arguments),
             Err(error) => print_clap_error(&rt, NAME, &error),
         },
         Err(error) => print_argument_error(&rt, NAME, &error),

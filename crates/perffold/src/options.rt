@@ -7,7 +7,7 @@ use std::alloc::{AllocError, Global};
 
 /// What the program does.
 const ABOUT: &str =
-    "Writes the stacks of a recording's samples as folded lines: names of frames with ';' between them, and a count.";
+    "Writes the stacks of a recording's samples as folded lines: names of frames with ';' between them, and a count. Or draws their flame graph.";
 
 /// The id of the option of the event.
 const EVENT: &str = "event";
@@ -48,6 +48,9 @@ const KALLSYMS: &str = "kallsyms";
 /// The id of the option of the directory of perf-PID.map files.
 const MAPS: &str = "maps";
 
+/// The id of the flag for a flame graph.
+const SVG: &str = "svg";
+
 /// What a sample counts.
 #[derive(Clone, Copy, PartialEq, Eq)]
 pub(crate) enum Weight {
@@ -79,6 +82,15 @@ pub(crate) enum ThreadIds {
     Thread,
 }
 
+/// What is written.
+#[derive(Clone, Copy, PartialEq, Eq)]
+pub(crate) enum OutputFormat {
+    /// Folded lines.
+    Lines,
+    /// A flame graph.
+    Svg,
+}
+
 /// Where symbols are.
 #[derive(Clone, Copy)]
 pub(crate) struct SymbolOptions<'a> {
@@ -102,6 +114,13 @@ pub(crate) struct Options<'a> {
     pub(crate) thread_ids: ThreadIds,
     pub(crate) name_kind: NameKind,
     pub(crate) symbols: SymbolOptions<'a>,
+}
+
+/// The arguments.
+#[derive(Clone, Copy)]
+pub(crate) struct Arguments<'a> {
+    pub(crate) options: Options<'a>,
+    pub(crate) format: OutputFormat,
 }
 
 /// Returns a flag.
@@ -188,7 +207,9 @@ fn with_names<'a>(alloc: Global, command: Command<'a>) -> Result<Command<'a>, Al
 
 /// Returns the command with its options.
 fn command_with_options<'a>(alloc: Global, name: &'a str) -> Result<Command<'a>, AllocError> {
-    let command = with_selection(alloc, command(alloc, name, ABOUT, RECORDING_HELP)?)?;
+    let svg = flag(alloc, SVG, "Write a flame graph, an SVG file for a browser");
+    let command = command(alloc, name, ABOUT, RECORDING_HELP)?.arg(svg)?;
+    let command = with_selection(alloc, command)?;
     with_names(alloc, with_symbols(alloc, command)?)
 }
 
@@ -243,19 +264,36 @@ fn symbols_of<'a>(matches: &ArgMatches<'a>) -> SymbolOptions<'a> {
     }
 }
 
+/// Returns what is written.
+fn format_of(matches: &ArgMatches<'_>) -> OutputFormat {
+    if matches.get_flag(SVG) {
+        OutputFormat::Svg
+    } else {
+        OutputFormat::Lines
+    }
+}
+
+/// Returns what the arguments select.
+fn options_of<'a>(matches: &ArgMatches<'a>) -> Options<'a> {
+    Options {
+        file: matches.get_str(FILE),
+        selection: selection_of(matches),
+        weight: weight_of(matches),
+        thread_ids: thread_ids_of(matches),
+        name_kind: name_kind_of(matches),
+        symbols: symbols_of(matches),
+    }
+}
+
 /// Parses the arguments, of which the first is the program's name.
 pub(crate) fn parse<'a>(
     alloc: Global,
     name: &'a str,
     words: &'a [String],
-) -> Result<Options<'a>, Error> {
+) -> Result<Arguments<'a>, Error> {
     let matches = command_with_options(alloc, name)?.try_get_matches_from(words)?;
-    Ok(Options {
-        file: matches.get_str(FILE),
-        selection: selection_of(&matches),
-        weight: weight_of(&matches),
-        thread_ids: thread_ids_of(&matches),
-        name_kind: name_kind_of(&matches),
-        symbols: symbols_of(&matches),
+    Ok(Arguments {
+        options: options_of(&matches),
+        format: format_of(&matches),
     })
 }

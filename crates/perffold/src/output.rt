@@ -2,12 +2,13 @@
 
 use crate::fold::Folder;
 use crate::frame_names::NameSource;
-use crate::options::Options;
+use crate::options::{Arguments, OutputFormat, Weight};
 use crate::records::Records;
 use crate::symbols::FileCounts;
 use linux_perf_data::in_memory::InMemoryReader;
 use perfdata_cli::error::{InputError, ProgramError};
 use perfdata_cli::input::{Input, open_in_memory};
+use perfdata_flame::svg::write_flame_graph;
 use perfdata_stacks::counts::StackCounts;
 use std::io;
 use std::io::{BufWriter, Write};
@@ -20,6 +21,33 @@ fn write_lines(rt: &HostRuntime, counts: &StackCounts) -> io::Result<()> {
         writeln!(out, " {count}")?;
     }
     out.flush()
+}
+
+/// Returns what a flame graph counts.
+fn unit_of(weight: Weight) -> &'static str {
+    match weight {
+        Weight::Samples => "samples",
+        Weight::Period => "events",
+    }
+}
+
+/// Writes the flame graph of the lines.
+fn write_svg(rt: &HostRuntime, counts: &StackCounts, weight: Weight) -> io::Result<()> {
+    let mut out = BufWriter::new(rt.alloc(), rt.stdout())?;
+    write_flame_graph(rt.alloc(), counts, unit_of(weight), &mut out)?;
+    out.flush()
+}
+
+/// Writes the lines, or their flame graph.
+fn write_counts(
+    rt: &HostRuntime,
+    arguments: &Arguments<'_>,
+    counts: &StackCounts,
+) -> io::Result<()> {
+    match arguments.format {
+        OutputFormat::Lines => write_lines(rt, counts),
+        OutputFormat::Svg => write_svg(rt, counts, arguments.options.weight),
+    }
 }
 
 /// Writes the number of samples of other events on standard error, if it isn't 0.
@@ -50,13 +78,14 @@ fn print_unreadable(rt: &HostRuntime, name: &str, files: u64) {
 fn finish(
     rt: &HostRuntime,
     name: &str,
+    arguments: &Arguments<'_>,
     folder: Folder<'_>,
     read: Result<(), InputError>,
 ) -> Result<(), ProgramError> {
     let other_events = folder.other_events();
     let file_counts = folder.file_counts();
     let counts = folder.finish()?;
-    write_lines(rt, &counts).map_err(ProgramError::Output)?;
+    write_counts(rt, arguments, &counts).map_err(ProgramError::Output)?;
     print_other_events(rt, name, other_events);
     if let Some(counts) = file_counts {
         print_file_counts(rt, name, counts);
@@ -69,22 +98,22 @@ fn finish(
 fn fold_opened(
     rt: &HostRuntime,
     name: &str,
-    options: Options<'_>,
+    arguments: Arguments<'_>,
     source: NameSource<'_>,
     reader: InMemoryReader<'_>,
 ) -> Result<(), ProgramError> {
     let mut file = reader.perf_file;
     let mut records = Records::new(rt.alloc(), &file, reader.records);
-    let mut folder = Folder::new(rt.alloc(), options, source);
+    let mut folder = Folder::new(rt.alloc(), arguments.options, source);
     let read = folder.add_all(&mut records, &mut file);
-    finish(rt, name, folder, read)
+    finish(rt, name, &arguments, folder, read)
 }
 
 /// Folds the samples of the input at a path, which is read into memory.
 pub(crate) fn fold_input(
     rt: &HostRuntime,
     name: &str,
-    options: Options<'_>,
+    arguments: Arguments<'_>,
     source: NameSource<'_>,
     path: &str,
 ) -> Result<(), ProgramError> {
@@ -92,5 +121,5 @@ pub(crate) fn fold_input(
     let is_pipe = input.is_pipe()?;
     let bytes = input.into_bytes().map_err(InputError::Io)?;
     let reader = open_in_memory(rt.alloc(), &bytes, is_pipe)?;
-    fold_opened(rt, name, options, source, reader)
+    fold_opened(rt, name, arguments, source, reader)
 }
