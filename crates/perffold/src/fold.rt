@@ -109,6 +109,11 @@ impl<'a> Folder<'a> {
         self.other_events
     }
 
+    /// Returns whether no sample has the event that `--event` names.
+    pub(crate) fn lacks_event(&self) -> bool {
+        self.stacks.is_empty() && self.selection.is_named()
+    }
+
     /// Returns how many files with symbols there are of which kind, if files are read.
     pub(crate) fn file_counts(&self) -> Option<FileCounts> {
         self.frame_names.file_counts()

@@ -50,6 +50,15 @@ fn write_counts(
     }
 }
 
+/// Fails if no sample has the event that `--event` names.
+fn check_event(lacks_event: bool) -> Result<(), InputError> {
+    if lacks_event {
+        Err(InputError::Io(io::Error::other("no sample has the event that --event names")))
+    } else {
+        Ok(())
+    }
+}
+
 /// Writes the number of samples of other events on standard error, if it isn't 0.
 fn print_other_events(rt: &HostRuntime, name: &str, samples: u64) {
     if samples != 0 {
@@ -84,6 +93,7 @@ fn finish(
 ) -> Result<(), ProgramError> {
     let other_events = folder.other_events();
     let file_counts = folder.file_counts();
+    let lacks_event = folder.lacks_event();
     let counts = folder.finish()?;
     write_counts(rt, arguments, &counts).map_err(ProgramError::Output)?;
     print_other_events(rt, name, other_events);
@@ -91,7 +101,8 @@ fn finish(
         print_file_counts(rt, name, counts);
         print_unreadable(rt, name, counts.unreadable);
     }
-    Ok(read?)
+    read?;
+    Ok(check_event(lacks_event)?)
 }
 
 /// Folds the samples of an input that was opened.

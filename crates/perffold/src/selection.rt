@@ -26,6 +26,11 @@ impl<'a> Selection<'a> {
         }
     }
 
+    /// Returns whether `--event` names the event.
+    pub(crate) fn is_named(&self) -> bool {
+        matches!(self, Selection::Named(_) | Selection::Index(_))
+    }
+
     /// Returns whether the samples of an event are counted.
     pub(crate) fn selects(&mut self, file: &PerfFile, index: usize) -> bool {
         match *self {
