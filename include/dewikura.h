@@ -130,6 +130,20 @@ struct dewikura_frame {
     uint32_t reserved; // 0
 };
 
+// A record on a task, decoded: its name (DEWIKURA_RECORD_COMM), its start (DEWIKURA_RECORD_FORK) or its end (DEWIKURA_RECORD_EXIT).
+struct dewikura_task {
+    uint64_t offset;      // of the record header, in bytes from the first record, as in dewikura_record
+    uint64_t timestamp;   // in nanoseconds of the recording's clock; 0 if the record has none
+    uint64_t name_offset; // of the name, in bytes from the start of the input; 0 for a start or an end
+    uint64_t name_size;   // in bytes, no NUL
+    uint32_t kind;        // DEWIKURA_RECORD_COMM, DEWIKURA_RECORD_FORK or DEWIKURA_RECORD_EXIT
+    uint32_t is_exec;     // 1 if the task executed another program, otherwise 0
+    int32_t pid;
+    int32_t tid;
+    int32_t parent_pid;   // of a start or an end, otherwise 0
+    int32_t parent_tid;
+};
+
 // An event attribute: perf_event_attr, by the kernel's names.
 struct dewikura_attr {
     uint64_t config;                // which event of its type
@@ -584,6 +598,8 @@ DEWIKURA_NONNULL dewikura_status dewikura_read_file_samples_raw(const void *data
     uint64_t *frames_count);
 DEWIKURA_NONNULL dewikura_status dewikura_read_pipe_samples_raw(const void *data, size_t size, struct dewikura_sample *samples, size_t capacity,
     uint64_t *total, struct dewikura_frame *frames, size_t frames_capacity, uint64_t *frames_total);
+DEWIKURA_NONNULL dewikura_status dewikura_read_file_tasks_raw(const void *data, size_t size, struct dewikura_cursor *cursor,
+    struct dewikura_task *tasks, size_t capacity, uint64_t *count);
 DEWIKURA_NONNULL dewikura_status dewikura_sort_records_raw(struct dewikura_record *records, size_t count);
 DEWIKURA_NONNULL dewikura_status dewikura_read_file_attrs_raw(const void *data, size_t size, struct dewikura_attr *attrs,
     size_t attrs_capacity, char *names, size_t names_capacity, uint64_t *ids, size_t ids_capacity, struct dewikura_attr_totals *totals);
@@ -708,6 +724,24 @@ DEWIKURA_NODISCARD static inline dewikura_status dewikura_read_pipe_samples(cons
     uint64_t unused_total, unused_frames;
     return dewikura_read_pipe_samples_raw(data ? data : &no_data, size, samples ? samples : &no_sample, capacity,
         total ? total : &unused_total, frames ? frames : &no_frame, frames_capacity, frames_total ? frames_total : &unused_frames);
+}
+
+// Writes the records on tasks of a perf.data file from *cursor on, in the order of the file, up to `capacity`, and moves *cursor past the
+// last of them: their names, starts and ends. `data` is the whole file. The first call has a cursor of zeros. With NULL for `cursor`, a call
+// starts at the first record. A record that can't be decoded is left out.
+//
+// *count is the number of written tasks; `count` may be NULL. If it is `capacity` and the status is DEWIKURA_OK, the next call writes the
+// tasks that follow. If it is smaller and the status is DEWIKURA_OK, there are no more. The errors are those of
+// dewikura_read_file_records.
+DEWIKURA_NODISCARD static inline dewikura_status dewikura_read_file_tasks(const void *data, size_t size, struct dewikura_cursor *cursor,
+    struct dewikura_task *tasks, size_t capacity, uint64_t *count)
+{
+    const char no_data = 0;
+    struct dewikura_cursor first = {0, 0};
+    struct dewikura_task no_task;
+    uint64_t unused;
+    return dewikura_read_file_tasks_raw(data ? data : &no_data, size, cursor ? cursor : &first, tasks ? tasks : &no_task, capacity,
+        count ? count : &unused);
 }
 
 // Sorts records by time. Records without a time come first, and records with one time keep their order; the times 0 and 2^64 - 1 count as

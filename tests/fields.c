@@ -332,6 +332,80 @@ static void check_samples(void)
     CHECK(frames_count, 3);
 }
 
+// A file with one attribute, and the records of a task: its name after an exec, its start, one that isn't on a task, and its end.
+static void check_tasks(void)
+{
+    struct dewikura_cursor cursor = {0, 0};
+    struct dewikura_task tasks[4];
+    uint64_t count = 0;
+    int i;
+    size = 0;
+    put_text("PERFILE2", 8);
+    put(104, 8);
+    put(152, 8); // the size of an entry of the attribute section
+    put(104, 8);
+    put(152, 8);
+    put(256, 8); // the data section
+    put(40 + 48 + 32 + 48 + 24, 8);
+    put(0, 48);
+    put_attr(0x1101, DEWIKURA_SAMPLE_TIME | DEWIKURA_SAMPLE_IDENTIFIER);
+    put(0, 16);
+    put_header(DEWIKURA_RECORD_COMM, 0x2000, 40); // PERF_RECORD_MISC_COMM_EXEC
+    put((uint32_t)-3, 4);
+    put(0x802, 4);
+    put_text("a name", 8);
+    put(0x803, 8); // time, and the identifier
+    put(1, 8);
+    for (i = 0; i < 2; i++) {
+        put_header(i ? DEWIKURA_RECORD_EXIT : DEWIKURA_RECORD_FORK, 0, 48);
+        put(0x901, 4); // pid, the parent's pid, tid, the parent's tid
+        put(0x902, 4);
+        put(0x903, 4);
+        put((uint32_t)-4, 4);
+        put(0x905, 8);
+        put(0x906 + (uint64_t)i, 8); // time, and the identifier
+        put(1, 8);
+        if (i == 0) {
+            put_header(DEWIKURA_RECORD_LOST_SAMPLES, 0, 32);
+            put(7, 8);
+            put(0xa01, 8);
+            put(1, 8);
+        }
+    }
+    put_header(DEWIKURA_RECORD_COMM, 0, 24); // a name that is truncated
+    put(0, 16);
+    memset(tasks, 0xab, sizeof tasks);
+    CHECK(dewikura_read_file_tasks(input, size, &cursor, tasks, 1, &count), DEWIKURA_OK);
+    CHECK(count, 1);
+    CHECK(cursor.offset, 40);
+    CHECK(tasks[0].offset, 0);
+    CHECK(tasks[0].timestamp, 0x803);
+    CHECK(tasks[0].name_offset, 256 + 8 + 8);
+    CHECK(tasks[0].name_size, 6);
+    CHECK(tasks[0].kind, DEWIKURA_RECORD_COMM);
+    CHECK(tasks[0].is_exec, 1);
+    CHECK(tasks[0].pid, -3);
+    CHECK(tasks[0].tid, 0x802);
+    CHECK(tasks[0].parent_pid | tasks[0].parent_tid, 0);
+    CHECK(tasks[1].kind, 0xabababab);
+    CHECK(dewikura_read_file_tasks(input, size, &cursor, tasks, 4, &count), DEWIKURA_OK);
+    CHECK(count, 2);
+    CHECK(tasks[0].offset, 40);
+    CHECK(tasks[0].timestamp, 0x906);
+    CHECK(tasks[0].name_offset | tasks[0].name_size, 0);
+    CHECK(tasks[0].kind, DEWIKURA_RECORD_FORK);
+    CHECK(tasks[0].is_exec, 0);
+    CHECK(tasks[0].pid, 0x901);
+    CHECK(tasks[0].tid, 0x903);
+    CHECK(tasks[0].parent_pid, 0x902);
+    CHECK(tasks[0].parent_tid, -4);
+    CHECK(tasks[1].offset, 40 + 48 + 32);
+    CHECK(tasks[1].timestamp, 0x907);
+    CHECK(tasks[1].kind, DEWIKURA_RECORD_EXIT);
+    CHECK(tasks[2].kind, 0xabababab);
+    CHECK(dewikura_read_file_tasks(NULL, 0, NULL, NULL, 0, NULL), DEWIKURA_TRUNCATED);
+}
+
 static void check_build_id(void)
 {
     struct dewikura_build_id entry;
@@ -769,6 +843,7 @@ int main(void)
 {
     check_file();
     check_samples();
+    check_tasks();
     check_build_id();
     check_string();
     check_meta_info();

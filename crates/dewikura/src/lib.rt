@@ -27,6 +27,7 @@ ghost use Rattle.perfdata_arrays.specs.SymbolTables.{ReadsSymbolTables};
 ghost use Rattle.perfdata_samples.specs.Pages.{ReadsSamplePage};
 ghost use Rattle.perfdata_samples.specs.Pipes.{ReadsPipeSamples};
 ghost use Rattle.perfdata_samples.specs.Status.{IsSamplesCodeOf, all_code_text};
+ghost use Rattle.perfdata_samples.specs.TaskPages.{ReadsTaskPage};
 ghost use Rattle.dewikura.specs.Numbers.{endian_from, number_of_bool};
 
 use linux_perf_data::Endianness;
@@ -47,7 +48,8 @@ use perfdata_arrays::{
 };
 use perfdata_samples::frame::FrameEntry;
 use perfdata_samples::sample::Sample;
-use perfdata_samples::{pages, pipes, status};
+use perfdata_samples::tasks::TaskEntry;
+use perfdata_samples::{pages, pipes, status, tasks};
 use std::alloc::Global;
 
 /// The version of the library: 10,000 times the major number, 100 times the minor number, and the patch
@@ -163,6 +165,23 @@ pub extern "C" fn dewikura_read_pipe_samples_raw(
     let outcome = pipes::pipe_samples(alloc, input, samples, frames);
     *total = outcome.count;
     *frames_total = outcome.frames_count;
+    outcome.status.code()
+}
+
+/// Reads the records on tasks of a perf.data file from a cursor on, as `tasks::file_tasks` does.
+#[unsafe(no_mangle)]
+pub extern "C" fn dewikura_read_file_tasks_raw(
+    alloc: Global,
+    input: &[u8],
+    cursor: &mut RecordPosition,
+    entries: &mut [TaskEntry],
+    count: &mut u64,
+) -> u32
+    ensures { IsCodeOf result (λ s. ReadsTaskPage input.now cursor.old entries.old
+        (record { count = count.new; status = s }) cursor.new entries.new) }
+{
+    let outcome = tasks::file_tasks(alloc, input, cursor, entries);
+    *count = outcome.count;
     outcome.status.code()
 }
 
