@@ -28,9 +28,6 @@ const MEMORY_PATHS: [&[u8]; 6] = [
     b"[heap]",
 ];
 
-/// The start of the paths of files in memory, into which some runtimes generate code.
-const MEMORY_FILE_PATH: &[u8] = b"/memfd:";
-
 /// The process and the time of a sample.
 #[derive(Clone, Copy)]
 pub(crate) struct SampleOrigin {
@@ -109,13 +106,11 @@ fn push_address(text: &mut Vec<u8>, address: u64) -> Result<(), AllocError> {
     }
 }
 
-/// Returns the process that generates the code at an address of this mapping, if any can.
-fn generator_of(mapping: Option<&Mapping>, pid: i32) -> Option<i32> {
+/// Returns the process whose jitdump describes the code at an address: the one that made this mapping.
+fn generator_of(mapping: Option<&Mapping>, pid: i32) -> i32 {
     match mapping {
-        None => Some(pid),
-        Some(mapping) if mapping.path.as_slice().starts_with(MEMORY_FILE_PATH) => Some(mapping.pid),
-        Some(mapping) if is_anonymous(mapping) => Some(mapping.pid),
-        Some(_) => None,
+        Some(mapping) => mapping.pid,
+        None => pid,
     }
 }
 
@@ -293,12 +288,11 @@ impl<'a> FrameNames<'a> {
         let NameSource::Symbols(symbols) = &mut self.source else {
             return Ok(None);
         };
-        match generator_of(mapping, origin.pid) {
-            Some(pid) if frame.context == CallContext::User => {
-                symbols.code_number(pid, frame.address, origin.time, names)
-            }
-            _ => Ok(None),
+        if frame.context != CallContext::User {
+            return Ok(None);
         }
+        let pid = generator_of(mapping, origin.pid);
+        symbols.code_number(pid, frame.address, origin.time, names)
     }
 
     /// Returns the number of the name of a frame of a sample.
