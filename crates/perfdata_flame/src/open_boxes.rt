@@ -1,5 +1,6 @@
 //! The boxes around the current sample.
-ghost use Rattle.std.specs.Prelude.{◌≡◌, ◌≤◌, ◌++◌, ◌∷◌, [], All, IfSome, OnErr, OnOk, length};
+ghost use Rattle.std.specs.Prelude.{◌≡◌, ◌≤◌, ◌==◌, ◌+◌, ◌-◌, ◌^◌, ◌++◌, ◌∷◌, []};
+ghost use Rattle.std.specs.Prelude.{All, IfNone, IfSome, OnErr, OnOk, length, min};
 ghost use Rattle.std.specs.List.Sorted.{IsNonDecreasing};
 
 use crate::span::Span;
@@ -49,14 +50,16 @@ impl OpenBoxes {
     /// Moves over samples with this sum of weights, or to 2^64 - 1 if the sum of all weights is greater.
     pub fn advance(&mut self, weight: u64)
         ensures starts { starts_of self.new ≡ starts_of self.old }
-        ensures forward { position_of self.old ≤ position_of self.new }
+        ensures position { position_of self.new ≡ min (position_of self.old + weight) (2 ^ 64 - 1) }
     {
         self.position = self.position.saturating_add(weight);
     }
 
     /// Closes the innermost box at the current position. Returns its samples, or `None` if no box is open.
     pub fn close(&mut self) -> Option<Span>
-        ensures innermost { IfSome result (λ span. starts_of self.old ≡ starts_of self.new ++ span.start ∷ []) }
+        ensures none { IfNone result (starts_of self.old ≡ []) }
+        ensures innermost { IfSome result (λ span.
+            starts_of self.old ≡ starts_of self.new ++ span.start ∷ []) }
         ensures end { IfSome result (λ span. span.end ≡ position_of self.old) }
         ensures width { IfSome result (λ span. span.start ≤ span.end) }
         ensures within { IfSome result (λ span. All (λ start. start ≤ span.start) (starts_of self.new)) }
@@ -77,7 +80,9 @@ impl OpenBoxes {
     }
 
     /// Returns whether no box is open.
-    pub fn is_empty(&self) -> bool {
+    pub fn is_empty(&self) -> bool
+        ensures { result ≡ (length (starts_of self.now) == 0) }
+    {
         self.starts.is_empty()
     }
 }

@@ -18,7 +18,7 @@ use Rattle.perfdata_samples.specs.declared.frame.FrameEntry.{FrameEntry}
 use Rattle.perfdata_samples.specs.declared.records.AddedCounts.{AddedCounts}
 use Rattle.perfdata_samples.specs.declared.records.SampleParts.{SampleParts}
 use Rattle.perfdata_samples.specs.declared.sample.Sample.{Sample}
-use Rattle.perfdata_samples.specs.declared.sample.SampleHead.{SampleHead}
+use Rattle.perfdata_samples.specs.declared.sample.SampleEnvelope.{SampleEnvelope}
 
 -- ---- a sample
 
@@ -45,8 +45,8 @@ module _ (order : Endianness) (attrs : List Attribute) where
   sample_format_of h = if h.record_type == 9 then format_of_event h.event else None
 
   -- what a sample has beside the fields of its body
-  abbrev pub head_of : RecordView → ℕ → ℕ → SampleHead
-  head_of h frames_start frames_count = record {
+  abbrev pub envelope_of : RecordView → ℕ → ℕ → SampleEnvelope
+  envelope_of h frames_start frames_count = record {
     offset = h.offset;
     attr_index = saturated (attr_index_or_zero h.event);
     misc = h.misc;
@@ -61,7 +61,7 @@ module _ (order : Endianness) (attrs : List Attribute) where
     pub body : SampleBody
     pub body_is : IsBody format h.body body
     pub frames_are : frames ≡ frames_of_body wants_frames body
-    pub sample_is : sample ≡ sample_of (head_of h frames_start (length frames)) format body
+    pub sample_is : sample ≡ sample_of (envelope_of h frames_start (length frames)) format body
 
   -- ---- the parts of a sample's record
 

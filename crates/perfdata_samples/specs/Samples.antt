@@ -16,7 +16,7 @@ use Rattle.perfdata_samples.specs.declared.body.SampleBody.{SampleBody}
 use Rattle.perfdata_samples.specs.declared.body.SampleBody.TheVariants.{Complete, Words, Nothing}
 use Rattle.perfdata_samples.specs.declared.frame.FrameEntry.{FrameEntry}
 use Rattle.perfdata_samples.specs.declared.sample.Sample.{Sample}
-use Rattle.perfdata_samples.specs.declared.sample.SampleHead.{SampleHead}
+use Rattle.perfdata_samples.specs.declared.sample.SampleEnvelope.{SampleEnvelope}
 
 -- ---- frames
 
@@ -50,22 +50,22 @@ task_or_none None = record { pid = pos 0; tid = pos 0 }
 task_or_none (Some task) = task
 
 -- The sample with these words, fields and error. What it doesn't have is 0.
-abbrev pub sample_with : SampleHead → SampleWords → ℕ → ℕ → Sample
-sample_with head words fields error = record {
-  offset = head.offset;
+abbrev pub sample_with : SampleEnvelope → SampleWords → ℕ → ℕ → Sample
+sample_with envelope words fields error = record {
+  offset = envelope.offset;
   timestamp = unwrap_or words.origin.timestamp 0;
   ip = unwrap_or words.origin.ip 0;
   address = unwrap_or words.event.address 0;
   id = unwrap_or (option_or words.origin.identifier words.event.id) 0;
   period = unwrap_or words.period 0;
-  frames_start = head.frames_start;
-  frames_count = head.frames_count;
-  attr_index = head.attr_index;
+  frames_start = envelope.frames_start;
+  frames_count = envelope.frames_count;
+  attr_index = envelope.attr_index;
   fields = fields;
   cpu = unwrap_or words.event.cpu 0;
   pid = (task_or_none words.origin.task).pid;
   tid = (task_or_none words.origin.task).tid;
-  misc = head.misc;
+  misc = envelope.misc;
   error = error;
   reserved = 0;
   reserved_2 = 0;
@@ -84,7 +84,7 @@ abbrev pub known_bits : ℕ
 known_bits = 33554431
 
 -- the sample with a decoded body
-abbrev pub sample_of : SampleHead → EventFormat → SampleBody → Sample
-sample_of head format (Complete words call_chain) = sample_with head words (bit_and format.sample_format.0 known_bits) 0
-sample_of head format (Words words error) = sample_with head words (bit_and format.sample_format.0 word_bits) (error_code error)
-sample_of head format Nothing = sample_with head no_words 0 1
+abbrev pub sample_of : SampleEnvelope → EventFormat → SampleBody → Sample
+sample_of envelope format (Complete words call_chain) = sample_with envelope words (bit_and format.sample_format.0 known_bits) 0
+sample_of envelope format (Words words error) = sample_with envelope words (bit_and format.sample_format.0 word_bits) (error_code error)
+sample_of envelope format Nothing = sample_with envelope no_words 0 1

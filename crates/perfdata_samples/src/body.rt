@@ -19,7 +19,15 @@ use perfdata_events::sample_words::{EventWords, OriginWords};
 use std::io::Result;
 
 /// The bits of the words up to the period.
-pub(crate) const WORD_BITS: u64 = 0x103cf;
+pub(crate) const WORD_BITS: u64 = SampleFields::IDENTIFIER.0
+    | SampleFields::IP.0
+    | SampleFields::TID.0
+    | SampleFields::TIME.0
+    | SampleFields::ADDR.0
+    | SampleFields::ID.0
+    | SampleFields::STREAM_ID.0
+    | SampleFields::CPU.0
+    | SampleFields::PERIOD.0;
 
 /// Why fields of a sample can't be decoded.
 #[derive(Clone, Copy, Debug, PartialEq, Eq)]

@@ -12,7 +12,7 @@ use crate::body::SampleBody;
 use crate::frame::{FrameEntry, write_frames};
 use crate::pages::SamplesResult;
 use crate::records::{AddedCounts, sample_parts, saturate};
-use crate::sample::{Sample, SampleHead};
+use crate::sample::{Sample, SampleEnvelope};
 use crate::status::SamplesStatus;
 use linux_perf_data::in_memory::{InMemoryReader, InMemoryRecords};
 use linux_perf_data::{Error, PerfFile, PerfFileRecord, RecordPlace};
@@ -58,14 +58,14 @@ fn count_record(
     };
     let body = SampleBody::parse(&parts.format, parts.body);
     let frames_count = write_frames_at(&body, frames, used);
-    let head = SampleHead {
+    let envelope = SampleEnvelope {
         offset: place.offset,
         attr_index: parts.attr_index,
         misc: parts.misc,
         frames_start: used as u64,
         frames_count: saturate(frames_count),
     };
-    write_entry(samples, count, Sample::new(head, &parts.format, &body));
+    write_entry(samples, count, Sample::new(envelope, &parts.format, &body));
     AddedCounts {
         samples: 1,
         frames: frames_count,

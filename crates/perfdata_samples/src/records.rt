@@ -7,7 +7,7 @@ ghost use Rattle.perfdata_samples.specs.Records.{AddsFrames, AddsRecord, ArePart
 
 use crate::body::SampleBody;
 use crate::frame::{FrameEntry, frames_above, write_frames};
-use crate::sample::{Sample, SampleHead};
+use crate::sample::{Sample, SampleEnvelope};
 use linux_perf_data::event::RecordType;
 use linux_perf_data::raw::RawData;
 use linux_perf_data::{PerfFile, PerfFileRecord, RecordPlace};
@@ -107,14 +107,14 @@ pub(crate) fn add_record(
     };
     let body = SampleBody::parse(&parts.format, parts.body);
     let frames_count = add_frames(&body, frames, used)?;
-    let head = SampleHead {
+    let envelope = SampleEnvelope {
         offset: place.offset,
         attr_index: parts.attr_index,
         misc: parts.misc,
         frames_start: used as u64,
         frames_count: saturate(frames_count),
     };
-    samples[count] = Sample::new(head, &parts.format, &body);
+    samples[count] = Sample::new(envelope, &parts.format, &body);
     Ok(AddedCounts {
         samples: 1,
         frames: frames_count,

@@ -10,7 +10,7 @@ use perfdata_events::sample_id::Task;
 use perfdata_events::sample_words::{EventWords, OriginWords};
 
 /// The bits of all fields that are known.
-const KNOWN_BITS: u64 = 0x1ffffff;
+const KNOWN_BITS: u64 = 2 * SampleFields::WEIGHT_STRUCT.0 - 1;
 
 /// A sample (`PERF_RECORD_SAMPLE` of Linux's `perf_event.h`) as plain numbers. A field that it doesn't have
 /// is 0.
@@ -58,7 +58,7 @@ const _: () = prove!(size_of::<Sample>() == 88);
 
 /// What a sample has beside the fields of its body.
 #[derive(Clone, Copy, Debug)]
-pub struct SampleHead {
+pub struct SampleEnvelope {
     /// The offset of the record in bytes, counted from the first record.
     pub offset: u64,
     /// The index of its attribute.
@@ -110,25 +110,25 @@ fn task_or_zeros(task: Option<Task>) -> Task
 
 // The sample with these words, fields and error.
 #[inline(always)]
-fn with_words(head: SampleHead, words: &SampleWords, fields: u32, error: u8) -> Sample
-    ensures { result ≡ sample_with head words.now fields error }
+fn with_words(envelope: SampleEnvelope, words: &SampleWords, fields: u32, error: u8) -> Sample
+    ensures { result ≡ sample_with envelope words.now fields error }
 {
     let task = task_or_zeros(words.origin.task);
     Sample {
-        offset: head.offset,
+        offset: envelope.offset,
         timestamp: words.origin.timestamp.unwrap_or(0),
         ip: words.origin.ip.unwrap_or(0),
         address: words.event.address.unwrap_or(0),
         id: words.origin.identifier.or(words.event.id).unwrap_or(0),
         period: words.period.unwrap_or(0),
-        frames_start: head.frames_start,
-        frames_count: head.frames_count,
-        attr_index: head.attr_index,
+        frames_start: envelope.frames_start,
+        frames_count: envelope.frames_count,
+        attr_index: envelope.attr_index,
         fields,
         cpu: words.event.cpu.unwrap_or(0),
         pid: task.pid,
         tid: task.tid,
-        misc: head.misc,
+        misc: envelope.misc,
         error,
         reserved: 0,
         reserved_2: 0,
@@ -138,24 +138,24 @@ fn with_words(head: SampleHead, words: &SampleWords, fields: u32, error: u8) -> 
 impl Sample {
     /// Returns the sample with a decoded body.
     #[inline(always)]
-    pub fn new(head: SampleHead, format: &EventFormat, body: &SampleBody<'_>) -> Sample
-        ensures { result ≡ sample_of head format.now body.now }
+    pub fn new(envelope: SampleEnvelope, format: &EventFormat, body: &SampleBody<'_>) -> Sample
+        ensures { result ≡ sample_of envelope format.now body.now }
     {
         let bits = format.sample_format.0;
         match body {
             SampleBody::Complete(words, _) => with_words(
-                head,
+                envelope,
                 words,
                 (bits & KNOWN_BITS) as u32,
                 0,
             ),
             SampleBody::Words(words, error) => with_words(
-                head,
+                envelope,
                 words,
                 (bits & WORD_BITS) as u32,
                 error_code(*error),
             ),
-            SampleBody::Nothing => with_words(head, &NO_WORDS, 0, 1),
+            SampleBody::Nothing => with_words(envelope, &NO_WORDS, 0, 1),
         }
     }
 }
