@@ -160,14 +160,15 @@ static void write_header(uint64_t attr_size, uint64_t attrs, uint64_t attrs_size
 static const uint64_t ONE_TYPE = IP | TID | TIME;
 static const uint64_t EVENT_TYPE = IDENTIFIER | IP | TID | TIME | CPU | PERIOD;
 
+// perf reads such a file too: an attribute is followed by the section of its identifiers, which is empty.
 static void write_plain(Put put_one, uint64_t type, uint64_t wanted) {
-    unsigned char attribute[ATTRIBUTE];
-    put_attribute(attribute, sizeof attribute, type, SAMPLE_ID_ALL);
-    write_header(ATTRIBUTE, HEADER, ATTRIBUTE, HEADER + ATTRIBUTE, 0, 0);
+    unsigned char attribute[ATTRIBUTE + 16] = {0};
+    put_attribute(attribute, ATTRIBUTE, type, SAMPLE_ID_ALL);
+    write_header(sizeof attribute, HEADER, sizeof attribute, HEADER + sizeof attribute, 0, 0);
     write_bytes(attribute, sizeof attribute);
     uint64_t size = write_records(put_one, wanted);
     rewind(out);
-    write_header(ATTRIBUTE, HEADER, ATTRIBUTE, HEADER + ATTRIBUTE, size, 0);
+    write_header(sizeof attribute, HEADER, sizeof attribute, HEADER + sizeof attribute, size, 0);
 }
 
 static void write_one(uint64_t wanted) { write_plain(put_record, ONE_TYPE, wanted); }
