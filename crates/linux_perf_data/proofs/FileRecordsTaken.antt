@@ -26,7 +26,7 @@ use Rattle.linux_perf_data.specs.PerfFile.{attributes_of_file}
 use Rattle.linux_perf_data.specs.RecordViews.{IdentifiesRecord}
 use Rattle.linux_perf_data.proofs.InMemoryCalls.{buffer_of}
 use Rattle.linux_perf_data.proofs.InMemoryPlaces.{rest_in_place, section_view}
-use Rattle.linux_perf_data.proofs.IterCalls.{Idles, markers_none, returns_record}
+use Rattle.linux_perf_data.proofs.IterCalls.{Idles, returns_record}
 use Rattle.linux_perf_data.proofs.WholeRecordsTaken.{body_of_first, whole_record_read}
 
 -- a record of a file changes no metadata
@@ -77,7 +77,8 @@ file_record_consumed old new size file header found bytes n running section more
       fits = start_fits;
       markers = [];
       offset = omega arith;
-      skipped_markers = markers_none old.endian (section_size_of memory_state old) old.offset;
+      skipped_markers = record { raw_records = []; split = refl; elements = _ };
+      round = omega arith;
       consumption = consumed_none (iter_source_state memory_state old);
       before = λ rest attrs rs e come. come;
     } in

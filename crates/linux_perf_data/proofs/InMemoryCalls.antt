@@ -17,10 +17,10 @@ use Rattle.linux_perf_data.specs.Layout.{MayStartAt}
 use Rattle.linux_perf_data.specs.LateMetadata.{IsMetadataType, MetadataApplied, MetadataRejected}
 use Rattle.linux_perf_data.specs.RecordFraming.{RecordTruncatedAt, RecordErrorAt}
 use Rattle.linux_perf_data.specs.RecordViews.{IdentifiesRecord}
-use Rattle.linux_perf_data.specs.Iter.{iter_source_state, section_size_of, SameInput, StopsAtError}
+use Rattle.linux_perf_data.specs.Iter.{iter_source_state, section_size_of, SameInput, StopsAtError, ConsumesMetadata}
 use Rattle.linux_perf_data.specs.IterSteps.{RawRecordRead, SameButLookup, RecordProcessed, RecordRejected}
 use Rattle.linux_perf_data.specs.InMemory.{memory_state, MemoryIter, with_buffer, EndsOrFails, TakesRawRecord}
-use Rattle.linux_perf_data.proofs.IterCalls.{Idles, late_stops}
+use Rattle.linux_perf_data.proofs.IterCalls.{Idles, late_stops, consumes_metadata}
 use Rattle.linux_perf_data.proofs.ProcessedRecords.{record_processed, record_rejected}
 use Rattle.linux_perf_data.proofs.TruncatedRecords.{record_truncated}
 
@@ -66,6 +66,7 @@ stops_unbuffered old new file e buffer empty stopped =
       valid_markers = stopped.valid_markers;
       consumed_bytes = stopped.consumed_bytes;
       offset = stopped.offset;
+      round = stopped.round;
       may_start = stopped.may_start;
       consumes = stopped.consumes;
       no_pending_header = stopped.no_pending_header;
@@ -77,7 +78,14 @@ stops_unbuffered old new file e buffer empty stopped =
 
 -- the metadata of a complete record isn't applied
 pub rejected_stops : (old now piece new final : MemoryIter) (buffer : Vec ℕ Global) (file file' : PerfFile) (header_bytes : PerfEventHeader) (e : Error) → Idles memory_state old now → RawRecordRead memory_state now header_bytes (with_buffer piece buffer) → header_bytes.type_ ≢ 68 → MayStartAt (section_size_of memory_state now) now.offset
-    → RecordRejected memory_state (with_buffer piece buffer) file header_bytes e (with_buffer new buffer) file' → final.source ≡ new.source → final.input ≡ new.input → final.offset ≡ now.offset → final.body.items ≡ [] → StopsAtError memory_state old file e final
-rejected_stops old now piece new final buffer file file' header_bytes e idles read other more rejected source input offset empty =
+    → RecordRejected memory_state (with_buffer piece buffer) file header_bytes e (with_buffer new buffer) file' → final.source ≡ new.source → final.input ≡ new.input → final.offset ≡ now.offset → final.round ≡ new.round → final.body.items ≡ [] → StopsAtError memory_state old file e final
+rejected_stops old now piece new final buffer file file' header_bytes e idles read other more rejected source input offset round empty =
     stops_unbuffered old final file e buffer empty
-    (late_stops memory_state old now (with_buffer piece buffer) (with_buffer new buffer) (with_buffer final buffer) file file' header_bytes e idles read other more rejected (record { source = source; input = input; body = refl }) offset)
+    (late_stops memory_state old now (with_buffer piece buffer) (with_buffer new buffer) (with_buffer final buffer) file file' header_bytes e idles read other more rejected (record { source = source; input = input; body = refl; round = round }) offset)
+
+-- its bytes were consumed
+pub rejected_consumes : (old now piece new final : MemoryIter) (buffer : Vec ℕ Global) (file file' : PerfFile) (header_bytes : PerfEventHeader) (e : Error) → Idles memory_state old now → RawRecordRead memory_state now header_bytes (with_buffer piece buffer)
+    → RecordRejected memory_state (with_buffer piece buffer) file header_bytes e (with_buffer new buffer) file' → final.source ≡ new.source → final.input ≡ new.input → final.round ≡ new.round → ConsumesMetadata memory_state old final
+rejected_consumes old now piece new final buffer file file' header_bytes e idles read rejected source input round =
+    let c = consumes_metadata memory_state old now (with_buffer piece buffer) (with_buffer new buffer) (with_buffer final buffer) file file' header_bytes e idles read rejected (record { source = source; input = input; body = refl; round = round }) in
+    record { in_pipe = c.in_pipe; markers = c.markers; valid_markers = c.valid_markers; raw_record = c.raw_record; is_record = c.is_record; metadata_type = c.metadata_type; consumes = c.consumes }

@@ -27,7 +27,7 @@ use Rattle.linux_perf_data.specs.PerfFile.{endian_of_file, descriptions_of_file,
 use Rattle.linux_perf_data.specs.Layout.{SectionSize, MayStartAt, IsEnd, IsTruncated, IsRecord, AreMarkerRecords, ConsistsOfMarkers, IsValidRecord, record_type_of, misc_of, RecordView, LayoutEnd, ends_complete, ends_with_error, LayoutError, ConcernsMetadata, ErrorAt, RemainingRecords, record_view, record_view_in, attributes_in_record, attributes_in_views}
 use Rattle.linux_perf_data.specs.RecordFraming.{ExceedsCapacity, IsErrorFor, ShownBy, StaysWithinRecord, IsTruncatedAfterHeader, SourceErrorInRecord, MayNeedMemory}
 use Rattle.linux_perf_data.specs.RecordViews.{IdentifiesRecord, record_view_with}
-use Rattle.linux_perf_data.specs.Iter.{iter_source_state, section_size_of, TestsMayStart, SameInput, HasRemainingRecords, ReturnsRecord, ReachesEnd, ReturnsEnd, IsMismatchedPerfFile, IsErrorCause, StopsAtError, ReturnsError, NeedsLargerBuffer, BuffersMetadata}
+use Rattle.linux_perf_data.specs.Iter.{iter_source_state, section_size_of, TestsMayStart, SameInput, HasRemainingRecords, ReturnsRecord, ReachesEnd, ReturnsEnd, IsMismatchedPerfFile, IsErrorCause, StopsAtError, ReturnsError, NeedsLargerBuffer, BuffersMetadata, ConsumesMetadata}
 use Rattle.linux_perf_data.specs.IterSteps.{RawRecordExceedsBuffer, RawRecordRead, RawRecordTruncated, RawRecordError, SameButLookup, RecordProcessed, RecordRejected}
 use Rattle.linux_perf_data.specs.Reading.{ReadSoFar}
 use Rattle.linux_perf_data.proofs.AddedAttributes.{adds_none, added_one}
@@ -176,6 +176,7 @@ module _ {R : Type 0} (state : R → State) where
     pub markers : List ℕ
     pub offset : now.offset ≡ old.offset + length markers
     pub skipped_markers : ConsistsOfMarkers old.endian (section_size_of state old) old.offset markers
+    pub round : now.round ≡ old.round + length skipped_markers.raw_records
     pub consumption : Consumed (iter_source_state state old) markers (iter_source_state state now)
     pub before : (rest : List ℕ) (attrs : List Attribute) (rs : List RecordView) (e : LayoutEnd) → RemainingIn now rest attrs rs e → RemainingIn old (markers ++ rest) attrs rs e
 
@@ -184,6 +185,7 @@ module _ {R : Type 0} (state : R → State) where
   begun old now i more = subst (λ b. MayStartAt b now.offset) i.same.section_size more
 
   pub idles_on : (old now new : PerfRecordIter R) (header : PerfEventHeader) → Idles old now → RawRecordRead state now header new → header.type_ ≡ 68 → MayStartAt (section_size_of state now) now.offset → Idles old new
+  unfolding markers_more
   idles_on old now new header i t is more = record {
     ran = i.ran;
     runs = t.stage ∙ i.runs;
@@ -195,6 +197,12 @@ module _ {R : Type 0} (state : R → State) where
     offset = (let a = i.offset in let b = t.offset in omega (arith, length-append i.markers t.raw_record));
     skipped_markers = markers_more old.endian (section_size_of state old) old.offset i.markers t.raw_record i.skipped_markers (subst (MayStartAt (section_size_of state old)) i.offset (begun old now i more)) (subst (λ o. IsRecord o t.raw_record) i.same.same_endian t.is_record)
         (sym (ap (λ o. record_type_of o t.raw_record) i.same.same_endian) ∙ t.record_type ∙ is);
+    round =
+        let before = i.round in
+        let more : new.round ≡ now.round + 1 = t.round ∙ ap (λ b. if b then now.round + 1 else now.round) (eq-eqb header.type_ 68 is) in
+        let one : length (t.raw_record ∷ []) ≡ 1 = refl in
+        let counted : new.round ≡ old.round + length (i.skipped_markers.raw_records ++ t.raw_record ∷ []) = omega (arith, before, more, one, length-append i.skipped_markers.raw_records (t.raw_record ∷ [])) in
+        counted;
     consumption = consumed_more _ _ _ i.markers t.raw_record i.consumption t.consumes;
     before = λ rest attrs rs e come. subst (λ l. RemainingIn old l attrs rs e) (sym (append_assoc i.markers t.raw_record rest))
         (i.before (t.raw_record ++ rest) attrs rs e (marker_next now new header t is more rest attrs rs e come));
@@ -225,6 +233,10 @@ module _ {R : Type 0} (state : R → State) where
   step_same : (o o' : Endianness) (b b' : SectionSize) (k k' : ℕ) (l l' : List ℕ) (file file' : PerfFile) → o ≡ o' → b ≡ b' → k ≡ k' → l ≡ l' → UpdatesPerfFile o b k l file file' → UpdatesPerfFile o' b' k' l' file file'
   step_same o o' b b' k k' l l' file file' po pb pk pl processed =
       subst (λ x. UpdatesPerfFile x b' k' l' file file') po (subst (λ x. UpdatesPerfFile o x k' l' file file') pb (subst (λ x. UpdatesPerfFile o b x l' file file') pk (subst (λ x. UpdatesPerfFile o b k x file file') pl processed)))
+
+  -- a record that isn't a marker is in the same round
+  read_round : (old new : PerfRecordIter R) (header : PerfEventHeader) → RawRecordRead state old header new → header.type_ ≢ 68 → new.round ≡ old.round
+  read_round old new header t other = t.round ∙ ap (λ b. if b then old.round + 1 else old.round) (ne_eqb header.type_ 68 other)
 
   -- `piece` is the iterator after the raw record is read; `new` is the iterator after the record is identified and its metadata
   -- applied.
@@ -270,6 +282,8 @@ module _ {R : Type 0} (state : R → State) where
         header_bytes = take 8 t.raw_record;
         header_len = length-take-le 8 t.raw_record least;
         record_offset = finds.offset_matches ∙ i.offset;
+        record_round = finds.round_matches ∙ i.round;
+        round = after.round ∙ read_round now piece header t other ∙ sym finds.round_matches;
         consumes = subst (λ p. Consumed (iter_source_state state old) (i.markers ++ p) (iter_source_state state new)) (sym split) all;
         no_pending_header = subst HasNoPendingHeader (sym after.input) t.no_pending_header;
         offset = (let o = t.offset in let a = after.offset in let l = ap length buffered in let at = finds.offset_matches in omega (arith, length-drop 8 t.raw_record, l, at, a, o, least));
@@ -316,6 +330,7 @@ module _ {R : Type 0} (state : R → State) where
     pub source : new'.source ≡ new.source
     pub input : new'.input ≡ new.input
     pub body : new'.body ≡ new.body
+    pub round : new'.round ≡ new.round
 
   same_view : (new new' : PerfRecordIter R) → new'.source ≡ new.source → new'.input ≡ new.input → iter_source_state state new' ≡ iter_source_state state new
   same_view new new' source input = ap (λ i. input_source_state i (state new'.source)) input ∙ ap (λ s. input_source_state new.input (state s)) source
@@ -332,6 +347,7 @@ module _ {R : Type 0} (state : R → State) where
         consumed_bytes = error_there.consumed_bytes;
         valid_markers = i.skipped_markers;
         offset = offset ∙ r.offset ∙ i.offset;
+        round = stopped.round ∙ r.round ∙ i.round;
         may_start = subst (MayStartAt (section_size_of state old)) (sym (offset ∙ r.offset)) (begun old now i more);
         consumes = subst (λ s. Consumed (iter_source_state state old) (i.markers ++ error_there.consumed_bytes) s) (sym same) (consumed_more _ _ _ i.markers error_there.consumed_bytes i.consumption error_there.consumes);
         no_pending_header = subst HasNoPendingHeader (sym stopped.input) r.no_pending_header;
@@ -371,6 +387,20 @@ module _ {R : Type 0} (state : R → State) where
       d.same_but_lookup.body ∙ t.buffered_body other,
     ),
   )
+
+  -- the bytes of that record were consumed
+  pub consumes_metadata : (old now piece new new' : PerfRecordIter R) (file file' : PerfFile) (header : PerfEventHeader) (e : Error) → Idles old now → RawRecordRead state now header piece
+      → RecordRejected state piece file header e new file' → IsStopped new new' → ConsumesMetadata state old new'
+  consumes_metadata old now piece new new' file file' header e i t d stopped = record {
+    in_pipe = sym i.same.section_size ∙ sym t.same_input.section_size ∙ d.in_pipe;
+    markers = i.markers;
+    valid_markers = i.skipped_markers;
+    raw_record = t.raw_record;
+    is_record = subst (λ o. IsRecord o t.raw_record) i.same.same_endian t.is_record;
+    metadata_type = subst IsMetadataType (sym t.record_type ∙ ap (λ o. record_type_of o t.raw_record) i.same.same_endian) d.metadata_type;
+    consumes = subst (λ s. Consumed (iter_source_state state old) (i.markers ++ t.raw_record) s) (sym (view_stopped new new' stopped ∙ view_after piece new d.same_but_lookup))
+        (consumed_more _ _ _ i.markers t.raw_record i.consumption t.consumes);
+  }
 
   -- a layout error in a metadata record
   metadata_layout_error : (old now piece new : PerfRecordIter R) (file : PerfFile) (header : PerfEventHeader) (e : Error) (i : Idles old now) (t : RawRecordRead state now header piece) → MayStartAt (section_size_of state now) now.offset → section_size_of state now ≡ None → iter_source_state state new ≡ iter_source_state state piece
@@ -412,6 +442,7 @@ module _ {R : Type 0} (state : R → State) where
         valid_markers = i.skipped_markers;
         consumed_bytes = t.raw_record;
         offset = offset ∙ i.offset;
+        round = stopped.round ∙ d.same_but_lookup.round ∙ read_round now piece header t other ∙ i.round;
         may_start = subst (MayStartAt (section_size_of state old)) (sym offset) (begun old now i more);
         consumes = subst (λ s. Consumed (iter_source_state state old) (i.markers ++ t.raw_record) s) (sym same) (consumed_more _ _ _ i.markers t.raw_record i.consumption t.consumes);
         no_pending_header = subst HasNoPendingHeader (sym (stopped.input ∙ d.same_but_lookup.input)) t.no_pending_header;
@@ -454,6 +485,7 @@ module _ {R : Type 0} (state : R → State) where
         valid_markers = i.skipped_markers;
         consumed_bytes = [];
         offset = offset ∙ i.offset;
+        round = stopped.round ∙ i.round;
         consumes = subst (λ l. Consumed (iter_source_state state old) l (iter_source_state state new)) (sym (append-nil i.markers)) (subst (λ s. Consumed (iter_source_state state old) i.markers s) (sym (view_stopped now new stopped)) i.consumption);
         section_end = λ _. (refl, empty);
         pipe_exhausted = λ none. absurd (file none);
@@ -496,6 +528,7 @@ module _ {R : Type 0} (state : R → State) where
         valid_markers = i.skipped_markers;
         consumed_bytes = truncation.consumed_bytes;
         offset = offset ∙ c.offset ∙ i.offset;
+        round = stopped.round ∙ c.round ∙ i.round;
         consumes = subst (λ s. Consumed (iter_source_state state old) (i.markers ++ truncation.consumed_bytes) s) (sym same) all;
         section_end = λ file. absurd (file pipe);
         pipe_exhausted = λ _. elim (none_or_paused (iter_source_state state now) (iter_source_state state new) truncation.ended_or_paused) [

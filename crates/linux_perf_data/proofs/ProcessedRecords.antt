@@ -157,6 +157,7 @@ finds_later old known new offset round header body found remains finds =
     let with' : Endianness → Option EventRef → List ℕ → RecordView = λ o e b. record { offset = found.place.offset; round = found.place.round; record_type = record_type_by_writer found.writer found.record_type.0; misc = found.misc; endian = o; body = b; event = e; timestamp = found.place.timestamp } in
     record {
       offset_matches = finds.offset_matches;
+      round_matches = finds.round_matches;
       record_type = finds.record_type;
       kernel_type = finds.kernel_type;
       matches = λ order attrs k.

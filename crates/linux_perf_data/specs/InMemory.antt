@@ -21,7 +21,7 @@ use Rattle.linux_perf_data.specs.declared.perf_file.PerfFile.{PerfFile}
 use Rattle.linux_perf_data.specs.Input.{section_size_in}
 use Rattle.linux_perf_data.specs.RecordFraming.{AuxDataRead, AuxDataError, ReadsRecordBody}
 use Rattle.linux_perf_data.specs.RecordViews.{record_view_with}
-use Rattle.linux_perf_data.specs.Iter.{iter_source_state, section_size_of, ReturnsRecord, ReturnsEnd, ReturnsError}
+use Rattle.linux_perf_data.specs.Iter.{iter_source_state, section_size_of, ReturnsRecord, ReturnsEnd, ReturnsError, ConsumesMetadata}
 use Rattle.linux_perf_data.specs.IterSteps.{RawRecordRead, RawRecordTruncated, RawRecordError, ProcessesRecord}
 
 -- A cursor over bytes in memory, as a source.
@@ -89,4 +89,4 @@ TakesFileRecord old (Some r) new = (file : PerfFile) → RecordTaken old file r.
 abbrev pub TakesRecord : MemoryIter → PerfFile → Result (Option (RecordInfo × Bor (List ℕ))) Error → MemoryIter → PerfFile → Type 0
 TakesRecord old file (Ok (Some r)) new file' = RecordTaken old file r.0 r.1.now new file'
 TakesRecord old file (Ok None) new file' = ReturnsEnd memory_state old file new file'
-TakesRecord old file (Err e) new file' = ReturnsError memory_state old file e new file' × (e ≡ Memory → section_size_of memory_state old ≡ None)
+TakesRecord old file (Err e) new file' = ReturnsError memory_state old file e new file' × (e ≡ Memory → ConsumesMetadata memory_state old new)

@@ -15,7 +15,7 @@ use Rattle.linux_perf_data.specs.Reading.{ReturnsRecords}
 use Rattle.linux_perf_data.specs.Layout.{RecordView}
 use Rattle.perfdata_records.specs.FileRecord.{file_record_body}
 use Rattle.linux_perf_data.specs.RecordViews.{record_view_of}
-use Rattle.linux_perf_data.specs.Iter.{section_size_of, ReturnsRecord, ReturnsEnd, ReturnsError}
+use Rattle.linux_perf_data.specs.Iter.{section_size_of, ReturnsRecord, ReturnsEnd, ReturnsError, ConsumesMetadata}
 use Rattle.linux_perf_data.specs.OpenedFile.{FileParsed, FileParseError}
 use Rattle.linux_perf_data.specs.OpenedPipe.{PipeParsed, PipeParseError}
 use Rattle.linux_perf_data.specs.InMemory.{memory_state, with_buffer}
@@ -56,6 +56,11 @@ ReturnsNextInMemory old file (Err e) new file' = ReturnsError memory_state old.i
 abbrev pub NeedsMemoryInPipeOnly : {A : Type 0} → InMemoryRecords → Result A Error → Type 0
 NeedsMemoryInPipeOnly old (Ok next) = Unit {0}
 NeedsMemoryInPipeOnly old (Err e) = e ≡ Memory → section_size_of memory_state old.iter ≡ None
+
+-- Memory runs out only for a whole metadata record of a pipe.
+abbrev pub NeedsMemoryForMetadataOnly : {A : Type 0} → InMemoryRecords → Result A Error → InMemoryRecords → Type 0
+NeedsMemoryForMetadataOnly old (Ok next) new = Unit {0}
+NeedsMemoryForMetadataOnly old (Err e) new = e ≡ Memory → ConsumesMetadata memory_state old.iter new.iter
 
 -- A file was parsed, as a streaming reader of the same bytes parses it.
 abbrev pub ParsesFileInMemory : List ℕ → Result InMemoryReader Error → Type 0

@@ -73,6 +73,9 @@ module _ {R : Type 0} (state : R → State) where
     pub buffered_body : new.body.items ≡ h.body
     pub markers : List ℕ
     pub valid_markers : ConsistsOfMarkers old.endian (section_size_of old) old.offset markers
+    -- The round counts the markers.
+    pub record_round : h.round ≡ old.round + length valid_markers.raw_records
+    pub round : new.round ≡ h.round
     pub header_bytes : List ℕ
     pub header_len : length header_bytes ≡ 8
     pub record_offset : h.offset ≡ old.offset + length markers
@@ -99,6 +102,7 @@ module _ {R : Type 0} (state : R → State) where
     pub valid_markers : ConsistsOfMarkers old.endian (section_size_of old) old.offset markers
     pub consumed_bytes : List ℕ
     pub offset : new.offset ≡ old.offset + length markers
+    pub round : new.round ≡ old.round + length valid_markers.raw_records
     pub consumes : Consumed (iter_source_state old) (markers ++ consumed_bytes) (iter_source_state new)
     pub section_end : section_size_of old ≢ None → (consumed_bytes ≡ []) × (new.body.items ≡ [])
     -- In a pipe, no bytes remain or the source paused.
@@ -147,6 +151,7 @@ module _ {R : Type 0} (state : R → State) where
     pub valid_markers : ConsistsOfMarkers old.endian (section_size_of old) old.offset markers
     pub consumed_bytes : List ℕ
     pub offset : new.offset ≡ old.offset + length markers
+    pub round : new.round ≡ old.round + length valid_markers.raw_records
     pub may_start : MayStartAt (section_size_of old) new.offset
     pub consumes : Consumed (iter_source_state old) (markers ++ consumed_bytes) (iter_source_state new)
     pub no_pending_header : HasNoPendingHeader new.input
@@ -167,6 +172,16 @@ module _ {R : Type 0} (state : R → State) where
   abbrev pub BuffersMetadata : PerfRecordIter R → PerfRecordIter R → Type 0
   BuffersMetadata old new = (section_size_of old ≡ None)
       × ((raw_record : List ℕ) × IsRecord old.endian raw_record × IsMetadataType (record_type_of old.endian raw_record) × (new.body.items ≡ drop 8 raw_record))
+
+  -- In a pipe, the call consumed markers and then a whole metadata record.
+  pub record ConsumesMetadata (old new : PerfRecordIter R) : Type 0 where
+    pub in_pipe : section_size_of old ≡ None
+    pub markers : List ℕ
+    pub valid_markers : ConsistsOfMarkers old.endian (section_size_of old) old.offset markers
+    pub raw_record : List ℕ
+    pub is_record : IsRecord old.endian raw_record
+    pub metadata_type : IsMetadataType (record_type_of old.endian raw_record)
+    pub consumes : Consumed (iter_source_state old) (markers ++ raw_record) (iter_source_state new)
 
   -- Memory runs out only where the buffer has to grow, or for metadata.
   abbrev pub MemoryOnlyToGrow : {A : Type 0} → PerfRecordIter R → Result A Error → PerfRecordIter R → Type 0

@@ -77,6 +77,7 @@ record_view_with lookup f order body = record_view_at (parse_info_at lookup (att
 -- parse infos of the new lookup.
 pub record IdentifiesRecord (old : AttributeLookup) (offset round : ℕ) (header : PerfEventHeader) (body : List ℕ) (found : RecordInfo) (new : AttributeLookup) : Type 0 where
   pub offset_matches : found.place.offset ≡ offset
+  pub round_matches : found.place.round ≡ round
   pub record_type : record_type_by_writer found.writer found.record_type.0 ≡ header.type_
   pub kernel_type : (index : ℕ) → found.writer ≡ Kernel index → header.type_ < 64
   pub matches : (order : Endianness) (attrs : List Attribute) → Represents order old attrs → record_view_with new found order body ≡ record_view order offset round attrs header.type_ header.misc body

@@ -56,7 +56,7 @@ pub struct InMemoryRecords<'a> {
 }
 
 impl<'a> InMemoryRecords<'a> {
-    ghost use Rattle.linux_perf_data.specs.InMemoryReading.{KeepsInput, NeedsMemoryInPipeOnly, ReturnsNextInMemory, first_record_offset_of, input_of};
+    ghost use Rattle.linux_perf_data.specs.InMemoryReading.{KeepsInput, NeedsMemoryForMetadataOnly, NeedsMemoryInPipeOnly, ReturnsNextInMemory, first_record_offset_of, input_of};
 
     /// Returns the offset of the first record's header in the input, in bytes.
     ///
@@ -88,6 +88,7 @@ impl<'a> InMemoryRecords<'a> {
         ensures returns_next { ReturnsNextInMemory self.old perf_file.old result self.new perf_file.new }
         ensures same_input { KeepsInput self.old self.new }
         ensures memory_in_pipe_only { NeedsMemoryInPipeOnly self.old result }
+        ensures memory_for_metadata_only { NeedsMemoryForMetadataOnly self.old result self.new }
         ensures input_len_fits { length (input_of self.old) < 2 ^ 63 }
     {
         // For the prover.

@@ -1,11 +1,11 @@
 use Rattle.std.proofs.Common.{arith, refl, sym, ap, subst, [], ◌∙◌}
 use Rattle.perfdata_base.proofs.ConsumedLemmas.{consumed_none}
 use Rattle.linux_perf_data.specs.RecordViews.{record_view_with}
-use Rattle.linux_perf_data.specs.Iter.{iter_source_state, section_size_of, ReturnsRecord}
+use Rattle.linux_perf_data.specs.Iter.{iter_source_state, ReturnsRecord}
 use Rattle.linux_perf_data.specs.IterSteps.{RecordProcessed, RecordRejected}
 use Rattle.linux_perf_data.specs.InMemory.{memory_state, with_buffer}
-use Rattle.linux_perf_data.proofs.IterCalls.{markers_none, idles_on, returns_record, stops, section_ends, pipe_ends, same_later}
-use Rattle.linux_perf_data.proofs.InMemoryCalls.{rejected_stops}
+use Rattle.linux_perf_data.proofs.IterCalls.{idles_on, returns_record, stops, section_ends, pipe_ends, same_later}
+use Rattle.linux_perf_data.proofs.InMemoryCalls.{rejected_stops, rejected_consumes}
 use Rattle.linux_perf_data.proofs.in_memory.iter.take_next_record.Goals as goal
 
 pub raw_records-init : goal.raw_records-init
@@ -19,7 +19,8 @@ raw_records-init c = record {
     fits = omega arith;
     markers = [];
     offset = omega arith;
-    skipped_markers = markers_none c.args.iter.now.endian (section_size_of memory_state c.args.iter.now) c.args.iter.now.offset;
+    skipped_markers = record { raw_records = []; split = refl; elements = _ };
+    round = omega arith;
     consumption = consumed_none (iter_source_state memory_state c.args.iter.now);
     before = λ rest attrs rs e come. come;
   };
@@ -66,10 +67,10 @@ returns-in-Err-process_record c =
         not_ended = λ ended. let ran = i.idles.ran in cc;
         if_failed = λ failed. let ran = i.idles.ran in absurd cc;
         only_if_failed = λ is. absurd (d.not_failed is);
-        if_running = λ _. rejected_stops c.args.iter.now now c.take_raw_record.new.iter c.process_record.new.iter _ t.buffer c.args.file.now c.process_record.new.file header_bytes e i.idles t.raw_record_read t.not_marker c.raw_records-test.ensures d refl refl refl empty;
+        if_running = λ _. rejected_stops c.args.iter.now now c.take_raw_record.new.iter c.process_record.new.iter _ t.buffer c.args.file.now c.process_record.new.file header_bytes e i.idles t.raw_record_read t.not_marker c.raw_records-test.ensures d refl refl refl refl empty;
         same_file = d.same_file;
       },
-      λ _. sym i.idles.same.section_size ∙ sym t.raw_record_read.same_input.section_size ∙ d.in_pipe,
+      λ _. rejected_consumes c.args.iter.now now c.take_raw_record.new.iter c.process_record.new.iter _ t.buffer c.args.file.now c.process_record.new.file header_bytes e i.idles t.raw_record_read d refl refl refl,
     )
 
 pub returns-in-Ok-End : goal.returns-in-Ok-End
@@ -81,7 +82,7 @@ returns-in-Ok-End c =
       stage_ended = refl;
       not_failed = λ failed. let ran = i.idles.ran in cc;
       if_ended = λ ended. let ran = i.idles.ran in absurd cc;
-      if_running = λ _. pipe_ends memory_state c.args.iter.now c.raw_records.iter new _ i.idles cut (record { source = refl; input = refl; body = refl }) refl;
+      if_running = λ _. pipe_ends memory_state c.args.iter.now c.raw_records.iter new _ i.idles cut (record { source = refl; input = refl; body = refl; round = refl }) refl;
       file_unchanged = i.file;
     }
 
@@ -95,7 +96,7 @@ returns-in-Err c =
         not_ended = λ ended. let ran = i.idles.ran in cc;
         if_failed = λ failed. let ran = i.idles.ran in absurd cc;
         only_if_failed = λ is. absurd (r.1.error.not_failed is);
-        if_running = λ _. stops memory_state c.args.iter.now c.raw_records.iter new _ c.args.file.now c.in-Err.error i.idles c.raw_records-test.ensures r.1 (record { source = refl; input = refl; body = refl }) refl;
+        if_running = λ _. stops memory_state c.args.iter.now c.raw_records.iter new _ c.args.file.now c.in-Err.error i.idles c.raw_records-test.ensures r.1 (record { source = refl; input = refl; body = refl; round = refl }) refl;
         same_file = same_later c.raw_records.file c.args.file.now i.file;
       },
       λ m. absurd (r.0 m),
@@ -108,6 +109,6 @@ returns c =
       stage_ended = refl;
       not_failed = λ failed. let ran = i.idles.ran in cc;
       if_ended = λ ended. let ran = i.idles.ran in absurd cc;
-      if_running = λ _. section_ends memory_state c.args.iter.now c.raw_records.iter _ i.idles c.raw_records-test.ensures (record { source = refl; input = refl; body = refl }) refl;
+      if_running = λ _. section_ends memory_state c.args.iter.now c.raw_records.iter _ i.idles c.raw_records-test.ensures (record { source = refl; input = refl; body = refl; round = refl }) refl;
       file_unchanged = i.file;
     }

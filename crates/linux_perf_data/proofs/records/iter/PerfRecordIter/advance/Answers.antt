@@ -1,9 +1,9 @@
 use Rattle.std.proofs.Common.{rules, arith, refl, subst, inl, inr, [], ◌∙◌}
 use Rattle.perfdata_base.proofs.ConsumedLemmas.{consumed_none}
-use Rattle.linux_perf_data.specs.Iter.{iter_source_state, section_size_of}
+use Rattle.linux_perf_data.specs.Iter.{iter_source_state}
 use Rattle.linux_perf_data.specs.IterSteps.{RecordProcessed, RecordRejected}
 use Rattle.linux_perf_data.proofs.TruncatedRecords.{some_record, no_record}
-use Rattle.linux_perf_data.proofs.IterCalls.{markers_none, idles_on, returns_record, stops, late_stops, larger_buffer, buffers_metadata, section_ends, pipe_ends, same_later}
+use Rattle.linux_perf_data.proofs.IterCalls.{idles_on, returns_record, stops, late_stops, larger_buffer, buffers_metadata, section_ends, pipe_ends, same_later}
 use Rattle.linux_perf_data.proofs.records.iter.PerfRecordIter.advance.Goals as goal
 
 pub raw_records-init : goal.raw_records-init
@@ -17,7 +17,8 @@ raw_records-init g c = record {
     fits = omega arith;
     markers = [];
     offset = omega arith;
-    skipped_markers = markers_none c.args.self.now.endian (section_size_of g.R.Source.state c.args.self.now) c.args.self.now.offset;
+    skipped_markers = record { raw_records = []; split = refl; elements = _ };
+    round = omega arith;
     consumption = consumed_none (iter_source_state g.R.Source.state c.args.self.now);
     before = λ rest attrs rs e come. come;
   };
@@ -65,7 +66,7 @@ returns-in-Err-process_record-clause-advances g c =
       if_failed = λ failed. let ran = i.idles.ran in absurd cc;
       only_if_failed = λ is. absurd (d.not_failed is);
       if_running = λ _. late_stops state c.args.self.now c.raw_records.self piece c.process_record.new.self _ c.args.file.now c.process_record.new.file header_bytes e i.idles t c.if-header-ne-PERF_RECORD_FINISHED_ROUND.true c.raw_records-test.ensures d
-          (record { source = refl; input = refl; body = refl }) refl;
+          (record { source = refl; input = refl; body = refl; round = refl }) refl;
       same_file = d.same_file;
     }
 
@@ -79,7 +80,7 @@ returns-in-Ok-None-clause-advances g c =
       stage_ended = refl;
       not_failed = λ failed. let ran = i.idles.ran in cc;
       if_ended = λ ended. let ran = i.idles.ran in absurd cc;
-      if_running = λ _. pipe_ends state c.args.self.now c.raw_records.self new _ i.idles cut (record { source = refl; input = refl; body = refl }) refl;
+      if_running = λ _. pipe_ends state c.args.self.now c.raw_records.self new _ i.idles cut (record { source = refl; input = refl; body = refl; round = refl }) refl;
       file_unchanged = i.file;
     }
 
@@ -94,7 +95,7 @@ returns-in-Err-clause-advances g c =
       not_ended = λ ended. let ran = i.idles.ran in cc;
       if_failed = λ failed. let ran = i.idles.ran in absurd cc;
       only_if_failed = λ is. absurd (r.error.not_failed is);
-      if_running = λ _. stops state c.args.self.now c.raw_records.self new _ c.args.file.now c.in-Err.error i.idles c.raw_records-test.ensures r (record { source = refl; input = refl; body = refl }) refl;
+      if_running = λ _. stops state c.args.self.now c.raw_records.self new _ c.args.file.now c.in-Err.error i.idles c.raw_records-test.ensures r (record { source = refl; input = refl; body = refl; round = refl }) refl;
       same_file = same_later c.raw_records.file c.args.file.now i.file;
     }
 
@@ -106,7 +107,7 @@ returns-clause-advances g c =
       stage_ended = refl;
       not_failed = λ failed. let ran = i.idles.ran in cc;
       if_ended = λ ended. let ran = i.idles.ran in absurd cc;
-      if_running = λ _. section_ends state c.args.self.now c.raw_records.self _ i.idles c.raw_records-test.ensures (record { source = refl; input = refl; body = refl }) refl;
+      if_running = λ _. section_ends state c.args.self.now c.raw_records.self _ i.idles c.raw_records-test.ensures (record { source = refl; input = refl; body = refl; round = refl }) refl;
       file_unchanged = i.file;
     }
 
@@ -116,7 +117,7 @@ returns-in-Failed-clause-advances g c = search rules
 pub returns-in-Err-clause-memory_only_to_grow : goal.returns-in-Err-clause-memory_only_to_grow
 returns-in-Err-clause-memory_only_to_grow g c = λ m.
     let i = c.raw_records.invariant in
-    inl (larger_buffer g.R.Source.state c.args.self.now c.raw_records.self c.next_raw_record.new.self _ i.idles i.capacity (c.in-Err.ensures.memory_only_to_grow m) (record { source = refl; input = refl; body = refl }))
+    inl (larger_buffer g.R.Source.state c.args.self.now c.raw_records.self c.next_raw_record.new.self _ i.idles i.capacity (c.in-Err.ensures.memory_only_to_grow m) (record { source = refl; input = refl; body = refl; round = refl }))
 
 pub returns-in-Err-process_record-clause-memory_only_to_grow : goal.returns-in-Err-process_record-clause-memory_only_to_grow
 returns-in-Err-process_record-clause-memory_only_to_grow g c = λ m.

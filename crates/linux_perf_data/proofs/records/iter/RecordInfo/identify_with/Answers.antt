@@ -18,6 +18,7 @@ returns-in-Some-only-clause-identifies c =
     let is = ap at only in
     record {
       offset_matches = refl;
+      round_matches = refl;
       record_type = refl;
       kernel_type = λ index is. kernel;
       matches = λ order attrs k.
@@ -32,6 +33,7 @@ returns-in-None-only-clause-identifies c =
     let event = event_at c.attr_index_of-index.new.self c.attr_index_of-index.result in
     record {
       offset_matches = refl;
+      round_matches = refl;
       record_type = refl;
       kernel_type = λ index is. kernel;
       matches = λ order attrs k.
