@@ -63,7 +63,7 @@ module _ (order : Endianness) where
       (same, append_cancel_left first after rest (sym split ∙ split' ∙ ap (λ l. l ++ rest) (sym same)))
 
   -- an entry isn't a truncated entry
-  not_truncated : (xs first after : List ℕ) (e : BuildIdEntry) → xs ≡ first ++ after → IsBuildIdEntry (number_in order) first e → IsTruncatedBuildIdEntry (number_in order) xs → ⊥
+  pub not_truncated : (xs first after : List ℕ) (e : BuildIdEntry) → xs ≡ first ++ after → IsBuildIdEntry (number_in order) first e → IsTruncatedBuildIdEntry (number_in order) xs → ⊥
   not_truncated xs first after e split is too_few =
       let long = size_by_header xs first after e split is in
       let has_header = is.has_fixed_part in

@@ -51,10 +51,14 @@ module _ (order : Endianness) where
   abbrev pub AreBuildIdEntries : List ℕ → List BuildIdEntry → Type 0
   AreBuildIdEntries xs es = (rest : List ℕ) × BeginsWithEntries xs es rest × IsTruncatedBuildIdEntry (number_in order) rest
 
-  -- Parses the section BUILD_ID. The only error is `Memory`.
+  -- `xs` starts with entries, and the entry after them isn't truncated.
+  abbrev pub HasNextEntry : List ℕ → Type 0
+  HasNextEntry xs = (es : List BuildIdEntry) × (rest : List ℕ) × BeginsWithEntries xs es rest × (¬ IsTruncatedBuildIdEntry (number_in order) rest)
+
+  -- Parses the section BUILD_ID. The only error is `Memory`, for an entry that isn't truncated.
   abbrev pub ParsesBuildIds : {S : Type 0} → List ℕ → Result (HashMap DsoKey DsoInfo S) Error → Type 0
   ParsesBuildIds xs (Ok m) = (es : List BuildIdEntry) × AreBuildIdEntries xs es × MapsLastEntries m es
-  ParsesBuildIds xs (Err e) = e ≡ Memory
+  ParsesBuildIds xs (Err e) = (e ≡ Memory) × HasNextEntry xs
 
   -- The build ids of an input: an empty map if the section is absent, else those in the section.
   abbrev pub AnswersBuildIds : {S : Type 0} → Option (List ℕ) → Result (HashMap DsoKey DsoInfo S) Error → Type 0

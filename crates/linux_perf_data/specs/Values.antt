@@ -49,17 +49,17 @@ module _ (order : Endianness) where
   ParsesStringSection xs (Ok s) = BeginsWithString xs × (s.now ≡ string_text xs)
   ParsesStringSection xs (Err e) = IsStringError xs e
 
-  -- The bytes start with these strings, in order.
+  -- The bytes start with these UTF-8 strings, in order.
   abbrev pub BeginsWithStrings : List ℕ → List (List ℕ) → Type 0
   BeginsWithStrings xs [] = ⊤
-  BeginsWithStrings xs (t ∷ ts) = BeginsWithString xs × (t ≡ string_text xs) × BeginsWithStrings (after_string xs) ts
+  BeginsWithStrings xs (t ∷ ts) = BeginsWithString xs × (t ≡ string_text xs) × IsUtf8 t × BeginsWithStrings (after_string xs) ts
 
   -- The bytes after the strings.
   abbrev pub after_strings : List ℕ → List (List ℕ) → List ℕ
   after_strings xs [] = xs
   after_strings xs (t ∷ ts) = after_strings (after_string xs) ts
 
-  -- A list of these strings: their count of four bytes, and the strings.
+  -- A list of these UTF-8 strings: their count of four bytes, and the strings.
   abbrev pub IsStringList : List ℕ → List (List ℕ) → Type 0
   IsStringList xs ts = (4 ≤ length xs) × (number_in order 4 xs ≡ length ts) × BeginsWithStrings (drop 4 xs) ts
 
@@ -71,10 +71,18 @@ module _ (order : Endianness) where
     pub elements : BeginsWithStrings (drop 4 xs) before
     pub error_here : IsStringError (after_strings (drop 4 xs) before) e
 
-  -- The bytes aren't a list of UTF-8 strings, as this error reports. Memory may run out at any string.
+  -- The list starts with UTF-8 strings, at least one. Memory runs out for the last of them.
+  pub record StringListNeedsMemory (xs : List ℕ) : Type 0 where
+    pub has_count : 4 ≤ length xs
+    pub first_strings : List (List ℕ)
+    pub at_least_one : 1 ≤ length first_strings
+    pub within : length first_strings ≤ number_in order 4 xs
+    pub elements : BeginsWithStrings (drop 4 xs) first_strings
+
+  -- The bytes aren't a list of UTF-8 strings, as this error reports; or memory ran out.
   abbrev pub IsStringListError : List ℕ → Error → Type 0
   IsStringListError xs NotEnoughSpaceForStringListLen = length xs < 4
-  IsStringListError xs Memory = ⊤
+  IsStringListError xs Memory = StringListNeedsMemory xs
   IsStringListError xs e = StringListError xs e
 
   -- Parses a section with a list of strings.
@@ -122,5 +130,5 @@ module _ (order : Endianness) where
 
   -- Splits the bytes into the text of the first string and the bytes after the string.
   abbrev pub SplitsString : List ℕ → Result (Bor (List ℕ) × Bor (List ℕ)) Error → Type 0
-  SplitsString xs (Ok (s, rest)) = BeginsWithString xs × (s.now ≡ string_text xs) × (rest.now ≡ after_string xs)
+  SplitsString xs (Ok (s, rest)) = BeginsWithString xs × (s.now ≡ string_text xs) × (rest.now ≡ after_string xs) × IsUtf8 s.now
   SplitsString xs (Err e) = IsStringError xs e

@@ -85,8 +85,8 @@ module _ (number : ℕ → List ℕ → ℕ) where
   ParsesBuildIdEvent old (Err e) new = ((error_kind e ≡ OutOfMemory) × PartPartlyRead IsPrefixOfBuildIdEntry old new) ⊎ PartReadError IsTruncatedBuildIdEntry old e new
 
 -- What reading the entry at the start of `bytes` does: it leaves `rest`, the bytes after the entry. A truncated entry is an
--- unexpected end of file. `Memory` reports an allocation failure.
+-- unexpected end of file. `Memory` reports an allocation failure, for an entry that isn't truncated.
 abbrev pub ReadsFirstEntry : Endianness → List ℕ → Result BuildIdEvent AppendError → List ℕ → Type 0
 ReadsFirstEntry endian bytes (Ok e) rest = (first : List ℕ) × (bytes ≡ first ++ rest) × IsBuildIdEvent (number_in endian) first e
-ReadsFirstEntry endian bytes (Err Memory) rest = (first : List ℕ) × (bytes ≡ first ++ rest) × IsPrefixOfBuildIdEntry (number_in endian) first
+ReadsFirstEntry endian bytes (Err Memory) rest = (¬ IsTruncatedBuildIdEntry (number_in endian) bytes) × (first : List ℕ) × (bytes ≡ first ++ rest) × IsPrefixOfBuildIdEntry (number_in endian) first
 ReadsFirstEntry endian bytes (Err (Source e)) rest = IsTruncatedBuildIdEntry (number_in endian) bytes × (error_kind e ≡ UnexpectedEof)

@@ -1,14 +1,16 @@
 //! Entries of the section BUILD_ID.
-ghost use Rattle.std.specs.Prelude.{◌≡◌, length};
+ghost use Rattle.std.specs.Prelude.{◌≡◌, ◌↔◌, IsTrue, length};
+ghost use Rattle.perfdata_base.specs.Endian.{number_in};
 ghost use Rattle.perfdata_base.specs.Source.{State, PausesOnlyOnError};
-ghost use Rattle.perfdata_records.specs.BuildIdEvent.{IsWithoutZeroGroups, IsBuildIdIn, ReadsBuildIdEvent, ReadsFirstEntry, ParsesBuildIdEvent};
+ghost use Rattle.perfdata_records.specs.BuildIdEvent.{IsTruncatedBuildIdEntry, IsWithoutZeroGroups, IsBuildIdIn, ReadsBuildIdEvent, ReadsFirstEntry, ParsesBuildIdEvent};
 ghost use Rattle.perfdata_sections.specs.HeaderString.{before_nul};
 ghost use Rattle.perfdata_sections.specs.ParsedPart.{NoPauseIfOutOfMemory};
 
 use byteorder::{BigEndian, LittleEndian};
+use perfdata_base::endian::read_u16;
 use perfdata_base::event::PerfEventHeader;
 use perfdata_base::raw::{Endianness, FileOrder};
-use perfdata_base::source::{AppendError, Source, read_exact};
+use perfdata_base::source::{AppendError, Source, read_exact, unexpected_eof};
 use perfdata_sections::bytes::read_bytes;
 use perfdata_sections::feature_sections::before_nul;
 use std::alloc::Global;
@@ -59,6 +61,17 @@ fn build_id_bytes(misc: u16, bytes: &[u8]) -> &[u8]
     trim_zero_groups(&bytes[..MAX_BUILD_ID_SIZE])
 }
 
+// Returns whether the entry at the start of the bytes is truncated.
+fn is_truncated(endian: Endianness, bytes: &[u8]) -> bool
+    ensures { IsTrue result ↔ IsTruncatedBuildIdEntry (number_in endian) bytes.now }
+{
+    if bytes.len() < FIXED_SIZE {
+        return true;
+    }
+    let size = read_u16(endian, &bytes[6..]) as usize;
+    bytes.len() < FIXED_SIZE + size.saturating_sub(FIXED_SIZE)
+}
+
 // Truncates the bytes at the first NUL.
 fn truncate_at_nul(bytes: Vec<u8>) -> Vec<u8>
     ensures { result.items ≡ before_nul bytes.items }
@@ -107,8 +120,8 @@ impl BuildIdEvent {
     /// Reads the entry at the start of `bytes`, whose numbers have the byte order `endian`, and leaves the
     /// bytes after it in `bytes`. See `read_from`.
     ///
-    /// Fails with an `UnexpectedEof` source error if the entry is truncated, and with `AppendError::Memory`
-    /// if memory runs out.
+    /// Fails with an `UnexpectedEof` source error if the entry is truncated. Otherwise fails with
+    /// `AppendError::Memory` if memory runs out.
     pub fn read_from_in(
         alloc: Global,
         endian: Endianness,
@@ -116,6 +129,9 @@ impl BuildIdEvent {
     ) -> Result<BuildIdEvent, AppendError>
         ensures { ReadsFirstEntry endian bytes.old.now result bytes.new.now }
     {
+        if is_truncated(endian, bytes) {
+            return Err(AppendError::Source(unexpected_eof()));
+        }
         match endian {
             Endianness::LittleEndian => {
                 BuildIdEvent::read_from::<&[u8], LittleEndian>(alloc, bytes)
