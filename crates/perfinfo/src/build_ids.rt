@@ -1,14 +1,13 @@
 //! Prints the build ids of the mapped objects, and simpleperf's symbol files.
-use crate::escape::{Escaped, Hex, WordAndBytes};
-use crate::report::Report;
+use crate::escape::{Escaped, Hex};
+use crate::report::{Report, Spaced};
 use linux_perf_data::simpleperf_dso_type::{
     DSO_DEX_FILE, DSO_ELF_FILE, DSO_KERNEL, DSO_KERNEL_MODULE, DSO_SYMBOL_MAP_FILE,
 };
 use linux_perf_data::{DsoInfo, DsoKey, Error, PerfFile, SimpleperfFileRecord};
 use std::alloc::Global;
+use std::cmp::Ordering;
 use std::collections::HashMap;
-use std::fmt;
-use std::fmt::{Display, Formatter};
 
 /// A mapped object and its key.
 type DsoEntry<'a> = (&'a DsoKey, &'a DsoInfo);
@@ -24,22 +23,12 @@ pub(crate) fn show(alloc: Global, file: &PerfFile, report: &mut Report) {
     }
 }
 
-/// Displays the kind of a symbol file and the number of its symbols.
-#[derive(Clone, Copy)]
-struct SymbolCount<'a>(&'a SimpleperfFileRecord);
-
-impl Display for SymbolCount<'_> {
-    fn fmt<W: fmt::Write>(&self, f: &mut Formatter<W>) -> fmt::Result {
-        let kind = symbol_file_kind_name(self.0.type_);
-        write!(f, "{kind} symbols {}", self.0.symbol.len())
-    }
-}
-
 /// Writes the symbol files.
 fn show_symbol_files(files: &[SimpleperfFileRecord], report: &mut Report) {
     report.number("symbol files", files.len() as u64);
     for file in files {
-        report.item(Escaped(file.path.as_bytes()), SymbolCount(file));
+        let count = Spaced(symbols_name(file.type_), file.symbol.len());
+        report.item(Escaped(file.path.as_bytes()), count);
     }
 }
 
@@ -47,16 +36,19 @@ fn show_symbol_files(files: &[SimpleperfFileRecord], report: &mut Report) {
 fn show_build_ids(alloc: Global, ids: &HashMap<DsoKey, DsoInfo>, report: &mut Report) {
     report.number("build ids", ids.len() as u64);
     if let Some(objects) = report.value_or_note("build ids", sorted_by_path(alloc, ids)) {
-        show_objects(&objects, report);
+        for (key, object) in objects.iter() {
+            let path = Escaped(object.path.as_slice());
+            report.item(
+                Hex(object.build_id.as_slice()),
+                Spaced(dso_kind_name(key), path),
+            );
+        }
     }
 }
 
-/// Writes the build ids of objects.
-fn show_objects(objects: &[DsoEntry<'_>], report: &mut Report) {
-    for (key, object) in objects {
-        let (id, path) = (object.build_id.as_slice(), object.path.as_slice());
-        report.item(Hex(id), WordAndBytes(dso_kind_name(key), path));
-    }
+/// Compares the paths of two objects.
+fn by_path(first: &DsoEntry<'_>, second: &DsoEntry<'_>) -> Ordering {
+    first.1.path.cmp(&second.1.path)
 }
 
 /// Returns the objects, ordered by path.
@@ -65,7 +57,7 @@ fn sorted_by_path(
     ids: &HashMap<DsoKey, DsoInfo>,
 ) -> Result<Option<Vec<DsoEntry<'_>>>, Error> {
     let mut objects: Vec<DsoEntry<'_>> = ids.iter().collect(alloc)?;
-    objects.sort_by(|a: &DsoEntry<'_>, b: &DsoEntry<'_>| a.1.path.cmp(&b.1.path))?;
+    objects.sort_by(by_path)?;
     Ok(Some(objects))
 }
 
@@ -81,14 +73,14 @@ fn dso_kind_name(key: &DsoKey) -> &'static str {
     }
 }
 
-/// Returns the name of a symbol file's kind.
-fn symbol_file_kind_name(number: u32) -> &'static str {
-    match number {
-        DSO_KERNEL => "kernel",
-        DSO_KERNEL_MODULE => "module",
-        DSO_ELF_FILE => "elf",
-        DSO_DEX_FILE => "dex",
-        DSO_SYMBOL_MAP_FILE => "map",
-        _ => "unknown",
+/// Returns the name of the symbols of a file of this kind.
+fn symbols_name(kind: u32) -> &'static str {
+    match kind {
+        DSO_KERNEL => "kernel symbols",
+        DSO_KERNEL_MODULE => "module symbols",
+        DSO_ELF_FILE => "elf symbols",
+        DSO_DEX_FILE => "dex symbols",
+        DSO_SYMBOL_MAP_FILE => "map symbols",
+        _ => "unknown symbols",
     }
 }

@@ -2,7 +2,7 @@
 //! records, switches.
 use crate::counting::{count_one, to_vec};
 use crate::escape::{Escaped, Hex};
-use crate::report::{Numbered, Report};
+use crate::report::{Report, Spaced};
 use linux_perf_data::Error;
 use linux_perf_data::event::RawEventRecord;
 use linux_perf_data::raw::RawData;
@@ -17,8 +17,6 @@ use perfdata_events::task::{CommOrExecRecord, ForkOrExitRecord};
 use std::alloc::{AllocError, Global};
 use std::cmp::Reverse;
 use std::collections::BTreeMap;
-use std::fmt;
-use std::fmt::{Display, Formatter};
 
 /// Maximum number of mapped files in the report.
 const MAX_FILES: usize = 20;
@@ -248,8 +246,9 @@ impl Contents {
         path: RawData<'_>,
     ) -> Result<(), AllocError> {
         let id = to_vec(alloc, id)?;
-        let path = to_vec(alloc, path)?;
-        self.build_ids.entry(id)?.or_insert(path);
+        if !self.build_ids.contains_key(&id) {
+            self.build_ids.insert(id, to_vec(alloc, path)?)?;
+        }
         Ok(())
     }
 
@@ -297,36 +296,29 @@ impl SwitchCounts {
 /// A path, and the number of its mappings.
 type FileEntry<'a> = (&'a Vec<u8>, &'a u64);
 
+/// The key of a file that orders files by decreasing number of mappings.
+fn most_first(entry: &FileEntry<'_>) -> Reverse<u64> {
+    Reverse(*entry.1)
+}
+
 /// Returns the mapped files, ordered by decreasing number of mappings and then by path.
 fn files_by_count(
     alloc: Global,
     files: &BTreeMap<Vec<u8>, u64>,
 ) -> Result<Option<Vec<FileEntry<'_>>>, Error> {
     let mut entries: Vec<FileEntry<'_>> = files.iter().collect(alloc)?;
-    entries.sort_by_key(|entry: &FileEntry<'_>| Reverse(*entry.1))?;
+    entries.sort_by_key(most_first)?;
     entries.truncate(MAX_FILES);
     Ok(Some(entries))
 }
 
-/// Displays the number of a thread's samples and its name.
-#[derive(Clone, Copy)]
-struct ThreadText<'a>(&'a Thread);
-
-impl Display for ThreadText<'_> {
-    fn fmt<W: fmt::Write>(&self, f: &mut Formatter<W>) -> fmt::Result {
-        write!(f, "{} {}", self.0.samples, Escaped(self.0.name.as_slice()))
-    }
-}
-
 /// Writes a process: its name, its samples and its threads.
 fn show_process(pid: i32, process: &Process, report: &mut Report) {
-    report.item(
-        Numbered("process", pid as i64),
-        Escaped(process.name_of(pid)),
-    );
+    report.item(Spaced("process", pid), Escaped(process.name_of(pid)));
     report.number_detail("samples", process.samples);
     for (tid, thread) in process.threads.iter() {
-        report.detail(Numbered("thread", *tid as i64), ThreadText(thread));
+        let name = Escaped(thread.name.as_slice());
+        report.detail(Spaced("thread", *tid), Spaced(thread.samples, name));
     }
 }
 
@@ -342,14 +334,7 @@ fn show_processes(contents: &Contents, report: &mut Report) {
 fn show_processors(contents: &Contents, report: &mut Report) {
     report.number("samples by CPU", contents.samples_by_cpu.len() as u64);
     for (cpu, count) in contents.samples_by_cpu.iter() {
-        report.item(Numbered("CPU", *cpu as i64), *count);
-    }
-}
-
-/// Writes files and the numbers of their mappings.
-fn show_files(entries: &[FileEntry<'_>], report: &mut Report) {
-    for (path, count) in entries {
-        report.item(Escaped(path.as_slice()), **count);
+        report.item(Spaced("CPU", *cpu), *count);
     }
 }
 
@@ -359,7 +344,9 @@ fn show_mappings(alloc: Global, contents: &Contents, report: &mut Report) {
     report.number("mapped files", contents.files.len() as u64);
     let by_count = files_by_count(alloc, &contents.files);
     if let Some(entries) = report.value_or_note("mapped files", by_count) {
-        show_files(&entries, report);
+        for (path, count) in entries.iter() {
+            report.item(Escaped(path.as_slice()), **count);
+        }
     }
 }
 

@@ -39,13 +39,3 @@ impl Display for Hex<'_> {
         Ok(())
     }
 }
-
-/// Displays a word and bytes after it.
-#[derive(Clone, Copy)]
-pub struct WordAndBytes<'a>(pub &'a str, pub &'a [u8]);
-
-impl Display for WordAndBytes<'_> {
-    fn fmt<W: fmt::Write>(&self, f: &mut fmt::Formatter<W>) -> fmt::Result {
-        write!(f, "{} {}", self.0, Escaped(self.1))
-    }
-}

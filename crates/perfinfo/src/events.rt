@@ -2,7 +2,7 @@
 use crate::escape::Escaped;
 use crate::names::{ATTR_FLAGS, BitNames, READ_FORMAT, SAMPLE_FORMAT, event_type_name};
 use crate::records::{EventCounts, RecordCounts};
-use crate::report::{Numbered, Report};
+use crate::report::{Report, Spaced};
 use linux_perf_data::attr::PerfEventAttr;
 use linux_perf_data::{AttributeDescription, PerfFile};
 use std::fmt;
@@ -26,10 +26,7 @@ fn show_event(
     report: &mut Report,
 ) {
     let name = event.name().unwrap_or("unnamed");
-    report.item(
-        Numbered("event", i64::try_from(index).unwrap_or(i64::MAX)),
-        Escaped(name.as_bytes()),
-    );
+    report.item(Spaced("event", index), Escaped(name.as_bytes()));
     show_attr(event.attributes(), report);
     report.detail("ids", IdList(event.ids()));
     show_counts(counts, report);

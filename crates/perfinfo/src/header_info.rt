@@ -2,9 +2,8 @@
 use crate::escape::Escaped;
 use crate::names::clock_name;
 use crate::report::Report;
-use linux_perf_data::feature_sections::PmuMappings;
 use linux_perf_data::{Endianness, Error, PerfFile};
-use std::alloc::{AllocError, Global};
+use std::alloc::Global;
 use std::collections::HashMap;
 use std::fmt;
 
@@ -117,54 +116,40 @@ fn show_features(file: &PerfFile, report: &mut Report) {
 fn show_pmu_mappings(alloc: Global, file: &PerfFile, report: &mut Report) {
     let section = file.pmu_mappings(alloc);
     if let Some(units) = report.value_or_note("PMU mappings", section) {
-        show_units(&units, report);
-    }
-}
-
-/// Writes performance monitoring units.
-fn show_units(units: &PmuMappings, report: &mut Report) {
-    report.number("PMU mappings", units.0.len() as u64);
-    for (number, name) in units.0.iter() {
-        report.item(*number, Escaped(name.as_bytes()));
-    }
-}
-
-/// Writes simpleperf's meta info, ordered by key.
-fn show_meta_info(alloc: Global, file: &PerfFile, report: &mut Report) {
-    let section = sorted_meta_info(alloc, file);
-    if let Some(pairs) = report.value_or_note("meta info", section) {
-        show_pairs(&pairs, report);
-    }
-}
-
-/// Writes keys and their values.
-fn show_pairs(pairs: &[Pair<'_>], report: &mut Report) {
-    report.number("meta info", pairs.len() as u64);
-    for (key, value) in pairs {
-        report.item(Escaped(key.as_bytes()), Escaped(value.as_bytes()));
+        report.number("PMU mappings", units.0.len() as u64);
+        for (number, name) in units.0.iter() {
+            report.item(*number, Escaped(name.as_bytes()));
+        }
     }
 }
 
 /// A key and its value.
-type Pair<'a> = (&'a str, &'a str);
+type Pair<'a> = (&'a &'a str, &'a &'a str);
 
-/// Returns simpleperf's meta info, ordered by key.
-fn sorted_meta_info(alloc: Global, file: &PerfFile) -> Result<Option<Vec<Pair<'_>>>, Error> {
-    match file.simpleperf_meta_info(alloc)? {
-        Some(map) => Ok(Some(sorted_pairs(alloc, &map)?)),
-        None => Ok(None),
+/// Writes simpleperf's meta info, ordered by key.
+fn show_meta_info(alloc: Global, file: &PerfFile, report: &mut Report) {
+    let section = file.simpleperf_meta_info(alloc);
+    if let Some(map) = report.value_or_note("meta info", section) {
+        show_pairs(alloc, &map, report);
+    }
+}
+
+/// Writes keys and their values, ordered by key.
+fn show_pairs(alloc: Global, map: &HashMap<&str, &str>, report: &mut Report) {
+    if let Some(pairs) = report.value_or_note("meta info", sorted_pairs(alloc, map)) {
+        report.number("meta info", pairs.len() as u64);
+        for (key, value) in pairs.iter() {
+            report.item(Escaped(key.as_bytes()), Escaped(value.as_bytes()));
+        }
     }
 }
 
 /// Returns the pairs, ordered by key.
 fn sorted_pairs<'a>(
     alloc: Global,
-    map: &HashMap<&'a str, &'a str>,
-) -> Result<Vec<Pair<'a>>, AllocError> {
-    let mut pairs = Vec::with_capacity(alloc, map.len())?;
-    for (key, value) in map.iter() {
-        pairs.push((*key, *value))?;
-    }
+    map: &'a HashMap<&'a str, &'a str>,
+) -> Result<Option<Vec<Pair<'a>>>, Error> {
+    let mut pairs: Vec<Pair<'a>> = map.iter().collect(alloc)?;
     pairs.sort()?;
-    Ok(pairs)
+    Ok(Some(pairs))
 }

@@ -25,6 +25,11 @@ struct JitFunction {
     name: Vec<u8>,
 }
 
+/// The key of a function that orders functions by decreasing size.
+fn largest_first(function: &JitFunction) -> Reverse<u64> {
+    Reverse(function.size)
+}
+
 /// Counts of a jitdump file's records.
 #[derive(Drop)]
 pub struct JitCounts {
@@ -59,8 +64,7 @@ impl JitCounts {
         self.code_bytes = self.code_bytes.saturating_add(size);
         let name = to_vec(alloc, name)?;
         self.largest.push(JitFunction { size, name })?;
-        self.largest
-            .sort_by_key(|function: &JitFunction| Reverse(function.size))?;
+        self.largest.sort_by_key(largest_first)?;
         self.largest.truncate(MAX_FUNCTIONS);
         Ok(())
     }
@@ -98,7 +102,10 @@ impl JitCounts {
             records: self.records,
             offset: Some(self.end),
         };
-        read.map_err(|cause: io::Error| InputError::JitRecord { position, cause })
+        match read {
+            Ok(()) => Ok(()),
+            Err(cause) => Err(InputError::JitRecord { position, cause }),
+        }
     }
 }
 

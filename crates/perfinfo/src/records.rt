@@ -162,7 +162,10 @@ impl RecordCounts {
             records: self.records,
             offset: Some(self.end),
         };
-        read.map_err(|cause: Error| InputError::at(position, cause))
+        match read {
+            Ok(()) => Ok(()),
+            Err(cause) => Err(InputError::at(position, cause)),
+        }
     }
 }
 

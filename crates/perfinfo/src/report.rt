@@ -16,11 +16,11 @@ pub struct Report {
     unreadable_sections: u64,
 }
 
-/// Displays a word and a number after it.
-#[derive(Clone, Copy)]
-pub struct Numbered(pub &'static str, pub i64);
+/// Displays two values with a space between them.
+#[derive(Drop)]
+pub struct Spaced<A, B>(pub A, pub B);
 
-impl Display for Numbered {
+impl<A: Display, B: Display> Display for Spaced<A, B> {
     fn fmt<W: fmt::Write>(&self, f: &mut fmt::Formatter<W>) -> fmt::Result {
         write!(f, "{} {}", self.0, self.1)
     }
