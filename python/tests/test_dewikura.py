@@ -242,6 +242,16 @@ class SampleTest(unittest.TestCase):
                 self.assertEqual(len(recording.frames), start)
                 self.assertGreater(start, 100)
 
+    def test_samples_by_time(self):
+        for path in (FIRST, SEVERAL, CALLS, CALLS_PIPE):
+            with dewikura.open(path) as recording:
+                samples, ordered = recording.samples, recording.samples_by_time()
+                wanted = sorted(samples, key=lambda sample: 0 if sample.timestamp == 2**64 - 1 else sample.timestamp)
+                self.assertEqual([bytes(sample) for sample in ordered], [bytes(sample) for sample in wanted])
+                self.assertEqual([bytes(frame) for sample in ordered for frame in ordered.frames_of(sample)],
+                                 [bytes(frame) for sample in wanted for frame in samples.frames_of(sample)])
+                self.assertIs(recording.samples_by_time(), ordered)
+
     def test_many_pages(self):
         # Records of 8 bytes: more of them than the first array has elements.
         header, count = bytearray(FIRST.read_bytes()[:104]), 500
@@ -278,6 +288,52 @@ class SampleTest(unittest.TestCase):
             self.assertEqual(frames["address"].tolist(), [frame.address for frame in recording.frames])
             self.assertEqual((samples.itemsize, frames.itemsize), (88, 16))
             self.assertIs(samples.flags.owndata, False)
+
+
+class TaskTest(unittest.TestCase):
+    """The fields are taken from the bodies by hand: PERF_RECORD_COMM, _FORK and _EXIT of the kernel's perf_event.h."""
+
+    def test_tasks(self):
+        kinds = dewikura.RecordType
+        for path in (CALLS, FIRST, SEVERAL):
+            with dewikura.open(path) as recording:
+                records = [record for record in recording.records if record.type in (kinds.COMM, kinds.FORK, kinds.EXIT)]
+                tasks = recording.tasks
+                self.assertEqual([task.offset for task in tasks], [record.offset for record in records])
+                for record, task in zip(records, tasks):
+                    body = recording.body(record)
+                    self.assertEqual((task.kind, task.timestamp), (record.type, record.timestamp or 0))
+                    if record.type == kinds.COMM:
+                        name = bytes(body[8:]).partition(b"\0")[0]
+                        wanted = (*struct.unpack_from("<ii", body), 0, 0, name, bool(record.misc & 1 << 13))
+                    else:
+                        pid, parent_pid, tid, parent_tid = struct.unpack_from("<iiii", body)
+                        wanted = (pid, tid, parent_pid, parent_tid, b"", False)
+                    self.assertEqual((task.pid, task.tid, task.parent_pid, task.parent_tid, recording.name(task), task.is_exec), wanted)
+            self.assertRaises(ValueError, lambda: recording.name(dewikura.Task()))
+
+    def test_many_tasks(self):
+        # More of them than the first array has elements.
+        attribute = struct.pack("<IIQ", 1, 64, 0).ljust(80, b"\0")
+        records = b"".join(struct.pack("<IHHii8s", 3, 0, 24, -index, index, b"a name") for index in range(500))
+        bad_record = struct.pack("<IHH", 3, 0, 7)
+        for size, status in ((len(records), None), (len(records) + 8, dewikura.Status.BAD_RECORD_SIZE)):
+            header = b"PERFILE2" + struct.pack("<8Q", 104, 80, 104, 80, 184, size, 0, 0) + bytes(32)
+            with dewikura.from_buffer(header + attribute + records + bad_record) as recording:
+                tasks, error = recording.partial_tasks()
+                self.assertEqual([(task.pid, task.tid) for task in tasks], [(-index, index) for index in range(500)])
+                self.assertEqual({recording.name(task) for task in tasks}, {b"a name"})
+                self.assertEqual(error and error.status, status)
+                if error:
+                    self.assertRaises(dewikura.FormatError, lambda: recording.tasks)
+
+    @unittest.skipUnless(HAS_NUMPY, "numpy isn't installed")
+    def test_numpy(self):
+        with dewikura.open(CALLS) as recording:
+            tasks = recording.tasks.to_numpy()
+            for field in ("pid", "kind", "is_exec", "name_offset"):
+                self.assertEqual(tasks[field].tolist(), [getattr(task, field) for task in recording.tasks])
+            self.assertEqual(tasks.itemsize, 56)
 
 
 class JitDumpTest(unittest.TestCase):
@@ -327,10 +383,21 @@ class JitDumpTest(unittest.TestCase):
 
 class ProgramTest(unittest.TestCase):
     def test_commands(self):
-        self.assertEqual(command("samples", str(SEVERAL)), (0, "cpu-clock: 11 samples\ntask-clock: 11 samples\npage-faults: 13 samples\n", ""))
+        self.assertEqual(command("events", str(SEVERAL)), (0, "cpu-clock: 11 samples\ntask-clock: 11 samples\npage-faults: 13 samples\n", ""))
+        status, output, _ = command("samples", str(CALLS))
+        with dewikura.open(CALLS) as recording:
+            samples = recording.samples
+            frames = [samples.frames_of(sample) for sample in samples]
+        self.assertEqual((status, output.count("\n")), (0, len(samples)))
+        for line, sample, chain in zip(output.splitlines(), samples, frames):
+            task, cpu, time, period, *addresses = line.split(" ")
+            self.assertEqual((task, cpu, int(period)), (f"{sample.pid}/{sample.tid}", "[000]", sample.period))
+            self.assertEqual(int(time.replace(".", "").rstrip(":")), sample.timestamp)
+            self.assertEqual([int(address, 16) for address in addresses], [sample.ip, *(frame.address for frame in chain)])
         self.assertEqual(command("loads", str(DUMP))[1].count("\n"), 29)
         self.assertEqual(command("records")[0], 1)
-        self.assertEqual(command("samples", str(DUMP)), (2, "", "dewikura: not a perf.data file or pipe\n"))
+        for name in ("samples", "events"):
+            self.assertEqual(command(name, str(DUMP)), (2, "", "dewikura: not a perf.data file or pipe\n"))
 
     @unittest.skipUnless(PERFLIST, "PERFLIST isn't set")
     def test_same_as_perflist(self):

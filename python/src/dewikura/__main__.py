@@ -1,5 +1,5 @@
-"""`python -m dewikura records FILE | samples FILE | loads JITDUMP` prints the records of a recording, the number of samples of each
-event, or the name and the code size of each function of a jitdump. FILE may be `-` for a pipe on standard input."""
+"""`python -m dewikura records FILE | samples FILE | events FILE | loads JITDUMP` prints the records of a recording, its samples, the number
+of samples of each event, or the name and the code size of each function of a jitdump. FILE may be `-` for a pipe on standard input."""
 
 import sys
 from collections import Counter
@@ -25,7 +25,20 @@ def records(path: str) -> Tuple[Iterator[str], Optional[Exception]]:
         return map(record_line, found), error
 
 
+def sample_line(sample: dewikura.Sample, frames: dewikura.Frames) -> str:
+    """The line of a sample, with the fields of perf script: PID/TID [CPU] SECONDS: PERIOD ADDRESS, and the addresses of its call chain."""
+    seconds, nanoseconds = divmod(sample.timestamp, 10**9)
+    addresses = "".join(f" {frame.address:x}" for frame in frames)
+    return f"{sample.pid}/{sample.tid} [{sample.cpu:03}] {seconds}.{nanoseconds:09}: {sample.period} {sample.ip:x}{addresses}"
+
+
 def samples(path: str) -> Tuple[Iterator[str], Optional[Exception]]:
+    with open_recording(path) as recording:
+        found, error = recording.partial_samples()
+        return (sample_line(sample, found.frames_of(sample)) for sample in found), error
+
+
+def events(path: str) -> Tuple[Iterator[str], Optional[Exception]]:
     with open_recording(path) as recording:
         counts = Counter(record.attr_index for record in recording.records if record.type == dewikura.RecordType.SAMPLE)
         return (f"{attr.name or 'event'}: {counts[attr.index]} samples" for attr in recording.attributes), None
@@ -38,9 +51,9 @@ def loads(path: str) -> Tuple[Iterator[str], Optional[Exception]]:
 
 def main(arguments: List[str]) -> int:
     """Runs a command and returns the exit status."""
-    command = {"records": records, "samples": samples, "loads": loads}.get(arguments[0]) if len(arguments) == 2 else None
+    command = {"records": records, "samples": samples, "events": events, "loads": loads}.get(arguments[0]) if len(arguments) == 2 else None
     if command is None:
-        print("usage: python -m dewikura records FILE | samples FILE | loads JITDUMP", file=sys.stderr)
+        print("usage: python -m dewikura records FILE | samples FILE | events FILE | loads JITDUMP", file=sys.stderr)
         return 1
     try:
         lines, error = command(arguments[1])

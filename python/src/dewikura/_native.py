@@ -49,6 +49,7 @@ read_pipe_records = _declare_read("read_pipe_records_raw", u64, POINTER(_structs
 read_file_samples = _declare_read("read_file_samples_raw", POINTER(_structs.Cursor), POINTER(_structs.Sample), size, POINTER(u64),
                                   POINTER(_structs.Frame), size, POINTER(u64))
 read_pipe_samples = _declare_read("read_pipe_samples_raw", POINTER(_structs.Sample), size, POINTER(u64), POINTER(_structs.Frame), size, POINTER(u64))
+read_file_tasks = _declare_read("read_file_tasks_raw", POINTER(_structs.Cursor), POINTER(_structs.Task), size, POINTER(u64))
 sort_records = _declare("sort_records_raw", POINTER(_structs.Record), size)
 read_attrs = _declare_reads("attrs", POINTER(_structs.Attr), size, POINTER(u8), size, POINTER(u64), size, POINTER(_structs.AttrTotals))
 read_feature_set = _declare_reads("feature_set", POINTER(_structs.FeatureSet))

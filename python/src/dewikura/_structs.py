@@ -109,6 +109,34 @@ class Frame(ctypes.Structure):
         return f"Frame(address={self.address:#x}, context={self.context!r})"
 
 
+class Task(ctypes.Structure):
+    """A record on a task: its name, its start or its end."""
+
+    offset: int
+    timestamp: int
+    name_offset: int
+    name_size: int
+    pid: int
+    tid: int
+    parent_pid: int
+    parent_tid: int
+    _fields_ = [*((name, u64) for name in ("offset", "timestamp", "name_offset", "name_size")), ("_kind", u32), ("_is_exec", u32),
+                *((name, i32) for name in ("pid", "tid", "parent_pid", "parent_tid"))]
+
+    @property
+    def kind(self) -> RecordType:
+        """COMM for a name, FORK for a start, EXIT for an end."""
+        return RecordType(self._kind)
+
+    @property
+    def is_exec(self) -> bool:
+        """Whether the task has this name because it executed another program."""
+        return bool(self._is_exec)
+
+    def __repr__(self) -> str:
+        return f"Task(kind={self.kind!r}, offset={self.offset}, timestamp={self.timestamp}, pid={self.pid}, tid={self.tid})"
+
+
 class Attr(ctypes.Structure):
     """A perf_event_attr, with the positions of its name and its ids."""
 
@@ -221,8 +249,8 @@ class JitDebugEntryStruct(ctypes.Structure):
     _fields_ = [("code_address", u64), ("path_offset", u64), ("path_size", u64), ("line", u32), ("column", u32)]
 
 
-for _struct, _size in ((Record, 56), (Sample, 88), (Frame, 16), (Attr, 168), (AttrTotals, 24), (FeatureSet, 32), (BuildIdEntry, 48), (JitHeaderStruct, 40),
-                       (JitRecord, 24), (JitLoadStruct, 64), (StringStruct, 24), (JitMoveStruct, 48), (JitUnwindingStruct, 40),
+for _struct, _size in ((Record, 56), (Sample, 88), (Frame, 16), (Task, 56), (Attr, 168), (AttrTotals, 24), (FeatureSet, 32), (BuildIdEntry, 48),
+                       (JitHeaderStruct, 40), (JitRecord, 24), (JitLoadStruct, 64), (StringStruct, 24), (JitMoveStruct, 48), (JitUnwindingStruct, 40),
                        (MetaPairStruct, 32), (SymbolFileStruct, 72), (SymbolStruct, 32), (SymbolTotals, 32), (JitDebugEntryStruct, 32)):
     if ctypes.sizeof(_struct) != _size:
         raise ImportError(f"{_struct.__name__} has {ctypes.sizeof(_struct)} bytes instead of {_size}")

@@ -14,7 +14,7 @@ from typing import Any, ContextManager, Iterator, Literal, Mapping, NamedTuple, 
 
 from . import _native, _structs
 from ._arrays import StructSequence
-from ._structs import Frame, Record, Sample, known
+from ._structs import Frame, Record, Sample, Task, known
 from .constants import AttrFlag, DsoKind, EventType, Feature, ReadFormat, SampleType, Status, SymbolFileType
 from .errors import PerfDataError, check, error_of
 
@@ -70,6 +70,12 @@ class Samples(StructSequence[Sample]):
         if not isinstance(sample, Sample):
             sample = self[sample]
         return self._frames[sample.frames_start:sample.frames_start + sample.frames_count]
+
+
+class Tasks(StructSequence[Task]):
+    """The records on tasks of a recording: their names, starts and ends."""
+
+    _struct = Task
 
 
 @dataclasses.dataclass(frozen=True)
@@ -283,6 +289,26 @@ class Recording(ContextManager["Recording"]):
         """The frames of all samples, in the order of the samples. Raises the first error of the input."""
         return self.samples._frames
 
+    def samples_by_time(self) -> Samples:
+        """A copy of all samples in order of time: those without a time first, samples with one time in the order of the input."""
+        return self._keep("samples_by_time", lambda _data: self._samples_sorted(self.samples))
+
+    def partial_tasks(self) -> Tuple[Tasks, Optional[Exception]]:
+        """Returns the records on tasks before the first error, and that error, or None if there is none."""
+        return self._keep("tasks", self._read_tasks)
+
+    @property
+    def tasks(self) -> Tasks:
+        """All records on tasks (COMM, FORK and EXIT) of a file, in its order, decoded. Raises the first error of the input."""
+        tasks, error = self.partial_tasks()
+        if error is not None:
+            raise error
+        return tasks
+
+    def name(self, task: Task) -> bytes:
+        """Returns the name that a record of `tasks` gives to its task; empty for a start or an end."""
+        return bytes(self._data[task.name_offset:task.name_offset + task.name_size])
+
     def events(self) -> Iterator[Record]:
         """Iterates over the records with an attribute, which the kernel wrote."""
         return filter(lambda record: record.has_attr, self.records)
@@ -439,6 +465,32 @@ class Recording(ContextManager["Recording"]):
                 return samples, capacity, frames, frames_capacity, status
             capacity, frames_capacity = total.value, frames_total.value
             samples, frames = (Sample * max(capacity, 1))(), (Frame * max(frames_capacity, 1))()
+
+    def _read_tasks(self, data: memoryview) -> Tuple[Tasks, Optional[Exception]]:
+        if self.kind is Kind.PIPE:
+            raise NotImplementedError("the library reads the tasks of files only")
+        array, count, status = self._read_file_entries(data, Task, _native.read_file_tasks)
+        return Tasks(array, range(count)), None if status == Status.OK else error_of(status)
+
+    @staticmethod
+    def _read_file_entries(data: memoryview, struct: Any, read: Any) -> Tuple[Any, int, int]:
+        """Fills an array, which grows while the file has more entries."""
+        cursor, count, entries = _structs.Cursor(), u64(), _Growing(struct, len(data) // 1024 + 1)
+        with _native.Input(data) as (address, size):
+            while True:
+                status = read(address, size, cursor, entries.free(), entries.capacity - entries.used, count)
+                entries.used += count.value
+                if status != Status.OK or entries.used < entries.capacity:
+                    return entries.array, entries.used, status
+                entries.grow(1)
+
+    @staticmethod
+    def _samples_sorted(samples: Samples) -> Samples:
+        """The times 0 and 2^64 - 1 count as none, as in dewikura_sort_records."""
+        times = [sample.timestamp for sample in samples]
+        order = sorted(range(len(times)), key=lambda index: 0 if times[index] == 2**64 - 1 else times[index])
+        array = (Sample * max(len(order), 1))(*map(samples.__getitem__, order))
+        return Samples(array, range(len(order)), samples._frames)
 
     @staticmethod
     def _sorted(records: Records) -> Records:
