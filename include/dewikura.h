@@ -130,6 +130,34 @@ struct dewikura_frame {
     uint32_t reserved; // 0
 };
 
+// What else a sample has. What it doesn't have is 0. Offsets are in bytes from the start of its body.
+struct dewikura_sample_details {
+    uint64_t stream_id;                  // id of the event itself, also if another task inherited it
+    uint64_t weight;                     // with DEWIKURA_SAMPLE_WEIGHT_STRUCT three numbers: bits 0 to 31, 32 to 47, 48 to 63
+    uint64_t data_source;                // bits of `union perf_mem_data_src`
+    uint64_t transaction;                // PERF_TXN_* bits
+    uint64_t physical_address;           // of the data
+    uint64_t cgroup;                     // id of the control group
+    uint64_t data_page_size;             // of the data, in bytes
+    uint64_t code_page_size;             // of the instruction, in bytes
+    uint64_t raw_offset;                 // of the raw data, as those of a tracepoint
+    uint64_t raw_size;                   // in bytes
+    uint64_t branches_offset;            // of the branches, three words each: from, to, flags; their counters follow, if the attribute selects them
+    uint64_t branches_count;
+    uint64_t branches_hw_index;          // of the first branch
+    uint64_t user_abi;                   // 0 none, 1 of 32 bits, 2 of 64 bits
+    uint64_t user_registers_offset;      // of the registers in sample_regs_user, a word each
+    uint64_t user_registers_count;
+    uint64_t user_stack_offset;          // of the copy of the stack
+    uint64_t user_stack_size;            // in bytes
+    uint64_t user_stack_dynamic_size;    // bytes of it that the kernel could copy
+    uint64_t interrupt_abi;              // as user_abi
+    uint64_t interrupt_registers_offset; // of the registers in sample_regs_intr, a word each
+    uint64_t interrupt_registers_count;
+    uint64_t aux_offset;                 // of the aux data
+    uint64_t aux_size;                   // in bytes
+};
+
 // A record on a task, decoded: its name (DEWIKURA_RECORD_COMM), its start (DEWIKURA_RECORD_FORK) or its end (DEWIKURA_RECORD_EXIT).
 struct dewikura_task {
     uint64_t offset;      // of the record header, in bytes from the first record, as in dewikura_record
@@ -142,6 +170,31 @@ struct dewikura_task {
     int32_t tid;
     int32_t parent_pid;   // of a start or an end, otherwise 0
     int32_t parent_tid;
+};
+
+// A mapping, decoded (DEWIKURA_RECORD_MMAP or DEWIKURA_RECORD_MMAP2). What it doesn't have is 0.
+struct dewikura_mapping {
+    uint64_t offset;           // of the record header, in bytes from the first record, as in dewikura_record
+    uint64_t timestamp;        // in nanoseconds of the recording's clock; 0 if the record has none
+    uint64_t address;          // where the mapping starts
+    uint64_t length;           // in bytes
+    uint64_t page_offset;      // in the mapped file, in bytes
+    uint64_t inode;            // of the mapped file, in a MMAP2 record without a build id
+    uint64_t inode_generation;
+    uint64_t path_offset;      // of the path, in bytes from the start of the input
+    uint64_t path_size;        // in bytes, no NUL
+    uint32_t kind;             // DEWIKURA_RECORD_MMAP or DEWIKURA_RECORD_MMAP2
+    uint32_t major;            // of the device of the mapped file, in a MMAP2 record without a build id
+    uint32_t minor;
+    uint32_t protection;       // PROT_* bits, in a MMAP2 record
+    uint32_t flags;            // MAP_* bits, in a MMAP2 record
+    int32_t pid;
+    int32_t tid;
+    uint8_t build_id[20];      // of the mapped file, and zeros after it
+    uint8_t build_id_size;     // in bytes; 0 without a build id
+    uint8_t is_data;           // 1 if the mapping isn't executable, otherwise 0
+    uint16_t misc;             // misc bits of the record header; `misc & 7` is a DEWIKURA_MODE_*
+    uint32_t reserved;         // 0
 };
 
 // An event attribute: perf_event_attr, by the kernel's names.
@@ -317,6 +370,11 @@ struct dewikura_jit_debug_entry {
 #endif
 DEWIKURA_CHECK_SIZE(dewikura_cursor, 16);
 DEWIKURA_CHECK_SIZE(dewikura_record, 56);
+DEWIKURA_CHECK_SIZE(dewikura_sample, 88);
+DEWIKURA_CHECK_SIZE(dewikura_frame, 16);
+DEWIKURA_CHECK_SIZE(dewikura_sample_details, 192);
+DEWIKURA_CHECK_SIZE(dewikura_task, 56);
+DEWIKURA_CHECK_SIZE(dewikura_mapping, 128);
 DEWIKURA_CHECK_SIZE(dewikura_attr, 168);
 DEWIKURA_CHECK_SIZE(dewikura_attr_totals, 24);
 DEWIKURA_CHECK_SIZE(dewikura_feature_set, 32);
@@ -598,8 +656,16 @@ DEWIKURA_NONNULL dewikura_status dewikura_read_file_samples_raw(const void *data
     uint64_t *frames_count);
 DEWIKURA_NONNULL dewikura_status dewikura_read_pipe_samples_raw(const void *data, size_t size, struct dewikura_sample *samples, size_t capacity,
     uint64_t *total, struct dewikura_frame *frames, size_t frames_capacity, uint64_t *frames_total);
+DEWIKURA_NONNULL dewikura_status dewikura_read_sample_details_raw(const void *body, size_t size, uint32_t is_big_endian,
+    const struct dewikura_attr *attr, struct dewikura_sample_details *details);
 DEWIKURA_NONNULL dewikura_status dewikura_read_file_tasks_raw(const void *data, size_t size, struct dewikura_cursor *cursor,
     struct dewikura_task *tasks, size_t capacity, uint64_t *count);
+DEWIKURA_NONNULL dewikura_status dewikura_read_pipe_tasks_raw(const void *data, size_t size, struct dewikura_task *tasks, size_t capacity,
+    uint64_t *total);
+DEWIKURA_NONNULL dewikura_status dewikura_read_file_mappings_raw(const void *data, size_t size, struct dewikura_cursor *cursor,
+    struct dewikura_mapping *mappings, size_t capacity, uint64_t *count);
+DEWIKURA_NONNULL dewikura_status dewikura_read_pipe_mappings_raw(const void *data, size_t size, struct dewikura_mapping *mappings,
+    size_t capacity, uint64_t *total);
 DEWIKURA_NONNULL dewikura_status dewikura_sort_records_raw(struct dewikura_record *records, size_t count);
 DEWIKURA_NONNULL dewikura_status dewikura_read_file_attrs_raw(const void *data, size_t size, struct dewikura_attr *attrs,
     size_t attrs_capacity, char *names, size_t names_capacity, uint64_t *ids, size_t ids_capacity, struct dewikura_attr_totals *totals);
@@ -726,6 +792,15 @@ DEWIKURA_NODISCARD static inline dewikura_status dewikura_read_pipe_samples(cons
         total ? total : &unused_total, frames ? frames : &no_frame, frames_capacity, frames_total ? frames_total : &unused_frames);
 }
 
+// Writes what else a sample has, from its body and its attribute. `is_big_endian` is that of the recording. After an error *details is
+// unchanged: DEWIKURA_TRUNCATED if the body ends inside a field, DEWIKURA_OTHER if the attribute selects a field that isn't known.
+DEWIKURA_NODISCARD static inline dewikura_status dewikura_read_sample_details(const void *body, size_t size, uint32_t is_big_endian,
+    const struct dewikura_attr *attr, struct dewikura_sample_details *details)
+{
+    const char no_data = 0;
+    return dewikura_read_sample_details_raw(body ? body : &no_data, size, is_big_endian, attr, details);
+}
+
 // Writes the records on tasks of a perf.data file from *cursor on, in the order of the file, up to `capacity`, and moves *cursor past the
 // last of them: their names, starts and ends. `data` is the whole file. The first call has a cursor of zeros. With NULL for `cursor`, a call
 // starts at the first record. A record that can't be decoded is left out.
@@ -742,6 +817,43 @@ DEWIKURA_NODISCARD static inline dewikura_status dewikura_read_file_tasks(const 
     uint64_t unused;
     return dewikura_read_file_tasks_raw(data ? data : &no_data, size, cursor ? cursor : &first, tasks ? tasks : &no_task, capacity,
         count ? count : &unused);
+}
+
+// Does the same for a pipe: writes its records on tasks, up to `capacity`. `data` is the whole pipe. A truncated record ends a pipe without
+// an error.
+//
+// *total counts all records on tasks; after an error those before it, and 0 if the pipe doesn't open. `total` may be NULL. The errors are
+// those of dewikura_read_pipe_records.
+DEWIKURA_NODISCARD static inline dewikura_status dewikura_read_pipe_tasks(const void *data, size_t size, struct dewikura_task *tasks,
+    size_t capacity, uint64_t *total)
+{
+    const char no_data = 0;
+    struct dewikura_task no_task;
+    uint64_t unused;
+    return dewikura_read_pipe_tasks_raw(data ? data : &no_data, size, tasks ? tasks : &no_task, capacity, total ? total : &unused);
+}
+
+// Writes the mappings of a perf.data file from *cursor on, as dewikura_read_file_tasks does for the records on tasks.
+DEWIKURA_NODISCARD static inline dewikura_status dewikura_read_file_mappings(const void *data, size_t size, struct dewikura_cursor *cursor,
+    struct dewikura_mapping *mappings, size_t capacity, uint64_t *count)
+{
+    const char no_data = 0;
+    struct dewikura_cursor first = {0, 0};
+    struct dewikura_mapping no_mapping;
+    uint64_t unused;
+    return dewikura_read_file_mappings_raw(data ? data : &no_data, size, cursor ? cursor : &first, mappings ? mappings : &no_mapping,
+        capacity, count ? count : &unused);
+}
+
+// Writes the mappings of a pipe, as dewikura_read_pipe_tasks does for the records on tasks.
+DEWIKURA_NODISCARD static inline dewikura_status dewikura_read_pipe_mappings(const void *data, size_t size,
+    struct dewikura_mapping *mappings, size_t capacity, uint64_t *total)
+{
+    const char no_data = 0;
+    struct dewikura_mapping no_mapping;
+    uint64_t unused;
+    return dewikura_read_pipe_mappings_raw(data ? data : &no_data, size, mappings ? mappings : &no_mapping, capacity,
+        total ? total : &unused);
 }
 
 // Sorts records by time. Records without a time come first, and records with one time keep their order; the times 0 and 2^64 - 1 count as

@@ -406,6 +406,176 @@ static void check_tasks(void)
     CHECK(dewikura_read_file_tasks(NULL, 0, NULL, NULL, 0, NULL), DEWIKURA_TRUNCATED);
 }
 
+// A file with one attribute, and three mappings: by an inode, by a build id, and without an identity; then one that is truncated.
+static void check_mappings(void)
+{
+    struct dewikura_cursor cursor = {0, 0};
+    struct dewikura_mapping mappings[4];
+    uint64_t count = 0;
+    int i, is_build_id;
+    size = 0;
+    put_text("PERFILE2", 8);
+    put(104, 8);
+    put(152, 8); // the size of an entry of the attribute section
+    put(104, 8);
+    put(152, 8);
+    put(256, 8); // the data section
+    put(2 * 96 + 64 + 80, 8);
+    put(0, 48);
+    put_attr(0x1101, DEWIKURA_SAMPLE_TIME | DEWIKURA_SAMPLE_IDENTIFIER);
+    put(0, 16);
+    for (is_build_id = 0; is_build_id < 2; is_build_id++) {
+        put_header(DEWIKURA_RECORD_MMAP2, is_build_id ? 0x4002 : 0x2001, 96); // PERF_RECORD_MISC_MMAP_BUILD_ID; _MMAP_DATA
+        put((uint32_t)-3, 4);
+        put(0x802, 4);
+        put(0x803, 8);
+        put(0x804, 8);
+        put(0x805, 8);
+        if (is_build_id) {
+            put(16, 4);
+            put_text("0123456789abcdefghij", 20);
+        } else {
+            put(0x806, 4);
+            put(0x807, 4);
+            put(0x808, 8);
+            put(0x809, 8);
+        }
+        put(0x80a, 4);
+        put(0x80b, 4);
+        put_text("/a/path", 8);
+        put(0x80c + (uint64_t)is_build_id, 8); // time, and the identifier
+        put(1, 8);
+    }
+    put_header(DEWIKURA_RECORD_MMAP, 0, 64);
+    put(0x901, 4);
+    put(0x902, 4);
+    put(0x903, 8);
+    put(0x904, 8);
+    put(0x905, 8);
+    put_text("anon", 8);
+    put(0x906, 8);
+    put(1, 8);
+    put_header(DEWIKURA_RECORD_MMAP2, 0, 80); // the path has no NUL
+    put(0, 64);
+    put_text("a path..", 8);
+    memset(mappings, 0xab, sizeof mappings);
+    CHECK(dewikura_read_file_mappings(input, size, &cursor, mappings, 2, &count), DEWIKURA_OK);
+    CHECK(count, 2);
+    CHECK(cursor.offset, 192);
+    for (is_build_id = 0; is_build_id < 2; is_build_id++) {
+        const struct dewikura_mapping *mapping = mappings + is_build_id;
+        CHECK(mapping->offset, is_build_id ? 96 : 0);
+        CHECK(mapping->timestamp, is_build_id ? 0x80d : 0x80c);
+        CHECK(mapping->address, 0x803);
+        CHECK(mapping->length, 0x804);
+        CHECK(mapping->page_offset, 0x805);
+        CHECK(mapping->inode, is_build_id ? 0 : 0x808);
+        CHECK(mapping->inode_generation, is_build_id ? 0 : 0x809);
+        CHECK(mapping->path_offset, 256 + mapping->offset + 8 + 64);
+        CHECK(mapping->path_size, 7);
+        CHECK(mapping->kind, DEWIKURA_RECORD_MMAP2);
+        CHECK(mapping->major, is_build_id ? 0 : 0x806);
+        CHECK(mapping->minor, is_build_id ? 0 : 0x807);
+        CHECK(mapping->protection, 0x80a);
+        CHECK(mapping->flags, 0x80b);
+        CHECK(mapping->pid, -3);
+        CHECK(mapping->tid, 0x802);
+        for (i = 0; i < 20; i++)
+            CHECK(mapping->build_id[i], is_build_id && i < 16 ? "0123456789abcdef"[i] : 0);
+        CHECK(mapping->build_id_size, is_build_id ? 16 : 0);
+        CHECK(mapping->is_data, is_build_id ? 0 : 1);
+        CHECK(mapping->misc, is_build_id ? 0x4002 : 0x2001);
+        CHECK(mapping->reserved, 0);
+    }
+    CHECK(mappings[2].kind, 0xabababab);
+    CHECK(dewikura_read_file_mappings(input, size, &cursor, mappings, 4, &count), DEWIKURA_OK);
+    CHECK(count, 1);
+    CHECK(mappings[0].offset, 192);
+    CHECK(mappings[0].timestamp, 0x906);
+    CHECK(mappings[0].address, 0x903);
+    CHECK(mappings[0].length, 0x904);
+    CHECK(mappings[0].page_offset, 0x905);
+    CHECK(mappings[0].inode | mappings[0].inode_generation | mappings[0].major | mappings[0].minor, 0);
+    CHECK(mappings[0].path_offset, 256 + 192 + 8 + 32);
+    CHECK(mappings[0].path_size, 4);
+    CHECK(mappings[0].kind, DEWIKURA_RECORD_MMAP);
+    CHECK(mappings[0].protection | mappings[0].flags, 0);
+    CHECK(mappings[0].pid, 0x901);
+    CHECK(mappings[0].tid, 0x902);
+    CHECK(mappings[0].build_id_size | mappings[0].is_data | mappings[0].misc, 0);
+    CHECK(dewikura_read_file_mappings(NULL, 0, NULL, NULL, 0, NULL), DEWIKURA_TRUNCATED);
+    CHECK(dewikura_read_pipe_mappings(NULL, 0, NULL, 0, NULL), DEWIKURA_TRUNCATED);
+    CHECK(dewikura_read_pipe_tasks(NULL, 0, NULL, 0, NULL), DEWIKURA_TRUNCATED);
+}
+
+// The body of a sample with all parts.
+static void check_details(void)
+{
+    struct dewikura_sample_details details;
+    struct dewikura_attr attr;
+    uint64_t i;
+    memset(&attr, 0, sizeof attr);
+    attr.sample_type = DEWIKURA_SAMPLE_STREAM_ID | DEWIKURA_SAMPLE_RAW | DEWIKURA_SAMPLE_BRANCH_STACK | DEWIKURA_SAMPLE_REGS_USER
+        | DEWIKURA_SAMPLE_STACK_USER | DEWIKURA_SAMPLE_WEIGHT | DEWIKURA_SAMPLE_DATA_SRC | DEWIKURA_SAMPLE_TRANSACTION | DEWIKURA_SAMPLE_REGS_INTR
+        | DEWIKURA_SAMPLE_PHYS_ADDR | DEWIKURA_SAMPLE_CGROUP | DEWIKURA_SAMPLE_DATA_PAGE_SIZE | DEWIKURA_SAMPLE_CODE_PAGE_SIZE | DEWIKURA_SAMPLE_AUX;
+    attr.branch_sample_type = UINT64_C(1) << 17; // PERF_SAMPLE_BRANCH_HW_INDEX
+    attr.sample_regs_user = 5;
+    attr.sample_regs_intr = 7;
+    size = 0;
+    put(0x801, 8);
+    put(12, 4);
+    put_text("raw data..", 12);
+    put(2, 8); // two branches
+    put(0x802, 8);
+    for (i = 0; i < 6; i++) put(0xa00 + i, 8);
+    put(2, 8); // two registers of 64 bits
+    put(0xb00, 8);
+    put(0xb01, 8);
+    put(16, 8);
+    put_text("the user stack", 16);
+    put(9, 8);
+    for (i = 0x803; i < 0x806; i++) put(i, 8);
+    put(1, 8);
+    for (i = 0; i < 3; i++) put(0xc00 + i, 8);
+    for (i = 0x806; i < 0x80a; i++) put(i, 8);
+    put(5, 8);
+    put_text("aux..", 5);
+    memset(&details, 0xab, sizeof details);
+    CHECK(dewikura_read_sample_details(input, size - 1, 0, &attr, &details), DEWIKURA_TRUNCATED);
+    CHECK(details.weight, UINT64_C(0xabababababababab));
+    CHECK(dewikura_read_sample_details(input, size, 0, &attr, &details), DEWIKURA_OK);
+    CHECK(details.stream_id, 0x801);
+    CHECK(details.weight, 0x803);
+    CHECK(details.data_source, 0x804);
+    CHECK(details.transaction, 0x805);
+    CHECK(details.physical_address, 0x806);
+    CHECK(details.cgroup, 0x807);
+    CHECK(details.data_page_size, 0x808);
+    CHECK(details.code_page_size, 0x809);
+    CHECK(details.raw_offset, 12);
+    CHECK(details.raw_size, 12);
+    CHECK(details.branches_offset, 40);
+    CHECK(details.branches_count, 2);
+    CHECK(details.branches_hw_index, 0x802);
+    CHECK(details.user_abi, 2);
+    CHECK(details.user_registers_offset, 96);
+    CHECK(details.user_registers_count, 2);
+    CHECK(details.user_stack_offset, 120);
+    CHECK(details.user_stack_size, 16);
+    CHECK(details.user_stack_dynamic_size, 9);
+    CHECK(details.interrupt_abi, 1);
+    CHECK(details.interrupt_registers_offset, 176);
+    CHECK(details.interrupt_registers_count, 3);
+    CHECK(details.aux_offset, 240);
+    CHECK(details.aux_size, 5);
+    attr.sample_type |= UINT64_C(1) << 63;
+    CHECK(dewikura_read_sample_details(input, size, 0, &attr, &details), DEWIKURA_OTHER);
+    attr.sample_type = 0;
+    CHECK(dewikura_read_sample_details(NULL, 0, 0, &attr, &details), DEWIKURA_OK);
+    for (i = 0; i < sizeof details; i++)
+        CHECK(((const uint8_t *)&details)[i], 0);
+}
+
 static void check_build_id(void)
 {
     struct dewikura_build_id entry;
@@ -844,6 +1014,8 @@ int main(void)
     check_file();
     check_samples();
     check_tasks();
+    check_mappings();
+    check_details();
     check_build_id();
     check_string();
     check_meta_info();

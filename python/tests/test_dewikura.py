@@ -252,6 +252,18 @@ class SampleTest(unittest.TestCase):
                                  [bytes(frame) for sample in wanted for frame in samples.frames_of(sample)])
                 self.assertIs(recording.samples_by_time(), ordered)
 
+    def test_details(self):
+        # RAW and WEIGHT
+        attribute = struct.pack("<IIQQQQQ", 1, 64, 0, 0, 1 << 10 | 1 << 14, 0, 0) + bytes(16) + struct.pack("<QQ", 0, 0)
+        record = struct.pack("<IHHI12sQ", 9, 2, 32, 12, b"raw data", 77)
+        header = b"PERFILE2" + struct.pack("<8Q", 104, 80, 104, 80, 184, 40, 0, 0) + bytes(32)
+        with dewikura.from_buffer(header + attribute + record + struct.pack("<IHH", 9, 2, 8)) as recording:
+            first, second = recording.records
+            details = recording.details(first)
+            self.assertEqual((details.weight, details.raw_offset, details.raw_size, details.aux_size), (77, 4, 12, 0))
+            self.assertEqual(bytes(recording.body(first)[details.raw_offset:][:details.raw_size]), b"raw data\0\0\0\0")
+            self.assertRaises(dewikura.TruncatedError, lambda: recording.details(second))
+
     def test_many_pages(self):
         # Records of 8 bytes: more of them than the first array has elements.
         header, count = bytearray(FIRST.read_bytes()[:104]), 500
@@ -295,7 +307,7 @@ class TaskTest(unittest.TestCase):
 
     def test_tasks(self):
         kinds = dewikura.RecordType
-        for path in (CALLS, FIRST, SEVERAL):
+        for path in (CALLS, CALLS_PIPE, FIRST, SEVERAL):
             with dewikura.open(path) as recording:
                 records = [record for record in recording.records if record.type in (kinds.COMM, kinds.FORK, kinds.EXIT)]
                 tasks = recording.tasks
@@ -311,6 +323,27 @@ class TaskTest(unittest.TestCase):
                         wanted = (pid, tid, parent_pid, parent_tid, b"", False)
                     self.assertEqual((task.pid, task.tid, task.parent_pid, task.parent_tid, recording.name(task), task.is_exec), wanted)
             self.assertRaises(ValueError, lambda: recording.name(dewikura.Task()))
+
+    def test_mappings(self):
+        kinds = dewikura.RecordType
+        for path in (CALLS, CALLS_PIPE, FIRST, SEVERAL):
+            with dewikura.open(path) as recording:
+                records = [record for record in recording.records if record.type in (kinds.MMAP, kinds.MMAP2)]
+                mappings = recording.mappings
+                self.assertEqual([mapping.offset for mapping in mappings], [record.offset for record in records])
+                for record, mapping in zip(records, mappings):
+                    body, is_mmap2 = recording.body(record), record.type == kinds.MMAP2
+                    self.assertEqual((mapping.kind, mapping.timestamp, mapping.misc), (record.type, record.timestamp or 0, record.misc))
+                    self.assertEqual(mapping.is_data, bool(record.misc & 1 << 13))
+                    found = mapping.pid, mapping.tid, mapping.address, mapping.length, mapping.page_offset
+                    self.assertEqual(found, struct.unpack_from("<iiQQQ", body))
+                    self.assertEqual(recording.path(mapping), bytes(body[64 if is_mmap2 else 32:]).partition(b"\0")[0])
+                    has_build_id = is_mmap2 and bool(record.misc & 1 << 14)
+                    self.assertEqual(mapping.build_id, bytes(body[36:36 + body[32]]) if has_build_id else b"")
+                    file_id = mapping.major, mapping.minor, mapping.inode, mapping.inode_generation
+                    self.assertEqual(file_id, struct.unpack_from("<IIQQ", body, 32) if is_mmap2 and not has_build_id else (0, 0, 0, 0))
+                    self.assertEqual((mapping.protection, mapping.flags), struct.unpack_from("<II", body, 56) if is_mmap2 else (0, 0))
+            self.assertRaises(ValueError, lambda: recording.path(dewikura.Mapping()))
 
     def test_many_tasks(self):
         # More of them than the first array has elements.
@@ -334,6 +367,10 @@ class TaskTest(unittest.TestCase):
             for field in ("pid", "kind", "is_exec", "name_offset"):
                 self.assertEqual(tasks[field].tolist(), [getattr(task, field) for task in recording.tasks])
             self.assertEqual(tasks.itemsize, 56)
+            mappings = recording.mappings.to_numpy()
+            for field in ("address", "kind", "is_data", "build_id_size", "misc"):
+                self.assertEqual(mappings[field].tolist(), [getattr(mapping, field) for mapping in recording.mappings])
+            self.assertEqual((mappings.itemsize, mappings["build_id"].shape), (128, (len(mappings), 20)))
 
 
 class JitDumpTest(unittest.TestCase):

@@ -24,10 +24,12 @@ ghost use Rattle.perfdata_arrays.specs.Sorting.{SortsByTime};
 ghost use Rattle.perfdata_arrays.specs.Status.{IsCodeOf};
 ghost use Rattle.perfdata_arrays.specs.Strings.{ReadsString};
 ghost use Rattle.perfdata_arrays.specs.SymbolTables.{ReadsSymbolTables};
+ghost use Rattle.perfdata_samples.specs.Details.{ReadsDetails, format_of_attr};
+ghost use Rattle.perfdata_samples.specs.MappingPages.{ReadsMappingPage, ReadsPipeMappings};
 ghost use Rattle.perfdata_samples.specs.Pages.{ReadsSamplePage};
 ghost use Rattle.perfdata_samples.specs.Pipes.{ReadsPipeSamples};
 ghost use Rattle.perfdata_samples.specs.Status.{IsSamplesCodeOf, all_code_text};
-ghost use Rattle.perfdata_samples.specs.TaskPages.{ReadsTaskPage};
+ghost use Rattle.perfdata_samples.specs.TaskPages.{ReadsPipeTasks, ReadsTaskPage};
 ghost use Rattle.dewikura.specs.Numbers.{endian_from, number_of_bool};
 
 use linux_perf_data::Endianness;
@@ -46,10 +48,12 @@ use perfdata_arrays::{
     attrs, build_ids, byte_order, feature_set, features, jit, jit_bodies, jit_debug, meta_info,
     records, sort, strings, symbol_tables,
 };
+use perfdata_samples::details::SampleDetails;
 use perfdata_samples::frame::FrameEntry;
+use perfdata_samples::mappings::MappingEntry;
 use perfdata_samples::sample::Sample;
 use perfdata_samples::tasks::TaskEntry;
-use perfdata_samples::{pages, pipes, status, tasks};
+use perfdata_samples::{details, mappings, pages, pipes, status, tasks};
 use std::alloc::Global;
 
 /// The version of the library: 10,000 times the major number, 100 times the minor number, and the patch
@@ -168,6 +172,20 @@ pub extern "C" fn dewikura_read_pipe_samples_raw(
     outcome.status.code()
 }
 
+/// Decodes what else a sample has, as `details::read_details` does.
+#[unsafe(no_mangle)]
+pub extern "C" fn dewikura_read_sample_details_raw(
+    body: &[u8],
+    is_big_endian: u32,
+    attr: &Attr,
+    details: &mut SampleDetails,
+) -> u32
+    ensures { IsCodeOf result (λ s. ReadsDetails (format_of_attr (endian_from is_big_endian) attr.now)
+        body.now details.old s details.new) }
+{
+    details::read_details(endian_of(is_big_endian), attr, body, details).code()
+}
+
 /// Reads the records on tasks of a perf.data file from a cursor on, as `tasks::file_tasks` does.
 #[unsafe(no_mangle)]
 pub extern "C" fn dewikura_read_file_tasks_raw(
@@ -182,6 +200,55 @@ pub extern "C" fn dewikura_read_file_tasks_raw(
 {
     let outcome = tasks::file_tasks(alloc, input, cursor, entries);
     *count = outcome.count;
+    outcome.status.code()
+}
+
+/// Reads the records on tasks of a perf.data pipe, as `tasks::pipe_tasks` does.
+#[unsafe(no_mangle)]
+pub extern "C" fn dewikura_read_pipe_tasks_raw(
+    alloc: Global,
+    input: &[u8],
+    entries: &mut [TaskEntry],
+    total: &mut u64,
+) -> u32
+    ensures { IsCodeOf result (λ s. ReadsPipeTasks input.now entries.old
+        (record { count = total.new; status = s }) entries.new) }
+{
+    let outcome = tasks::pipe_tasks(alloc, input, entries);
+    *total = outcome.count;
+    outcome.status.code()
+}
+
+/// Reads the mappings of a perf.data file from a cursor on, as `mappings::file_mappings` does.
+#[unsafe(no_mangle)]
+pub extern "C" fn dewikura_read_file_mappings_raw(
+    alloc: Global,
+    input: &[u8],
+    cursor: &mut RecordPosition,
+    entries: &mut [MappingEntry],
+    count: &mut u64,
+) -> u32
+    ensures { IsCodeOf result (λ s. ReadsMappingPage input.now cursor.old entries.old
+        (record { count = count.new; status = s }) cursor.new entries.new) }
+{
+    let outcome = mappings::file_mappings(alloc, input, cursor, entries);
+    *count = outcome.count;
+    outcome.status.code()
+}
+
+/// Reads the mappings of a perf.data pipe, as `mappings::pipe_mappings` does.
+#[unsafe(no_mangle)]
+pub extern "C" fn dewikura_read_pipe_mappings_raw(
+    alloc: Global,
+    input: &[u8],
+    entries: &mut [MappingEntry],
+    total: &mut u64,
+) -> u32
+    ensures { IsCodeOf result (λ s. ReadsPipeMappings input.now entries.old
+        (record { count = total.new; status = s }) entries.new) }
+{
+    let outcome = mappings::pipe_mappings(alloc, input, entries);
+    *total = outcome.count;
     outcome.status.code()
 }
 

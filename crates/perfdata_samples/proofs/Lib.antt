@@ -5,8 +5,9 @@ pub mod Arrays
 pub mod RecordLemmas
 pub mod SampleBounds
 pub mod SampleWalks
-pub mod TaskWalks
+pub mod EntryWalks
 pub mod FilePages
 pub mod SamplePages
 pub mod PipeSamples
-pub mod TaskPageLemmas
+pub mod EntryPageLemmas
+pub mod PipeEntryLemmas

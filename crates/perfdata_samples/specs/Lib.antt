@@ -5,5 +5,11 @@ pub mod Status
 pub mod Records
 pub mod Pages
 pub mod Pipes
+pub mod Entries
+pub mod EntryPages
+pub mod PipeEntries
 pub mod Tasks
 pub mod TaskPages
+pub mod Mappings
+pub mod MappingPages
+pub mod Details

@@ -1,12 +1,17 @@
 //! Decodes the samples of recordings in memory into arrays of plain structs, with the frames of their call
-//! chains.
+//! chains, and their records on tasks and on mappings.
 //!
 //! Each call keeps no state and allocates no memory for a sample. It fills arrays that the caller passes.
 #![tactic(auto)]
 
 mod array;
 pub mod body;
+pub mod details;
+pub mod entries;
+mod entry;
+mod envelope;
 pub mod frame;
+pub mod mappings;
 pub mod pages;
 pub mod pipes;
 mod records;

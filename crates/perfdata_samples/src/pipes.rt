@@ -118,7 +118,7 @@ fn walk_all_samples(
 }
 
 // The status for the end of a walk.
-fn status_of_end(end: &Result<(), Error>) -> Status
+pub(crate) fn status_of_end(end: &Result<(), Error>) -> Status
     ensures { result ≡ walk_status end.now }
 {
     match end {

@@ -1,4 +1,5 @@
-//! A safe wrapper of the calls that list the records of perf.data files, perf pipes and jitdumps, and the samples of recordings.
+//! A safe wrapper of the calls that list the records of perf.data files, perf pipes and jitdumps, and the samples, tasks and mappings of
+//! recordings.
 //!
 //! A slice of Rust is never NULL and never changes while it is borrowed, so each call meets the obligations of `include/dewikura.h`.
 use std::fmt;
@@ -109,7 +110,80 @@ impl Samples {
     }
 }
 
+/// A record on a task, decoded (`struct dewikura_task`): its name, its start or its end.
+#[repr(C)]
+#[derive(Clone, Copy, Debug, Default, PartialEq, Eq)]
+pub struct Task {
+    pub offset: u64,
+    pub timestamp: u64,
+    name_offset: u64,
+    name_size: u64,
+    pub kind: u32,
+    is_exec: u32,
+    pub pid: i32,
+    pub tid: i32,
+    pub parent_pid: i32,
+    pub parent_tid: i32,
+}
+
+impl Task {
+    /// Whether the task has this name because it executed another program.
+    pub fn is_exec(&self) -> bool {
+        self.is_exec != 0
+    }
+
+    /// The bytes of the name in the input; empty for a start or an end.
+    pub fn name<'a>(&self, input: &'a [u8]) -> &'a [u8] {
+        &input[self.name_offset as usize..][..self.name_size as usize]
+    }
+}
+
+/// A mapping, decoded (`struct dewikura_mapping`). What it doesn't have is 0.
+#[repr(C)]
+#[derive(Clone, Copy, Debug, Default, PartialEq, Eq)]
+pub struct Mapping {
+    pub offset: u64,
+    pub timestamp: u64,
+    pub address: u64,
+    pub length: u64,
+    pub page_offset: u64,
+    pub inode: u64,
+    pub inode_generation: u64,
+    path_offset: u64,
+    path_size: u64,
+    pub kind: u32,
+    pub major: u32,
+    pub minor: u32,
+    pub protection: u32,
+    pub flags: u32,
+    pub pid: i32,
+    pub tid: i32,
+    build_id: [u8; 20],
+    build_id_size: u8,
+    is_data: u8,
+    pub misc: u16,
+    reserved: u32,
+}
+
+impl Mapping {
+    /// Whether the mapping isn't executable.
+    pub fn is_data(&self) -> bool {
+        self.is_data != 0
+    }
+
+    /// The build id of the file; empty if the record has none.
+    pub fn build_id(&self) -> &[u8] {
+        &self.build_id[..self.build_id_size as usize]
+    }
+
+    /// The bytes of the path in the input.
+    pub fn path<'a>(&self, input: &'a [u8]) -> &'a [u8] {
+        &input[self.path_offset as usize..][..self.path_size as usize]
+    }
+}
+
 const _: () = assert!(size_of::<Record>() == 56 && size_of::<JitRecord>() == 24 && size_of::<Sample>() == 88 && size_of::<Frame>() == 16);
+const _: () = assert!(size_of::<Task>() == 56 && size_of::<Mapping>() == 128);
 
 /// The status DEWIKURA_NO_SPACE.
 const NO_SPACE: u32 = 25;
@@ -124,6 +198,10 @@ extern "C" {
     fn dewikura_read_pipe_samples_raw(
         data: *const u8, size: usize, samples: *mut Sample, capacity: usize, total: *mut u64, frames: *mut Frame, frames_capacity: usize, frames_total: *mut u64,
     ) -> u32;
+    fn dewikura_read_file_tasks_raw(data: *const u8, size: usize, cursor: *mut Cursor, tasks: *mut Task, capacity: usize, count: *mut u64) -> u32;
+    fn dewikura_read_pipe_tasks_raw(data: *const u8, size: usize, tasks: *mut Task, capacity: usize, total: *mut u64) -> u32;
+    fn dewikura_read_file_mappings_raw(data: *const u8, size: usize, cursor: *mut Cursor, mappings: *mut Mapping, capacity: usize, count: *mut u64) -> u32;
+    fn dewikura_read_pipe_mappings_raw(data: *const u8, size: usize, mappings: *mut Mapping, capacity: usize, total: *mut u64) -> u32;
     fn dewikura_read_jit_records_raw(data: *const u8, size: usize, start_offset: u64, records: *mut JitRecord, capacity: usize, count: *mut u64, next_offset: *mut u64) -> u32;
 }
 
@@ -230,6 +308,57 @@ pub fn pipe_samples(input: &[u8]) -> (Samples, Result<(), Error>) {
         all.samples.resize(total as usize, Sample::default());
         all.frames.resize(frames_total as usize, Frame::default());
     }
+}
+
+type ReadFile<T> = unsafe extern "C" fn(*const u8, usize, *mut Cursor, *mut T, usize, *mut u64) -> u32;
+type ReadPipe<T> = unsafe extern "C" fn(*const u8, usize, *mut T, usize, *mut u64) -> u32;
+
+/// Reads a file page by page, by a call for the entries of `T`.
+fn file_entries<T: Copy + Default>(input: &[u8], read: ReadFile<T>) -> (Vec<T>, Result<(), Error>) {
+    let (mut entries, mut cursor) = (Vec::new(), Cursor::default());
+    let mut page = vec![T::default(); 1024];
+    loop {
+        let mut count = 0;
+        // SAFETY: the pointers are those of slices, with their lengths; the array is initialized.
+        let status = unsafe { read(input.as_ptr(), input.len(), &mut cursor, page.as_mut_ptr(), page.len(), &mut count) };
+        entries.extend_from_slice(&page[..count as usize]);
+        if status != 0 || (count as usize) < page.len() {
+            return (entries, result_of(status));
+        }
+    }
+}
+
+/// Reads a pipe, by a call for the entries of `T`: a first call counts, and a second one fills the array.
+fn pipe_entries<T: Copy + Default>(input: &[u8], read: ReadPipe<T>) -> (Vec<T>, Result<(), Error>) {
+    let (mut entries, mut total) = (Vec::new(), 0);
+    loop {
+        // SAFETY: the pointers are those of slices, with their lengths; the array is initialized.
+        let status = unsafe { read(input.as_ptr(), input.len(), entries.as_mut_ptr(), entries.len(), &mut total) };
+        if total as usize == entries.len() {
+            return (entries, result_of(status));
+        }
+        entries.resize(total as usize, T::default());
+    }
+}
+
+/// Returns the records on tasks of a perf.data file, and the error after them.
+pub fn file_tasks(input: &[u8]) -> (Vec<Task>, Result<(), Error>) {
+    file_entries(input, dewikura_read_file_tasks_raw)
+}
+
+/// Returns the records on tasks of a perf.data pipe, and the error after them.
+pub fn pipe_tasks(input: &[u8]) -> (Vec<Task>, Result<(), Error>) {
+    pipe_entries(input, dewikura_read_pipe_tasks_raw)
+}
+
+/// Returns the mappings of a perf.data file, and the error after them.
+pub fn file_mappings(input: &[u8]) -> (Vec<Mapping>, Result<(), Error>) {
+    file_entries(input, dewikura_read_file_mappings_raw)
+}
+
+/// Returns the mappings of a perf.data pipe, and the error after them.
+pub fn pipe_mappings(input: &[u8]) -> (Vec<Mapping>, Result<(), Error>) {
+    pipe_entries(input, dewikura_read_pipe_mappings_raw)
 }
 
 /// Returns the complete records of a jitdump from an offset on, the offset after them, and the error there.

@@ -11,7 +11,8 @@ def numpy_dtype(struct: Type[ctypes.Structure]) -> Any:
     """The dtype of a struct, with the header's names."""
     import numpy
 
-    codes = {ctypes.c_uint64: "u8", ctypes.c_uint32: "u4", ctypes.c_uint16: "u2", ctypes.c_uint8: "u1", ctypes.c_int32: "i4"}
+    codes = {ctypes.c_uint64: "u8", ctypes.c_uint32: "u4", ctypes.c_uint16: "u2", ctypes.c_uint8: "u1", ctypes.c_int32: "i4",
+             ctypes.c_uint8 * 20: "20u1"}
     members = [(name.lstrip("_"), codes[kind], getattr(struct, name).offset) for name, kind in struct._fields_ if kind in codes]
     names, formats, offsets = zip(*members)
     return numpy.dtype({"names": names, "formats": formats, "offsets": offsets, "itemsize": ctypes.sizeof(struct)})

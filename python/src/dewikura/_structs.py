@@ -109,6 +109,40 @@ class Frame(ctypes.Structure):
         return f"Frame(address={self.address:#x}, context={self.context!r})"
 
 
+class SampleDetails(ctypes.Structure):
+    """What else a sample has. What it doesn't have is 0. Offsets are in bytes from the start of its body."""
+
+    stream_id: int
+    weight: int
+    data_source: int
+    transaction: int
+    physical_address: int
+    cgroup: int
+    data_page_size: int
+    code_page_size: int
+    raw_offset: int
+    raw_size: int
+    branches_offset: int
+    branches_count: int
+    branches_hw_index: int
+    user_abi: int
+    user_registers_offset: int
+    user_registers_count: int
+    user_stack_offset: int
+    user_stack_size: int
+    user_stack_dynamic_size: int
+    interrupt_abi: int
+    interrupt_registers_offset: int
+    interrupt_registers_count: int
+    aux_offset: int
+    aux_size: int
+    _fields_ = [(name, u64) for name in (
+        "stream_id", "weight", "data_source", "transaction", "physical_address", "cgroup", "data_page_size", "code_page_size", "raw_offset",
+        "raw_size", "branches_offset", "branches_count", "branches_hw_index", "user_abi", "user_registers_offset", "user_registers_count",
+        "user_stack_offset", "user_stack_size", "user_stack_dynamic_size", "interrupt_abi", "interrupt_registers_offset",
+        "interrupt_registers_count", "aux_offset", "aux_size")]
+
+
 class Task(ctypes.Structure):
     """A record on a task: its name, its start or its end."""
 
@@ -135,6 +169,56 @@ class Task(ctypes.Structure):
 
     def __repr__(self) -> str:
         return f"Task(kind={self.kind!r}, offset={self.offset}, timestamp={self.timestamp}, pid={self.pid}, tid={self.tid})"
+
+
+class Mapping(ctypes.Structure):
+    """A mapping of a file into memory. What it doesn't have is 0."""
+
+    offset: int
+    timestamp: int
+    address: int
+    length: int
+    page_offset: int
+    inode: int
+    inode_generation: int
+    path_offset: int
+    path_size: int
+    major: int
+    minor: int
+    protection: int
+    flags: int
+    pid: int
+    tid: int
+    build_id_size: int
+    misc: int
+    _fields_ = [*((name, u64) for name in ("offset", "timestamp", "address", "length", "page_offset", "inode", "inode_generation", "path_offset",
+                                           "path_size")),
+                *((name, u32) for name in ("_kind", "major", "minor", "protection", "flags")), ("pid", i32), ("tid", i32),
+                ("_build_id", u8 * 20), ("build_id_size", u8), ("_is_data", u8), ("misc", u16), ("_reserved", u32)]
+
+    @property
+    def kind(self) -> RecordType:
+        """MMAP or MMAP2."""
+        return RecordType(self._kind)
+
+    @property
+    def build_id(self) -> bytes:
+        """The build id of the file; empty if the record has none."""
+        return bytes(self._build_id[:self.build_id_size])
+
+    @property
+    def is_data(self) -> bool:
+        """Whether the mapping isn't executable."""
+        return bool(self._is_data)
+
+    @property
+    def cpu_mode(self) -> Union[CpuMode, int]:
+        """KERNEL for a mapping of the kernel, USER for one of a program."""
+        return known(CpuMode, self.misc & 7)
+
+    def __repr__(self) -> str:
+        return (f"Mapping(offset={self.offset}, timestamp={self.timestamp}, pid={self.pid}, address={self.address:#x}, length={self.length:#x}, "
+                f"page_offset={self.page_offset:#x})")
 
 
 class Attr(ctypes.Structure):
@@ -249,7 +333,7 @@ class JitDebugEntryStruct(ctypes.Structure):
     _fields_ = [("code_address", u64), ("path_offset", u64), ("path_size", u64), ("line", u32), ("column", u32)]
 
 
-for _struct, _size in ((Record, 56), (Sample, 88), (Frame, 16), (Task, 56), (Attr, 168), (AttrTotals, 24), (FeatureSet, 32), (BuildIdEntry, 48),
+for _struct, _size in ((Record, 56), (Sample, 88), (Frame, 16), (SampleDetails, 192), (Task, 56), (Mapping, 128), (Attr, 168), (AttrTotals, 24), (FeatureSet, 32), (BuildIdEntry, 48),
                        (JitHeaderStruct, 40), (JitRecord, 24), (JitLoadStruct, 64), (StringStruct, 24), (JitMoveStruct, 48), (JitUnwindingStruct, 40),
                        (MetaPairStruct, 32), (SymbolFileStruct, 72), (SymbolStruct, 32), (SymbolTotals, 32), (JitDebugEntryStruct, 32)):
     if ctypes.sizeof(_struct) != _size:

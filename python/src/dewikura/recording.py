@@ -10,11 +10,11 @@ import mmap
 import os
 import sys
 from ctypes import c_uint8 as u8, c_uint64 as u64
-from typing import Any, ContextManager, Iterator, Literal, Mapping, NamedTuple, Optional, Tuple, Union
+from typing import Any, ContextManager, Iterator, Literal, Mapping as AnyMapping, NamedTuple, Optional, Tuple, Type, TypeVar, Union
 
 from . import _native, _structs
 from ._arrays import StructSequence
-from ._structs import Frame, Record, Sample, Task, known
+from ._structs import Frame, Mapping, Record, Sample, SampleDetails, Task, known
 from .constants import AttrFlag, DsoKind, EventType, Feature, ReadFormat, SampleType, Status, SymbolFileType
 from .errors import PerfDataError, check, error_of
 
@@ -24,6 +24,7 @@ else:
     Buffer = Any
 
 PathLike = Union[str, "os.PathLike[str]"]
+S = TypeVar("S", bound=StructSequence[Any])
 
 
 class Kind(enum.Enum):
@@ -76,6 +77,12 @@ class Tasks(StructSequence[Task]):
     """The records on tasks of a recording: their names, starts and ends."""
 
     _struct = Task
+
+
+class Mappings(StructSequence[Mapping]):
+    """The mappings of a recording."""
+
+    _struct = Mapping
 
 
 @dataclasses.dataclass(frozen=True)
@@ -193,7 +200,7 @@ class _Growing:
             self.array = larger
 
 
-class _Features(Mapping[int, memoryview]):
+class _Features(AnyMapping[int, memoryview]):
     """The feature sections of a recording, by number. A section is read when it is first used."""
 
     def __init__(self, recording: "Recording", numbers: Tuple[int, ...]) -> None:
@@ -289,17 +296,24 @@ class Recording(ContextManager["Recording"]):
         """The frames of all samples, in the order of the samples. Raises the first error of the input."""
         return self.samples._frames
 
+    def details(self, record: Record) -> SampleDetails:
+        """Returns what else the record of a sample has. Its offsets are those in `body(record)`."""
+        details, attribute = SampleDetails(), self._keep("attrs", self._read_attrs)[0][record.attr_index]
+        with _native.Input(self.body(record)) as (address, size):
+            check(_native.read_sample_details(address, size, self.byteorder == "big", attribute, details))
+        return details
+
     def samples_by_time(self) -> Samples:
         """A copy of all samples in order of time: those without a time first, samples with one time in the order of the input."""
         return self._keep("samples_by_time", lambda _data: self._samples_sorted(self.samples))
 
     def partial_tasks(self) -> Tuple[Tasks, Optional[Exception]]:
         """Returns the records on tasks before the first error, and that error, or None if there is none."""
-        return self._keep("tasks", self._read_tasks)
+        return self._keep("tasks", lambda data: self._read_entries(data, Tasks))
 
     @property
     def tasks(self) -> Tasks:
-        """All records on tasks (COMM, FORK and EXIT) of a file, in its order, decoded. Raises the first error of the input."""
+        """All records on tasks (COMM, FORK and EXIT) in the order of the input, decoded. Raises the first error of the input."""
         tasks, error = self.partial_tasks()
         if error is not None:
             raise error
@@ -308,6 +322,22 @@ class Recording(ContextManager["Recording"]):
     def name(self, task: Task) -> bytes:
         """Returns the name that a record of `tasks` gives to its task; empty for a start or an end."""
         return bytes(self._data[task.name_offset:task.name_offset + task.name_size])
+
+    def partial_mappings(self) -> Tuple[Mappings, Optional[Exception]]:
+        """Returns the mappings before the first error, and that error, or None if there is none."""
+        return self._keep("mappings", lambda data: self._read_entries(data, Mappings))
+
+    @property
+    def mappings(self) -> Mappings:
+        """All mappings (MMAP and MMAP2) in the order of the input, decoded. Raises the first error of the input."""
+        mappings, error = self.partial_mappings()
+        if error is not None:
+            raise error
+        return mappings
+
+    def path(self, mapping: Mapping) -> bytes:
+        """Returns the path of the file of a mapping."""
+        return bytes(self._data[mapping.path_offset:mapping.path_offset + mapping.path_size])
 
     def events(self) -> Iterator[Record]:
         """Iterates over the records with an attribute, which the kernel wrote."""
@@ -323,10 +353,10 @@ class Recording(ContextManager["Recording"]):
     @property
     def attributes(self) -> Tuple[Attribute, ...]:
         """The event attributes, with their names and ids."""
-        return self._keep("attributes", self._read_attributes)
+        return self._keep("attributes", lambda _data: self._read_attributes())
 
     @property
-    def features(self) -> Mapping[int, memoryview]:
+    def features(self) -> AnyMapping[int, memoryview]:
         """The feature sections, by number."""
         return self._keep("features", self._read_feature_set)
 
@@ -336,7 +366,7 @@ class Recording(ContextManager["Recording"]):
         return self._keep("build_ids", self._read_build_ids)
 
     @property
-    def simpleperf_meta_info(self) -> Mapping[str, str]:
+    def simpleperf_meta_info(self) -> AnyMapping[str, str]:
         """Simpleperf's meta info on the recording; empty without it. The last value of a key counts."""
         return self._keep("simpleperf_meta_info", lambda _data: self._read_meta_info())
 
@@ -466,16 +496,15 @@ class Recording(ContextManager["Recording"]):
             capacity, frames_capacity = total.value, frames_total.value
             samples, frames = (Sample * max(capacity, 1))(), (Frame * max(frames_capacity, 1))()
 
-    def _read_tasks(self, data: memoryview) -> Tuple[Tasks, Optional[Exception]]:
-        if self.kind is Kind.PIPE:
-            raise NotImplementedError("the library reads the tasks of files only")
-        array, count, status = self._read_file_entries(data, Task, _native.read_file_tasks)
-        return Tasks(array, range(count)), None if status == Status.OK else error_of(status)
+    def _read_entries(self, data: memoryview, kind: Type[S]) -> Tuple[S, Optional[Exception]]:
+        read = self._read_file_entries if self.kind is Kind.FILE else self._read_pipe_entries
+        array, count, status = read(data, kind._struct)
+        return kind(array, range(count)), None if status == Status.OK else error_of(status)
 
     @staticmethod
-    def _read_file_entries(data: memoryview, struct: Any, read: Any) -> Tuple[Any, int, int]:
+    def _read_file_entries(data: memoryview, struct: Any) -> Tuple[Any, int, int]:
         """Fills an array, which grows while the file has more entries."""
-        cursor, count, entries = _structs.Cursor(), u64(), _Growing(struct, len(data) // 1024 + 1)
+        read, cursor, count, entries = _native.read_file_entries[struct], _structs.Cursor(), u64(), _Growing(struct, len(data) // 1024 + 1)
         with _native.Input(data) as (address, size):
             while True:
                 status = read(address, size, cursor, entries.free(), entries.capacity - entries.used, count)
@@ -483,6 +512,18 @@ class Recording(ContextManager["Recording"]):
                 if status != Status.OK or entries.used < entries.capacity:
                     return entries.array, entries.used, status
                 entries.grow(1)
+
+    @staticmethod
+    def _read_pipe_entries(data: memoryview, struct: Any) -> Tuple[Any, int, int]:
+        """Fills an array, and then a larger one if the pipe has more entries."""
+        read, total, capacity = _native.read_pipe_entries[struct], u64(), len(data) // 1024 + 1
+        while True:
+            array = (struct * capacity)()
+            with _native.Input(data) as (address, size):
+                status = read(address, size, array, capacity, total)
+            if total.value <= capacity:
+                return array, total.value, status
+            capacity = total.value
 
     @staticmethod
     def _samples_sorted(samples: Samples) -> Samples:
@@ -499,7 +540,8 @@ class Recording(ContextManager["Recording"]):
         check(_native.sort_records(array, len(records)))
         return Records(array, range(len(records)))
 
-    def _read_attributes(self, data: memoryview) -> Tuple[Attribute, ...]:
+    def _read_attrs(self, data: memoryview) -> Tuple[Any, bytes, Any, int]:
+        """The attributes, their names and ids, and the number of attributes."""
         totals, capacities = _structs.AttrTotals(), (0, 0, 0)
         while True:
             attrs, names, ids = ((kind * max(count, 1))() for kind, count in zip((_structs.Attr, u8, u64), capacities))
@@ -511,8 +553,11 @@ class Recording(ContextManager["Recording"]):
                 break
             capacities = found
         check(status)
-        all_names = bytes(names)
-        return tuple(_attribute(index, attrs[index], all_names, ids) for index in range(totals.attr_count))
+        return attrs, bytes(names), ids, totals.attr_count
+
+    def _read_attributes(self) -> Tuple[Attribute, ...]:
+        attrs, names, ids, count = self._keep("attrs", self._read_attrs)
+        return tuple(_attribute(index, attrs[index], names, ids) for index in range(count))
 
     def _read_feature_set(self, data: memoryview) -> _Features:
         found = _structs.FeatureSet()
@@ -546,7 +591,7 @@ class Recording(ContextManager["Recording"]):
         return tuple(found)
 
 
-    def _read_meta_info(self) -> Mapping[str, str]:
+    def _read_meta_info(self) -> AnyMapping[str, str]:
         section, count, capacity = self.features.get(Feature.SIMPLEPERF_META_INFO, memoryview(b"")), u64(), 0
         with _native.Input(section) as (address, size):
             while True:

@@ -5,18 +5,17 @@ use Rattle.std.specs.Prelude.{slice_get}
 use Rattle.linux_perf_data.specs.PerfFile.{descriptions_of_file, endian_of_file}
 use Rattle.perfdata_events.specs.EventFormat.{event_format_of}
 use Rattle.perfdata_samples.proofs.RecordLemmas.{format_at}
-use Rattle.perfdata_samples.proofs.TaskWalks.{unwrap_zero}
-use Rattle.perfdata_samples.specs.Tasks.{event_task}
-use Rattle.perfdata_samples.proofs.tasks.record_task.Goals as goal
+use Rattle.perfdata_samples.proofs.EntryWalks.{unwrap_zero}
+use Rattle.perfdata_samples.proofs.entry.entry_of_record.Goals as goal
 
 pub returns-in-Ok : goal.returns-in-Ok
-returns-in-Ok c =
+returns-in-Ok g c =
     let index = c.in-EventRecord.attr_index in
     let all = c.event_attributes.result.now in
     let lookup = c.in_ok-description.ensures.lookup in
     let found = ap (λ l. slice_get l index) (sym c.event_attributes.ensures.are) ∙ slice_get_read all (length all) index c.in_ok-description.description.now refl lookup.3.0 lookup.1 in
     rw c.in-EventRecord.is (inl (
-      sym c.is_task_type.ensures ∙ c.if-not-is_task_type.false,
+      sym c.is_of_type.ensures ∙ c.if-not-is_of_type.false,
       record {
         format = c.new-format.result;
         format_is = format_at (endian_of_file c.args.file.now) (descriptions_of_file c.args.file.now) index c.in-EventRecord.event.parse_info c.in_ok-description.description.now found
@@ -25,12 +24,12 @@ returns-in-Ok c =
         raw_is = record { record_type = refl; misc = refl; body = refl };
         parsed = c.in-Ok.parsed;
         is_parsed = c.in-Ok.ensures.value;
-        task_is = c.event_task.ensures ∙ ap (λ t. event_task c.args.place.offset t (c.args.base + c.args.place.offset + 16) c.in-Ok.parsed) (c.unwrap_or.ensures ∙ unwrap_zero c.args.place.timestamp);
+        entry_is = c.of_event.ensures ∙ ap (λ t. g.E.RecordEntry.entry_of (record { offset = c.args.place.offset; timestamp = t; body_offset = c.args.base + c.args.place.offset + 8; misc = c.in-EventRecord.event.misc }) c.in-Ok.parsed) (c.unwrap_or.ensures ∙ unwrap_zero c.args.place.timestamp);
       },
     ))
 
 pub returns-in-Err : goal.returns-in-Err
-returns-in-Err c =
+returns-in-Err g c =
     let index = c.in-EventRecord.attr_index in
     let all = c.event_attributes.result.now in
     let lookup = c.in_ok-description.ensures.lookup in

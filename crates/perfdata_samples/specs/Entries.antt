@@ -1,0 +1,72 @@
+-- The entries of the records of one kind, as plain numbers.
+use Rattle.std.specs.Prelude.{◌≡◌, ◌⊎◌, ℕ, ◌+◌, ◌++◌, Bool, true, false, List, [], ◌∷◌, Option, None, Some}
+use Rattle.std.specs.declared.io.ErrorKind.{ErrorKind}
+use Rattle.perfdata_base.specs.Raw.{bytes_of}
+use Rattle.perfdata_base.specs.declared.event.RawEventRecord.{RawEventRecord}
+use Rattle.perfdata_base.specs.declared.raw.Endianness.{Endianness}
+use Rattle.linux_perf_data.specs.Attribute.{Attribute}
+use Rattle.linux_perf_data.specs.Layout.{RecordView}
+use Rattle.linux_perf_data.specs.RecordEntries.{or_zero}
+use Rattle.perfdata_events.specs.Event.{IsParsed, ParseFails}
+use Rattle.perfdata_events.specs.declared.event.EventRecord.{EventRecord}
+use Rattle.perfdata_events.specs.declared.format.EventFormat.{EventFormat}
+use Rattle.perfdata_samples.specs.Records.{format_of_event}
+use Rattle.perfdata_samples.specs.declared.envelope.EntryEnvelope.{EntryEnvelope}
+
+-- a raw record with these fields
+pub record IsRawOf (h : RecordView) (raw : RawEventRecord) : Type 0 where
+  pub record_type : raw.record_type.0 ≡ h.record_type
+  pub misc : raw.misc ≡ h.misc
+  pub body : bytes_of raw.body ≡ h.body
+
+-- What an entry has beside the fields of its record's body, which is after the record header.
+abbrev pub entry_envelope : ℕ → RecordView → EntryEnvelope
+entry_envelope base h = record {
+  offset = h.offset;
+  timestamp = or_zero h.timestamp;
+  body_offset = base + h.offset + 8;
+  misc = h.misc;
+}
+
+-- the record can't be parsed by the format of its attribute
+pub record FailsToParse (order : Endianness) (attrs : List Attribute) (h : RecordView) : Type 0 where
+  pub format : EventFormat
+  pub format_is : format_of_event order attrs h.event ≡ Some format
+  pub raw : RawEventRecord
+  pub raw_is : IsRawOf h raw
+  pub kind : ErrorKind
+  pub fails : ParseFails format raw kind
+
+module _ {E : Type 0} (has_type : ℕ → Bool) (entry_of : EntryEnvelope → EventRecord → Option E) (order : Endianness) (attrs : List Attribute) (base : ℕ) (h : RecordView) where
+  -- the record is parsed by the format of its attribute, and this is its entry, if it has one
+  pub record ParsesEntry (entry : Option E) : Type 0 where
+    pub format : EventFormat
+    pub format_is : format_of_event order attrs h.event ≡ Some format
+    pub raw : RawEventRecord
+    pub raw_is : IsRawOf h raw
+    pub parsed : EventRecord
+    pub is_parsed : IsParsed format raw parsed
+    pub entry_is : entry ≡ entry_of (entry_envelope base h) parsed
+
+  -- The entry of a record: if it is of one of the types, belongs to an attribute, and can be parsed. The first record of the input is at
+  -- offset `base`.
+  abbrev pub IsEntryOf : Option E → Type 0
+  IsEntryOf entry = ((has_type h.record_type ≡ true) × ParsesEntry entry)
+      ⊎ ((entry ≡ None) × ((has_type h.record_type ≡ false) ⊎ ((format_of_event order attrs h.event ≡ None) ⊎ FailsToParse order attrs h)))
+
+-- ---- the entries of records
+
+abbrev pub list_of : {E : Type 0} → Option E → List E
+list_of None = []
+list_of (Some entry) = entry ∷ []
+
+-- Says which entry a record has, by a byte order, attributes and the offset of the first record.
+abbrev pub EntryRelation : Type 0 → Type 1
+EntryRelation E = Endianness → List Attribute → ℕ → RecordView → Option E → Type 0
+
+-- The entries of records, in the order of the records. `attrs_after` are the attributes that are known after some records.
+pub data AreEntriesOf {E : Type 0} (IsOf : EntryRelation E) (order : Endianness) (attrs_after : List RecordView → List Attribute) (base : ℕ) : List RecordView → List E → Type 0 where
+  of_no_records : AreEntriesOf IsOf order attrs_after base [] []
+  of_one_more : (records : List RecordView) (entries : List E) (h : RecordView) (entry : Option E)
+      → AreEntriesOf IsOf order attrs_after base records entries → IsOf order (attrs_after (records ++ h ∷ [])) base h entry
+      → AreEntriesOf IsOf order attrs_after base (records ++ h ∷ []) (entries ++ list_of entry)
