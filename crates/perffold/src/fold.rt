@@ -9,7 +9,7 @@ use crate::symbols::FileCounts;
 use bitflags::Flags;
 use linux_perf_data::attr::PerfEventAttr;
 use linux_perf_data::event::RawEventRecord;
-use linux_perf_data::{Error, PerfFile, PerfFileRecord};
+use linux_perf_data::{Error, PerfFile, PerfFileRecord, UserRecordType};
 use perfdata_cli::error::InputError;
 use perfdata_cli::position::Position;
 use perfdata_events::bits::EventFlags;
@@ -246,6 +246,10 @@ impl<'a> Folder<'a> {
         match record {
             PerfFileRecord::EventRecord { attr_index, event } => {
                 self.add_event(file, *attr_index, event)
+            }
+            PerfFileRecord::UserRecord(user)
+                if user.record_type == UserRecordType::PERF_HEADER_BUILD_ID => {
+                self.frame_names.add_build_id(user)
             }
             PerfFileRecord::UserRecord(_) => Ok(()),
         }

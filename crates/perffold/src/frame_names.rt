@@ -3,7 +3,7 @@
 use crate::names::NameTable;
 use crate::symbols::kernel::KERNEL_PATH;
 use crate::symbols::{FileCounts, Lookup, Symbols};
-use linux_perf_data::{Error, PerfFile};
+use linux_perf_data::{Error, PerfFile, RawUserRecord};
 use perfdata_events::call_chain::{CallContext, Frame};
 use perfdata_events::event::EventRecord;
 use perfdata_spaces::address_spaces::{AddressSpaces, context_of_mode};
@@ -141,6 +141,14 @@ impl<'a> FrameNames<'a> {
     pub(crate) fn read_metadata(&mut self, file: &PerfFile) -> Result<(), Error> {
         match &mut self.source {
             NameSource::Symbols(symbols) => symbols.read_metadata(file),
+            _ => Ok(()),
+        }
+    }
+
+    /// Adds the build id that a HEADER_BUILD_ID record has.
+    pub(crate) fn add_build_id(&mut self, record: &RawUserRecord<'_>) -> Result<(), Error> {
+        match &mut self.source {
+            NameSource::Symbols(symbols) => symbols.add_build_id(record),
             _ => Ok(()),
         }
     }

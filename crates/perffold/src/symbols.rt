@@ -2,7 +2,9 @@
 
 use crate::names::NameTable;
 use crate::options::SymbolOptions;
-use linux_perf_data::{Error, PerfFile, SimpleperfFileRecord, SimpleperfTypeSpecificInfo};
+use linux_perf_data::{
+    Error, PerfFile, RawUserRecord, SimpleperfFileRecord, SimpleperfTypeSpecificInfo,
+};
 use perfdata_base::source::CountedBuffer;
 use perfdata_events::call_chain::CallContext;
 use perfdata_spaces::mapping::{Mapping, PROTECTION_EXEC};
@@ -171,13 +173,18 @@ impl<'a> Symbols<'a> {
     /// Reads the build ids and the symbols of the recording.
     pub(crate) fn read_metadata(&mut self, file: &PerfFile) -> Result<(), Error> {
         let alloc = self.rt.alloc();
-        self.build_ids = BuildIds::read(alloc, file)?;
+        self.build_ids.add_metadata(alloc, file)?;
         if let Some(records) = file.simpleperf_symbol_tables(alloc)? {
             for record in records.iter() {
                 self.add_recorded(record)?;
             }
         }
         Ok(())
+    }
+
+    /// Adds the build id that a HEADER_BUILD_ID record has.
+    pub(crate) fn add_build_id(&mut self, record: &RawUserRecord<'_>) -> Result<(), Error> {
+        self.build_ids.add_record(self.rt.alloc(), record)
     }
 
     /// Adds a mapping of a process or of the kernel.

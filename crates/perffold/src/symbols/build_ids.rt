@@ -1,9 +1,14 @@
 //! The build ids of a recording.
 
-use linux_perf_data::{Error, PerfFile};
+use linux_perf_data::build_id_event::BuildIdEvent;
+use linux_perf_data::raw::Endianness;
+use linux_perf_data::{Error, PerfFile, RawUserRecord};
 use perfdata_spaces::mapping::Mapping;
 use std::alloc::Global;
 use std::collections::HashMap;
+
+/// The size of a record header in bytes.
+const HEADER_SIZE: usize = 8;
 
 /// The recorded build ids, by path.
 #[derive(Drop)]
@@ -18,14 +23,32 @@ impl BuildIds {
         }
     }
 
-    /// Reads the build ids of a recording.
-    pub(crate) fn read(alloc: Global, file: &PerfFile) -> Result<BuildIds, Error> {
-        let mut of_paths = HashMap::new(alloc);
+    /// Adds the build ids of a recording's metadata.
+    pub(crate) fn add_metadata(&mut self, alloc: Global, file: &PerfFile) -> Result<(), Error> {
         for object in file.build_ids(alloc)?.values() {
             let path = object.path.to_vec(alloc)?;
-            of_paths.insert(path, object.build_id.to_vec(alloc)?)?;
+            self.of_paths.insert(path, object.build_id.to_vec(alloc)?)?;
         }
-        Ok(BuildIds { of_paths })
+        Ok(())
+    }
+
+    /// Adds the build id of a HEADER_BUILD_ID record, by which pipes have them. Its fields are those of an
+    /// entry of the section BUILD_ID after the entry's header.
+    pub(crate) fn add_record(
+        &mut self,
+        alloc: Global,
+        record: &RawUserRecord<'_>,
+    ) -> Result<(), Error> {
+        let size = u16::try_from(HEADER_SIZE.saturating_add(record.body.len()));
+        let mut entry = Vec::new(alloc);
+        entry.extend_from_slice(&[0; 4])?;
+        entry.extend_from_slice(&record.misc.to_le_bytes())?;
+        entry.extend_from_slice(&size.unwrap_or(u16::MAX).to_le_bytes())?;
+        entry.extend_from_slice(record.body.as_slice(alloc)?.as_ref())?;
+        let mut bytes = entry.as_slice();
+        let event = BuildIdEvent::read_from_in(alloc, Endianness::LittleEndian, &mut bytes)?;
+        self.of_paths.insert(event.file_path, event.build_id)?;
+        Ok(())
     }
 
     /// Returns the build id of a mapping, which is empty if it isn't known.
