@@ -18,7 +18,6 @@
 //   types        a file with SIZE event types, an identifier for each, and one sample
 //   pmu          a file with SIZE PMU mappings, whose numbers decrease, and one sample
 //   jit          a jitdump of loads, moves and debug info
-//   jit-one      a jitdump of one load of SIZE bytes
 #include "bytes.h"
 #include <stdio.h>
 #include <stdlib.h>
@@ -455,15 +454,6 @@ static void write_jit_header(void) {
     write_bytes(header, sizeof header);
 }
 
-static void write_jit_one(uint64_t size) {
-    unsigned char record[64] = {0};
-    write_jit_header();
-    put_jit_head(record, 0, size, 1000000000);
-    put(record + 40, size - 57, 8);
-    write_bytes(record, sizeof record);
-    for (uint64_t written = sizeof record; written < size; written++) write_bytes("", 1);
-}
-
 static void write_jit(uint64_t wanted) {
     write_jit_header();
     uint64_t state = 1, size = JIT_HEADER;
@@ -484,7 +474,7 @@ int main(int argc, char **argv) {
         {"late", write_late}, {"late-named", write_late_named}, {"described", write_described}, {"opening", write_opening}, {"renamed", write_renamed},
         {"ids-up", write_ids_up}, {"ids-down", write_ids_down}, {"single-up", write_single_up}, {"single-down", write_single_down},
         {"attributes", write_attribute_section}, {"types", write_types}, {"pmu", write_pmu},
-        {"jit", write_jit}, {"jit-one", write_jit_one},
+        {"jit", write_jit},
     };
     if (argc != 4) return 1;
     out = fopen(argv[2], "wb");
