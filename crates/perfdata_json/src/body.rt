@@ -1,4 +1,7 @@
 //! The line of a record by its type.
+ghost use Rattle.std.specs.Prelude.{◌≡◌, slice_get};
+ghost use Rattle.std.specs.Option.{option_copied, option_map};
+ghost use Rattle.linux_perf_data.specs.PerfFile.{descriptions_of_file};
 
 use crate::fields::Bytes;
 use crate::kernel::{
@@ -10,9 +13,9 @@ use crate::names::error_name;
 use crate::sample::{Read, Sample};
 use crate::serializer::LineSerializer;
 use crate::user::{AttributeAndIds, AuxArea, Threads};
-use linux_perf_data::{PerfFile, PerfFileRecord, RecordPlace};
+use linux_perf_data::{AttributeDescription, PerfFile, PerfFileRecord, RecordPlace};
 use perfdata_base::event::{RawEventRecord, RecordType};
-use perfdata_base::raw::RawData;
+use perfdata_base::raw::{Endianness, RawData};
 use perfdata_events::event::EventRecord;
 use perfdata_events::format::EventFormat;
 use perfdata_events::sample::SampleRecord;
@@ -41,6 +44,38 @@ struct Unparsed<'a> {
 #[derive(Clone, Copy, Serialize)]
 struct Invalid {
     error: &'static str,
+}
+
+/// What the attribute of a kernel record says of its line: the name of the event, and the format of the body.
+#[derive(Clone, Copy)]
+struct EventAttribute<'a> {
+    name: Option<&'a str>,
+    format: EventFormat,
+}
+
+// The attribute with this index.
+fn attribute_at(file: &PerfFile, index: usize) -> Option<&AttributeDescription>
+    ensures { option_copied result ≡ slice_get (descriptions_of_file file.now) index }
+{
+    file.event_attributes().get(index)
+}
+
+impl<'a> EventAttribute<'a> {
+    ghost use Rattle.perfdata_json.specs.Line.{format_at, name_at};
+
+    /// The attribute of a record, by its index in `file`. `None` if `file` doesn't contain it.
+    fn find(file: &'a PerfFile, attr_index: usize, endian: Endianness) -> Option<EventAttribute<'a>>
+        ensures name { option_map (λ found. option_map (λ s. s.now) found.name) result
+            ≡ name_at (descriptions_of_file file.now) attr_index }
+        ensures format { option_map (λ found. found.format) result
+            ≡ format_at (descriptions_of_file file.now) attr_index endian }
+    {
+        let description = attribute_at(file, attr_index)?;
+        Some(EventAttribute {
+            name: description.name(),
+            format: EventFormat::new(description.attributes(), endian),
+        })
+    }
 }
 
 impl BodyWriter {
@@ -167,27 +202,22 @@ impl BodyWriter {
         place: RecordPlace,
         record: &PerfFileRecord<'_>,
     ) -> Result<(), AllocError> {
-        let mut line = Envelope {
-            place,
-            attr_index: record.attr_index().map(|index| index as u64),
-            event: None,
-            record_type: record.record_type().0,
-            misc: record.misc(),
-            sample_id: None,
-        };
         match record {
             PerfFileRecord::EventRecord { attr_index, event } => {
-                let Some(description) = file.event_attributes().get(*attr_index) else {
-                    return self.unparsed(out, &line, event.body);
+                let endian = event.parse_info.endian;
+                let Some(attribute) = EventAttribute::find(file, *attr_index, endian) else {
+                    return self.unparsed(out, &Envelope::new(place, record, None), event.body);
                 };
-                line.event = description.name();
-                let format = EventFormat::new(description.attributes(), event.parse_info.endian);
+                let line = Envelope::new(place, record, attribute.name);
+                let format = &attribute.format;
                 if event.record_type == RecordType::SAMPLE && format.has_known_fields() {
-                    return self.sample(out, &line, &format, event);
+                    return self.sample(out, &line, format, event);
                 }
-                self.other_record(out, &line, &format, event)
+                self.other_record(out, &line, format, event)
             }
-            PerfFileRecord::UserRecord(user) => self.user_record(out, &line, user),
+            PerfFileRecord::UserRecord(user) => {
+                self.user_record(out, &Envelope::new(place, record, None), user)
+            }
         }
     }
 }

@@ -59,7 +59,43 @@ pub(crate) struct Envelope<'a> {
     pub(crate) sample_id: Option<SampleIdMembers>,
 }
 
-impl Envelope<'_> {
+impl<'a> Envelope<'a> {
+    ghost use Rattle.linux_perf_data.specs.RecordViews.{record_view_of};
+    ghost use Rattle.perfdata_json.specs.Line.{HasMembersOf};
+
+    /// The members of the line of a record, of which the event has the name `event`. The sample_id fields are
+    /// absent.
+    pub(crate) fn new(
+        place: RecordPlace,
+        file_record: &PerfFileRecord<'_>,
+        event: Option<&'a str>,
+    ) -> Envelope<'a>
+        ensures members { HasMembersOf (record_view_of place file_record.now) result }
+        ensures same_event { result.event ≡ event.entry }
+    {
+        match file_record {
+            PerfFileRecord::EventRecord {
+                attr_index,
+                event: raw,
+            } => Envelope {
+                place,
+                attr_index: Some(*attr_index as u64),
+                event,
+                record_type: raw.record_type.0,
+                misc: raw.misc,
+                sample_id: None,
+            },
+            PerfFileRecord::UserRecord(user) => Envelope {
+                place,
+                attr_index: None,
+                event,
+                record_type: user.record_type.record_type().0,
+                misc: user.misc,
+                sample_id: None,
+            },
+        }
+    }
+
     /// Writes the JSON of a line with the members of a body. Fails if memory runs out: no value of a line has
     /// another error.
     pub(crate) fn write<T: Serialize>(
