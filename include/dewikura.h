@@ -78,7 +78,7 @@ enum dewikura_status_code {
     DEWIKURA_JIT_WRONG_TYPE = 22,         // the jitdump record at this offset is of another type
     DEWIKURA_JIT_BAD_BODY = 23,           // the body of the jitdump record is malformed
     DEWIKURA_BAD_SYMBOL_TABLE = 24,       // a record of simpleperf's symbol tables is malformed
-    DEWIKURA_NO_SPACE = 25                // the array of frames is smaller than a call chain
+    DEWIKURA_NO_SPACE = 25                // the array is too small for the next record
 };
 
 // ---- structs: numbers are in the machine's byte order, whatever the byte order of the input is
@@ -195,6 +195,17 @@ struct dewikura_mapping {
     uint8_t is_data;           // 1 if the mapping isn't executable, otherwise 0
     uint16_t misc;             // misc bits of the record header; `misc & 7` is a DEWIKURA_MODE_*
     uint32_t reserved;         // 0
+};
+
+// The value of a counter in a sample or in a READ record, decoded. A record has a value for each counter of its group. What its attribute's
+// read_format (DEWIKURA_READ_* bits) doesn't select is 0.
+struct dewikura_counter {
+    uint64_t value;
+    uint64_t id;           // of the event, one of the ids of an attribute
+    uint64_t time_enabled; // in nanoseconds; of the group if the values are those of a group
+    uint64_t time_running; // as time_enabled
+    uint64_t lost;         // how many samples of the event were lost
+    uint64_t sample;       // `offset` of the record, as in dewikura_sample and dewikura_record
 };
 
 // An event attribute: perf_event_attr, by the kernel's names.
@@ -666,6 +677,10 @@ DEWIKURA_NONNULL dewikura_status dewikura_read_file_mappings_raw(const void *dat
     struct dewikura_mapping *mappings, size_t capacity, uint64_t *count);
 DEWIKURA_NONNULL dewikura_status dewikura_read_pipe_mappings_raw(const void *data, size_t size, struct dewikura_mapping *mappings,
     size_t capacity, uint64_t *total);
+DEWIKURA_NONNULL dewikura_status dewikura_read_file_counters_raw(const void *data, size_t size, struct dewikura_cursor *cursor,
+    struct dewikura_counter *counters, size_t capacity, uint64_t *count);
+DEWIKURA_NONNULL dewikura_status dewikura_read_pipe_counters_raw(const void *data, size_t size, struct dewikura_counter *counters,
+    size_t capacity, uint64_t *total);
 DEWIKURA_NONNULL dewikura_status dewikura_sort_records_raw(struct dewikura_record *records, size_t count);
 DEWIKURA_NONNULL dewikura_status dewikura_read_file_attrs_raw(const void *data, size_t size, struct dewikura_attr *attrs,
     size_t attrs_capacity, char *names, size_t names_capacity, uint64_t *ids, size_t ids_capacity, struct dewikura_attr_totals *totals);
@@ -853,6 +868,41 @@ DEWIKURA_NODISCARD static inline dewikura_status dewikura_read_pipe_mappings(con
     struct dewikura_mapping no_mapping;
     uint64_t unused;
     return dewikura_read_pipe_mappings_raw(data ? data : &no_data, size, mappings ? mappings : &no_mapping, capacity,
+        total ? total : &unused);
+}
+
+// Writes the counter values of a perf.data file's samples and READ records from *cursor on, in the order of the file, those of as many
+// records as `capacity` allows, and moves *cursor past the last of these records. `data` is the whole file. The first call has a cursor of
+// zeros. With NULL for `cursor`, a call starts at the first record. A record that can't be decoded is left out.
+//
+// *count is the number of written values; `count` may be NULL. A call with the moved cursor writes the values that follow. If *count is 0
+// and the status is DEWIKURA_OK, there are no more, or `capacity` is 0. Calls with arrays of any capacity write the same values as one call
+// with an array for all of them.
+//
+// DEWIKURA_NO_SPACE means that the next record has more values than `capacity`; *count is their number, none is written, and *cursor is at
+// the record. The other errors are those of dewikura_read_file_records.
+DEWIKURA_NODISCARD static inline dewikura_status dewikura_read_file_counters(const void *data, size_t size, struct dewikura_cursor *cursor,
+    struct dewikura_counter *counters, size_t capacity, uint64_t *count)
+{
+    const char no_data = 0;
+    struct dewikura_cursor first = {0, 0};
+    struct dewikura_counter no_counter;
+    uint64_t unused;
+    return dewikura_read_file_counters_raw(data ? data : &no_data, size, cursor ? cursor : &first, counters ? counters : &no_counter,
+        capacity, count ? count : &unused);
+}
+
+// Writes the counter values of a pipe, up to `capacity`. `data` is the whole pipe. A truncated record ends a pipe without an error.
+//
+// *total counts all values; after an error those before it, and 0 if the pipe doesn't open. `total` may be NULL. The errors are those of
+// dewikura_read_pipe_records.
+DEWIKURA_NODISCARD static inline dewikura_status dewikura_read_pipe_counters(const void *data, size_t size,
+    struct dewikura_counter *counters, size_t capacity, uint64_t *total)
+{
+    const char no_data = 0;
+    struct dewikura_counter no_counter;
+    uint64_t unused;
+    return dewikura_read_pipe_counters_raw(data ? data : &no_data, size, counters ? counters : &no_counter, capacity,
         total ? total : &unused);
 }
 

@@ -1,7 +1,7 @@
 // `entries file|pipe PATH` prints a line for each record on a task and for each mapping of a recording: its fields, and the bytes of its
 // name or path in hexadecimal; then a line with the status of each call. Before that it reads them once more with small arrays, the entries
-// of a file in pages, and fails if anything differs. Then it prints a line for the details of each sample: their numbers, and the bytes of
-// their parts.
+// of a file in pages, and fails if anything differs. Then it prints a line for the details of each sample, with their numbers and the bytes
+// of their parts, and one for each counter value of a sample or a READ record.
 #include "dewikura.h"
 #include <inttypes.h>
 #include <stdio.h>
@@ -135,6 +135,67 @@ static void print_mappings(void)
     free(all);
 }
 
+static dewikura_status read_counters(struct dewikura_cursor *cursor, void *array, size_t capacity, uint64_t *count)
+{
+    return is_pipe ? dewikura_read_pipe_counters(data, size, array, capacity, count)
+                   : dewikura_read_file_counters(data, size, cursor, array, capacity, count);
+}
+
+// Reads the counters of a file in calls with small arrays, each as large as the next record needs.
+static void check_counter_pages(size_t capacity, const struct dewikura_counter *wanted, uint64_t wanted_count, dewikura_status wanted_status)
+{
+    struct dewikura_cursor cursor = {0, 0};
+    uint64_t done = 0, count;
+    dewikura_status status;
+    do {
+        struct dewikura_cursor before = cursor;
+        uint8_t *page = malloc((capacity + 1) * sizeof *wanted);
+        if (!page)
+            exit(2);
+        memset(page, 0xaa, (capacity + 1) * sizeof *wanted);
+        status = read_counters(&cursor, page, capacity, &count);
+        if (status == DEWIKURA_NO_SPACE) {
+            if (count <= capacity || !is_unchanged(page, (capacity + 1) * sizeof *wanted))
+                fail("no space, but written", done);
+            // The markers before the record are skipped.
+            if (cursor.offset < before.offset || count > wanted_count - done)
+                fail("no space for another record", done);
+            capacity = (size_t)count;
+        } else {
+            if (count > capacity || count > wanted_count - done || memcmp(page, wanted + done, (size_t)count * sizeof *wanted))
+                fail("other counters in a page", done);
+            if (!is_unchanged(page + count * sizeof *wanted, (capacity + 1 - (size_t)count) * sizeof *wanted))
+                fail("written after the last counter", done);
+            done += count;
+        }
+        free(page);
+    } while (status == DEWIKURA_NO_SPACE || (status == DEWIKURA_OK && count > 0));
+    if (status != wanted_status || done != wanted_count)
+        fail("another end of the counters", done);
+}
+
+static void print_counters(void)
+{
+    size_t capacity = size / 8 + 1;
+    uint64_t count, i;
+    struct dewikura_counter *all = calloc(capacity, sizeof *all);
+    dewikura_status status;
+    if (!all)
+        exit(2);
+    status = read_counters(NULL, all, capacity, &count);
+    if (is_pipe) {
+        check_few(read_counters, sizeof *all, (const uint8_t *)all, count, status);
+    } else {
+        check_counter_pages(1, all, count, status);
+        check_counter_pages(7, all, count, status);
+    }
+    for (i = 0; i < count; i++)
+        printf("counter %" PRIu64 " %" PRIu64 " %" PRIu64 " %" PRIu64 " %" PRIu64 " %" PRIu64 "\n", all[i].sample, all[i].value, all[i].id,
+            all[i].time_enabled, all[i].time_running, all[i].lost);
+    printf("counters %u\n", status);
+    free(all);
+}
+
 static void *array(size_t count, size_t entry_size)
 {
     void *made = calloc(count + 1, entry_size);
@@ -204,6 +265,7 @@ int main(int argc, char **argv)
     print_tasks();
     print_mappings();
     print_details();
+    print_counters();
     free(bytes);
     return 0;
 }

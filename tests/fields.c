@@ -43,14 +43,14 @@ static void check(uint64_t value, uint64_t expected, const char *what, int line)
 #define SAMPLE_TYPE (DEWIKURA_SAMPLE_IDENTIFIER | DEWIKURA_SAMPLE_IP)
 
 // A perf_event_attr of 136 bytes.
-static void put_attr(uint64_t config, uint64_t sample_type)
+static void put_attr_of_counters(uint64_t config, uint64_t sample_type, uint64_t read_format)
 {
     put(0x21, 4); // type
     put(136, 4);
     put(config, 8);
     put(0x1102, 8); // sample_period
     put(sample_type, 8);
-    put(DEWIKURA_READ_TOTAL_TIME_ENABLED | DEWIKURA_READ_LOST, 8);
+    put(read_format, 8);
     put(DEWIKURA_ATTR_SAMPLE_ID_ALL | DEWIKURA_ATTR_MMAP, 8);
     put(0x22, 4);   // wakeup_events
     put(0x23, 4);   // bp_type
@@ -68,6 +68,11 @@ static void put_attr(uint64_t config, uint64_t sample_type)
     put(0, 4);
     put(0x1108, 8); // sig_data
     put(0x1109, 8); // config3
+}
+
+static void put_attr(uint64_t config, uint64_t sample_type)
+{
+    put_attr_of_counters(config, sample_type, DEWIKURA_READ_TOTAL_TIME_ENABLED | DEWIKURA_READ_LOST);
 }
 
 static void put_header(uint32_t type, uint16_t misc, uint16_t record_size)
@@ -506,6 +511,76 @@ static void check_mappings(void)
     CHECK(dewikura_read_file_mappings(NULL, 0, NULL, NULL, 0, NULL), DEWIKURA_TRUNCATED);
     CHECK(dewikura_read_pipe_mappings(NULL, 0, NULL, 0, NULL), DEWIKURA_TRUNCATED);
     CHECK(dewikura_read_pipe_tasks(NULL, 0, NULL, 0, NULL), DEWIKURA_TRUNCATED);
+}
+
+static void check_counter(const struct dewikura_counter *counter, uint64_t first, uint64_t sample)
+{
+    CHECK(counter->value, first);
+    CHECK(counter->id, first + 1);
+    CHECK(counter->time_enabled, 0xa01);
+    CHECK(counter->time_running, 0xa02);
+    CHECK(counter->lost, first + 2);
+    CHECK(counter->sample, sample);
+}
+
+// The counts and the times of a group, and this many numbers from `first` on.
+static void put_group(uint64_t count, uint64_t first, uint64_t numbers)
+{
+    uint64_t i;
+    put(count, 8);
+    put(0xa01, 8);
+    put(0xa02, 8);
+    for (i = 0; i < numbers; i++)
+        put(first + i, 8);
+}
+
+// A file with one attribute of a group: a sample with two counters, a READ record with one, and a sample that is truncated.
+static void check_counters(void)
+{
+    struct dewikura_cursor cursor = {0, 0};
+    struct dewikura_counter counters[4];
+    uint64_t count = 0;
+    size = 0;
+    put_text("PERFILE2", 8);
+    put(104, 8);
+    put(152, 8); // the size of an entry of the attribute section
+    put(104, 8);
+    put(152, 8);
+    put(256, 8); // the data section
+    put(88 + 72 + 40, 8);
+    put(0, 48);
+    put_attr_of_counters(0x1101, DEWIKURA_SAMPLE_READ | DEWIKURA_SAMPLE_IDENTIFIER,
+        DEWIKURA_READ_GROUP | DEWIKURA_READ_TOTAL_TIME_ENABLED | DEWIKURA_READ_TOTAL_TIME_RUNNING | DEWIKURA_READ_ID | DEWIKURA_READ_LOST);
+    put(0, 16);
+    put_header(DEWIKURA_RECORD_SAMPLE, 2, 88);
+    put(1, 8); // identifier
+    put_group(2, 0xb01, 6);
+    put_header(DEWIKURA_RECORD_READ, 0, 72);
+    put(0x901, 4);
+    put(0x902, 4);
+    put_group(1, 0xc01, 3);
+    put(1, 8); // identifier
+    put_header(DEWIKURA_RECORD_SAMPLE, 2, 40);
+    put(1, 8);
+    put_group(2, 0, 0);
+    memset(counters, 0xab, sizeof counters);
+    CHECK(dewikura_read_file_counters(input, size, &cursor, counters, 1, &count), DEWIKURA_NO_SPACE);
+    CHECK(count, 2);
+    CHECK(cursor.offset, 0);
+    CHECK(counters[0].value, UINT64_C(0xabababababababab));
+    CHECK(dewikura_read_file_counters(input, size, &cursor, counters, 2, &count), DEWIKURA_OK);
+    CHECK(count, 2);
+    CHECK(cursor.offset, 88);
+    check_counter(counters, 0xb01, 0);
+    check_counter(counters + 1, 0xb04, 0);
+    CHECK(counters[2].value, UINT64_C(0xabababababababab));
+    CHECK(dewikura_read_file_counters(input, size, &cursor, counters, 4, &count), DEWIKURA_OK);
+    CHECK(count, 1);
+    check_counter(counters, 0xc01, 88);
+    CHECK(dewikura_read_file_counters(input, size, &cursor, counters, 4, &count), DEWIKURA_OK);
+    CHECK(count, 0);
+    CHECK(dewikura_read_file_counters(NULL, 0, NULL, NULL, 0, NULL), DEWIKURA_TRUNCATED);
+    CHECK(dewikura_read_pipe_counters(NULL, 0, NULL, 0, NULL), DEWIKURA_TRUNCATED);
 }
 
 // The body of a sample with all parts.
@@ -1015,6 +1090,7 @@ int main(void)
     check_samples();
     check_tasks();
     check_mappings();
+    check_counters();
     check_details();
     check_build_id();
     check_string();

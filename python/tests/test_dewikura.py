@@ -324,6 +324,21 @@ class TaskTest(unittest.TestCase):
                     self.assertEqual((task.pid, task.tid, task.parent_pid, task.parent_tid, recording.name(task), task.is_exec), wanted)
             self.assertRaises(ValueError, lambda: recording.name(dewikura.Task()))
 
+    def test_counters(self):
+        """No recording has any: a file with an attribute of a group, and samples with more counters than the first array has elements."""
+        read_format = dewikura.ReadFormat.GROUP | dewikura.ReadFormat.ID
+        attribute = struct.pack("<IIQQQQQ", 1, 136, 0, 1, 1 << 16 | 1 << 4, read_format, 0) + bytes(136 - 48)
+        counters = [(0xb00 + index, 0xc00 + index) for index in range(40)]
+        body = struct.pack("<QQ", 1, len(counters)) + b"".join(struct.pack("<QQ", *counter) for counter in counters)
+        records = 2 * (struct.pack("<IHH", 9, 2, 8 + len(body)) + body)
+        header = b"PERFILE2" + struct.pack("<QQQQQQ", 104, 152, 104, 152, 256, len(records)) + bytes(48)
+        with dewikura.from_buffer(header + attribute + bytes(16) + records) as recording:
+            found = [(counter.value, counter.id, counter.sample) for counter in recording.counters]
+            self.assertEqual(found, [(*counter, sample) for sample in (0, 8 + len(body)) for counter in counters])
+            self.assertEqual({(counter.time_enabled, counter.time_running, counter.lost) for counter in recording.counters}, {(0, 0, 0)})
+        with dewikura.open(SEVERAL) as recording:
+            self.assertEqual(len(recording.counters), 0)
+
     def test_mappings(self):
         kinds = dewikura.RecordType
         for path in (CALLS, CALLS_PIPE, FIRST, SEVERAL):

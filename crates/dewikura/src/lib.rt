@@ -24,6 +24,7 @@ ghost use Rattle.perfdata_arrays.specs.Sorting.{SortsByTime};
 ghost use Rattle.perfdata_arrays.specs.Status.{IsCodeOf};
 ghost use Rattle.perfdata_arrays.specs.Strings.{ReadsString};
 ghost use Rattle.perfdata_arrays.specs.SymbolTables.{ReadsSymbolTables};
+ghost use Rattle.perfdata_samples.specs.CounterPages.{ReadsCounterPage, ReadsPipeCounters};
 ghost use Rattle.perfdata_samples.specs.Details.{ReadsDetails, format_of_attr};
 ghost use Rattle.perfdata_samples.specs.MappingPages.{ReadsMappingPage, ReadsPipeMappings};
 ghost use Rattle.perfdata_samples.specs.Pages.{ReadsSamplePage};
@@ -48,12 +49,13 @@ use perfdata_arrays::{
     attrs, build_ids, byte_order, feature_set, features, jit, jit_bodies, jit_debug, meta_info,
     records, sort, strings, symbol_tables,
 };
+use perfdata_samples::counters::CounterEntry;
 use perfdata_samples::details::SampleDetails;
 use perfdata_samples::frame::FrameEntry;
 use perfdata_samples::mappings::MappingEntry;
 use perfdata_samples::sample::Sample;
 use perfdata_samples::tasks::TaskEntry;
-use perfdata_samples::{details, mappings, pages, pipes, status, tasks};
+use perfdata_samples::{counters, details, mappings, pages, pipes, status, tasks};
 use std::alloc::Global;
 
 /// The version of the library: 10,000 times the major number, 100 times the minor number, and the patch
@@ -248,6 +250,39 @@ pub extern "C" fn dewikura_read_pipe_mappings_raw(
         (record { count = total.new; status = s }) entries.new) }
 {
     let outcome = mappings::pipe_mappings(alloc, input, entries);
+    *total = outcome.count;
+    outcome.status.code()
+}
+
+/// Reads the counter values of a perf.data file from a cursor on, as `counters::file_counters` does.
+#[unsafe(no_mangle)]
+pub extern "C" fn dewikura_read_file_counters_raw(
+    alloc: Global,
+    input: &[u8],
+    cursor: &mut RecordPosition,
+    entries: &mut [CounterEntry],
+    count: &mut u64,
+) -> u32
+    ensures { IsSamplesCodeOf result (λ s. ReadsCounterPage input.now cursor.old entries.old
+        (record { count = count.new; status = s }) cursor.new entries.new) }
+{
+    let outcome = counters::file_counters(alloc, input, cursor, entries);
+    *count = outcome.count;
+    outcome.status.code()
+}
+
+/// Reads the counter values of a perf.data pipe, as `counters::pipe_counters` does.
+#[unsafe(no_mangle)]
+pub extern "C" fn dewikura_read_pipe_counters_raw(
+    alloc: Global,
+    input: &[u8],
+    entries: &mut [CounterEntry],
+    total: &mut u64,
+) -> u32
+    ensures { IsCodeOf result (λ s. ReadsPipeCounters input.now entries.old
+        (record { count = total.new; status = s }) entries.new) }
+{
+    let outcome = counters::pipe_counters(alloc, input, entries);
     *total = outcome.count;
     outcome.status.code()
 }

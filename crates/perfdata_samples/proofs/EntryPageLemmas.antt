@@ -57,44 +57,44 @@ module _ {E : Type 0} (IsOf : EntryRelation E) where
 
     module _ (entries : List E) (records : List RecordView) (now : InMemoryRecords) (now_file : PerfFile) (all : ReturnsRecordsInMemory reader.records file records now now_file) (own : List E)
         (are : AreEntriesOf IsOf (endian_of_file file) (attributes_after reader.records file) (first_record_offset_of reader.records) records own) (new : InMemoryRecords) (file' : PerfFile) where
-      are_of_file : AreEntriesOf IsOf (endian_of_file file) (λ _. attributes_of_file file) (first_record_offset_of reader.records) records own
-      are_of_file = subst (λ f. AreEntriesOf IsOf (endian_of_file file) f (first_record_offset_of reader.records) records own) (λ i. λ before. unchanged bytes from reader parsed before i) are
+      pub entries_of_file : AreEntriesOf IsOf (endian_of_file file) (λ _. attributes_of_file file) (first_record_offset_of reader.records) records own
+      entries_of_file = subst (λ f. AreEntriesOf IsOf (endian_of_file file) f (first_record_offset_of reader.records) records own) (λ i. λ before. unchanged bytes from reader parsed before i) are
 
-      first : (records ≡ []) ⊎ (first_record_offset_of reader.records ≡ base)
-      first = (let s = streamed bytes from reader parsed records now now_file all in first_is_base records (with_buffer now.iter s.0) now_file s.1)
+      pub first_at : (records ≡ []) ⊎ (first_record_offset_of reader.records ≡ base)
+      first_at = (let s = streamed bytes from reader parsed records now now_file all in first_is_base records (with_buffer now.iter s.0) now_file s.1)
 
       page_is : (end : Option (Result (Unit {0}) Error)) → EndsEntries (length own) (length entries) now now_file end new file' → IsEntryPage IsOf bytes from (length entries) own (entry_page_status end) (position_of now)
       page_is None full = record {
         records = records;
         base = base;
         first_record_offset = first_record_offset_of reader.records;
-        first_is_base = first;
+        first_is_base = first_at;
         records_capacity = length records;
         end = Success;
         page = page_of bytes from reader parsed records now now_file all (length records) Success (inl (refl, refl));
-        are_entries = are_of_file;
+        are_entries = entries_of_file;
         ends = inl (full, refl);
       }
       page_is (Some (Ok x)) ended = record {
         records = records;
         base = base;
         first_record_offset = first_record_offset_of reader.records;
-        first_is_base = first;
+        first_is_base = first_at;
         records_capacity = length records + 1;
         end = Success;
         page = page_of bytes from reader parsed records now now_file all (length records + 1) Success (page_to_end bytes from reader parsed records now now_file all new file' (Ok x) ended.1 ended.2);
-        are_entries = are_of_file;
+        are_entries = entries_of_file;
         ends = inr (ended.0, omega arith, refl);
       }
       page_is (Some (Err e)) ended = record {
         records = records;
         base = base;
         first_record_offset = first_record_offset_of reader.records;
-        first_is_base = first;
+        first_is_base = first_at;
         records_capacity = length records + 1;
         end = error_status e;
         page = page_of bytes from reader parsed records now now_file all (length records + 1) (error_status e) (page_to_end bytes from reader parsed records now now_file all {A = Unit {0}} new file' (Err e) ended.1 ended.2);
-        are_entries = are_of_file;
+        are_entries = entries_of_file;
         ends = inr (ended.0, omega arith, refl);
       }
 

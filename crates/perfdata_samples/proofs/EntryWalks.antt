@@ -65,40 +65,54 @@ module _ {E : Type 0} (IsOf : EntryRelation E) where
     written = refl;
   }
 
-  -- a record and its entry
-  pub one_entry_more : (start now new : InMemoryRecords) (file now_file new_file : PerfFile) (entries : List E) (count : ℕ) (entries' : List E) (place : RecordPlace) (r : PerfFileRecord) (so_far : EntriesSoFar start file entries count now now_file entries')
-      → ReturnsRecordInMemory now now_file place r new new_file → KeepsInput now new → (base added : ℕ) (entry : Option E) (after : List E) → base ≡ first_record_offset_of start
-      → IsOf (endian_of_file new_file) (attributes_of_file new_file) base (record_view_of place r) entry → added ≡ length (list_of entry) → after ≡ with_entries_at count (list_of entry) entries'
-      → EntriesSoFar start file entries (count + added) new new_file after
-  one_entry_more start now new file now_file new_file entries count entries' place r so_far step kept base added entry after base_is is added_is written =
-      let h = record_view_of place r in
-      let records = so_far.records in
-      let order = start.iter.endian in
-      let bound = section_size_of memory_state start.iter in
-      let counted = so_far.count_is in
-      let attributes_next : attributes_of_file new_file ≡ attributes_after start file (records ++ h ∷ []) =
-      step.returns.file_updates.attributes
-      ∙ ap (λ l. l ++ attributes_in_record now.iter.endian (section_size_of memory_state now.iter) h.record_type h.body) so_far.attributes_are
-      ∙ (λ i. (attributes_of_file file ++ attributes_in_views order bound records) ++ attributes_in_record (so_far.same_endian i) (so_far.same_section i) h.record_type h.body)
-      ∙ append_assoc (attributes_of_file file) (attributes_in_views order bound records) (attributes_in_record order bound h.record_type h.body)
-      ∙ ap (λ l. attributes_of_file file ++ l) (sym (one_more_attribute order bound records h)) in
-      let endian_next : endian_of_file new_file ≡ endian_of_file file = step.returns.file_updates.same_endian ∙ so_far.same_file_endian in
-      let is_here : IsOf (endian_of_file file) (attributes_after start file (records ++ h ∷ [])) (first_record_offset_of start) h entry =
-      subst (λ n. IsOf (endian_of_file file) (attributes_after start file (records ++ h ∷ [])) n h entry) base_is
-      (subst (λ l. IsOf (endian_of_file file) l base h entry) attributes_next (subst (λ o. IsOf o (attributes_of_file new_file) base h entry) endian_next is)) in
-      record {
-        records = records ++ h ∷ [];
-        returned = one_call_more start now new file now_file new_file records place r so_far.returned step;
-        same_first = kept.first_record_offset ∙ so_far.same_first;
-        attributes_are = attributes_next;
-        same_file_endian = endian_next;
-        same_endian = step.returns.same_input.same_endian ∙ so_far.same_endian;
-        same_section = step.returns.same_input.section_size ∙ so_far.same_section;
-        own = so_far.own ++ list_of entry;
-        are_entries = of_one_more records so_far.own h entry so_far.are_entries is_here;
-        count_is = omega (arith, counted, added_is, length-append so_far.own (list_of entry));
-        written = more_entries count so_far.own (list_of entry) entries entries' after counted so_far.written written;
-      }
+  module _ (start now new : InMemoryRecords) (file now_file new_file : PerfFile) (entries : List E) (count : ℕ) (entries' : List E) (place : RecordPlace) (r : PerfFileRecord) (so_far : EntriesSoFar start file entries count now now_file entries')
+      (step : ReturnsRecordInMemory now now_file place r new new_file) (kept : KeepsInput now new) where
+    abbrev h : RecordView
+    h = record_view_of place r
+
+    attributes_next : attributes_of_file new_file ≡ attributes_after start file (so_far.records ++ h ∷ [])
+    attributes_next =
+        let records = so_far.records in
+        let order = start.iter.endian in
+        let bound = section_size_of memory_state start.iter in
+        step.returns.file_updates.attributes
+        ∙ ap (λ l. l ++ attributes_in_record now.iter.endian (section_size_of memory_state now.iter) h.record_type h.body) so_far.attributes_are
+        ∙ (λ i. (attributes_of_file file ++ attributes_in_views order bound records) ++ attributes_in_record (so_far.same_endian i) (so_far.same_section i) h.record_type h.body)
+        ∙ append_assoc (attributes_of_file file) (attributes_in_views order bound records) (attributes_in_record order bound h.record_type h.body)
+        ∙ ap (λ l. attributes_of_file file ++ l) (sym (one_more_attribute order bound records h))
+
+    endian_next : endian_of_file new_file ≡ endian_of_file file
+    endian_next = step.returns.file_updates.same_endian ∙ so_far.same_file_endian
+
+    pub returned_next : ReturnsRecordsInMemory start file (so_far.records ++ h ∷ []) new new_file
+    returned_next = one_call_more start now new file now_file new_file so_far.records place r so_far.returned step
+
+    -- the entries of the next record
+    pub entries_next : (base : ℕ) (own : List E) → base ≡ first_record_offset_of start → IsOf (endian_of_file new_file) (attributes_of_file new_file) base h own
+        → IsOf (endian_of_file file) (attributes_after start file (so_far.records ++ h ∷ [])) (first_record_offset_of start) h own
+    entries_next base own base_is is =
+        subst (λ n. IsOf (endian_of_file file) (attributes_after start file (so_far.records ++ h ∷ [])) n h own) base_is
+        (subst (λ l. IsOf (endian_of_file file) l base h own) attributes_next (subst (λ o. IsOf o (attributes_of_file new_file) base h own) endian_next is))
+
+    -- a record and its entries
+    pub one_record_of_entries : (base added : ℕ) (own after : List E) → base ≡ first_record_offset_of start
+        → IsOf (endian_of_file new_file) (attributes_of_file new_file) base h own → added ≡ length own → after ≡ with_entries_at count own entries'
+        → EntriesSoFar start file entries (count + added) new new_file after
+    one_record_of_entries base added own after base_is is added_is written =
+        let counted = so_far.count_is in
+        record {
+          records = so_far.records ++ h ∷ [];
+          returned = returned_next;
+          same_first = kept.first_record_offset ∙ so_far.same_first;
+          attributes_are = attributes_next;
+          same_file_endian = endian_next;
+          same_endian = step.returns.same_input.same_endian ∙ so_far.same_endian;
+          same_section = step.returns.same_input.section_size ∙ so_far.same_section;
+          own = so_far.own ++ own;
+          are_entries = of_one_more so_far.records so_far.own h own so_far.are_entries (entries_next base own base_is is);
+          count_is = omega (arith, counted, added_is, length-append so_far.own own);
+          written = more_entries count so_far.own own entries entries' after counted so_far.written written;
+        }
 
   pub walks_entries : (start now new : InMemoryRecords) (file now_file file' : PerfFile) (entries : List E) (count : ℕ) (entries' : List E) (next : RecordPosition) (end : Option (Result (Unit {0}) Error))
       → (so_far : EntriesSoFar start file entries count now now_file entries') → count ≤ length entries → next ≡ position_of now → EndsEntries count (length entries) now now_file end new file'

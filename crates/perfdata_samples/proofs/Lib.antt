@@ -11,3 +11,5 @@ pub mod SamplePages
 pub mod PipeSamples
 pub mod EntryPageLemmas
 pub mod PipeEntryLemmas
+pub mod CounterLemmas
+pub mod CounterPageLemmas

@@ -23,14 +23,14 @@ use Rattle.perfdata_samples.specs.declared.sample.Sample.{Sample}
 
 -- ---- the bytes after a field
 
-after_within : (format : ℕ) (words xs : List ℕ) → length (after format words xs) ≤ length xs
+pub after_within : (format : ℕ) (words xs : List ℕ) → length (after format words xs) ≤ length xs
 after_within format [] xs = omega arith
 after_within format (w ∷ ws) xs =
     let rest = drop (word_size (is_set format w)) xs in
     let more = after_within format ws rest in
     omega (arith, more, length-drop (word_size (is_set format w)) xs)
 
-length-u64s_of : (of : ℕ → List ℕ → ℕ) (n : ℕ) (xs : List ℕ) → length (u64s_of of n xs) ≡ n
+pub length-u64s_of : (of : ℕ → List ℕ → ℕ) (n : ℕ) (xs : List ℕ) → length (u64s_of of n xs) ≡ n
 length-u64s_of of zero xs = refl
 length-u64s_of of (suc n) xs = (let e = length-u64s_of of n (drop 8 xs) in omega (arith, e))
 

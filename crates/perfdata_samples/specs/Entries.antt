@@ -37,36 +37,40 @@ pub record FailsToParse (order : Endianness) (attrs : List Attribute) (h : Recor
   pub kind : ErrorKind
   pub fails : ParseFails format raw kind
 
-module _ {E : Type 0} (has_type : ℕ → Bool) (entry_of : EntryEnvelope → EventRecord → Option E) (order : Endianness) (attrs : List Attribute) (base : ℕ) (h : RecordView) where
-  -- the record is parsed by the format of its attribute, and this is its entry, if it has one
-  pub record ParsesEntry (entry : Option E) : Type 0 where
+module _ {E : Type 0} (has_type : ℕ → Bool) (entries_of : EntryEnvelope → EventRecord → List E) (order : Endianness) (attrs : List Attribute) (base : ℕ) (h : RecordView) where
+  -- the record is parsed by the format of its attribute, and these are its entries
+  pub record ParsesEntries (entries : List E) : Type 0 where
     pub format : EventFormat
     pub format_is : format_of_event order attrs h.event ≡ Some format
     pub raw : RawEventRecord
     pub raw_is : IsRawOf h raw
     pub parsed : EventRecord
     pub is_parsed : IsParsed format raw parsed
-    pub entry_is : entry ≡ entry_of (entry_envelope base h) parsed
+    pub entries_are : entries ≡ entries_of (entry_envelope base h) parsed
 
-  -- The entry of a record: if it is of one of the types, belongs to an attribute, and can be parsed. The first record of the input is at
+  -- The entries of a record: if it is of one of the types, belongs to an attribute, and can be parsed. The first record of the input is at
   -- offset `base`.
-  abbrev pub IsEntryOf : Option E → Type 0
-  IsEntryOf entry = ((has_type h.record_type ≡ true) × ParsesEntry entry)
-      ⊎ ((entry ≡ None) × ((has_type h.record_type ≡ false) ⊎ ((format_of_event order attrs h.event ≡ None) ⊎ FailsToParse order attrs h)))
+  abbrev pub HasEntries : List E → Type 0
+  HasEntries entries = ((has_type h.record_type ≡ true) × ParsesEntries entries)
+      ⊎ ((entries ≡ []) × ((has_type h.record_type ≡ false) ⊎ ((format_of_event order attrs h.event ≡ None) ⊎ FailsToParse order attrs h)))
 
 -- ---- the entries of records
+
+-- Says which entries a record has, by a byte order, attributes and the offset of the first record.
+abbrev pub EntryRelation : Type 0 → Type 1
+EntryRelation E = Endianness → List Attribute → ℕ → RecordView → List E → Type 0
 
 abbrev pub list_of : {E : Type 0} → Option E → List E
 list_of None = []
 list_of (Some entry) = entry ∷ []
 
--- Says which entry a record has, by a byte order, attributes and the offset of the first record.
-abbrev pub EntryRelation : Type 0 → Type 1
-EntryRelation E = Endianness → List Attribute → ℕ → RecordView → Option E → Type 0
+-- the entry of a record that has one at most
+abbrev pub IsEntryOf : {E : Type 0} → (ℕ → Bool) → (EntryEnvelope → EventRecord → Option E) → EntryRelation E
+IsEntryOf has_type entry_of = HasEntries has_type (λ envelope event. list_of (entry_of envelope event))
 
 -- The entries of records, in the order of the records. `attrs_after` are the attributes that are known after some records.
 pub data AreEntriesOf {E : Type 0} (IsOf : EntryRelation E) (order : Endianness) (attrs_after : List RecordView → List Attribute) (base : ℕ) : List RecordView → List E → Type 0 where
   of_no_records : AreEntriesOf IsOf order attrs_after base [] []
-  of_one_more : (records : List RecordView) (entries : List E) (h : RecordView) (entry : Option E)
-      → AreEntriesOf IsOf order attrs_after base records entries → IsOf order (attrs_after (records ++ h ∷ [])) base h entry
-      → AreEntriesOf IsOf order attrs_after base (records ++ h ∷ []) (entries ++ list_of entry)
+  of_one_more : (records : List RecordView) (entries : List E) (h : RecordView) (own : List E)
+      → AreEntriesOf IsOf order attrs_after base records entries → IsOf order (attrs_after (records ++ h ∷ [])) base h own
+      → AreEntriesOf IsOf order attrs_after base (records ++ h ∷ []) (entries ++ own)

@@ -13,3 +13,5 @@ pub mod TaskPages
 pub mod Mappings
 pub mod MappingPages
 pub mod Details
+pub mod Counters
+pub mod CounterPages

@@ -15,4 +15,4 @@ IsSamplesCodeOf code P = (s : SamplesStatus) × (code ≡ samples_status_code s)
 
 -- the text of a status code
 unfoldable pub all_code_text : ℕ → List ℕ
-all_code_text code = if code == 25 then codes "the array of frames is smaller than a call chain" else code_text code
+all_code_text code = if code == 25 then codes "the array is too small for the next record" else code_text code

@@ -128,9 +128,9 @@ pub(crate) fn file_entries<E: RecordEntry>(
 
 // The number of entries that a walk counts, and how it ends.
 #[derive(Drop)]
-struct EntriesWalk {
-    count: u64,
-    end: Result<(), Error>,
+pub(crate) struct EntriesWalk {
+    pub(crate) count: u64,
+    pub(crate) end: Result<(), Error>,
 }
 
 // Reads all records. Counts the entries of those of a kind, and writes them up to the capacity of `entries`.

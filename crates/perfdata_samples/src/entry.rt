@@ -3,7 +3,7 @@ ghost use Rattle.std.specs.Prelude.{◌≡◌, ℕ, ◌+◌, ◌<◌, ◌^◌, B
 ghost use Rattle.linux_perf_data.specs.PerfFile.{attributes_of_file, endian_of_file};
 ghost use Rattle.linux_perf_data.specs.RecordViews.{record_view_of};
 ghost use Rattle.perfdata_events.specs.declared.event.EventRecord.{EventRecord};
-ghost use Rattle.perfdata_samples.specs.Entries.{IsEntryOf};
+ghost use Rattle.perfdata_samples.specs.Entries.{IsEntryOf, list_of};
 ghost use Rattle.perfdata_samples.specs.declared.envelope.EntryEnvelope.{EntryEnvelope};
 
 use crate::envelope::EntryEnvelope;
@@ -39,7 +39,7 @@ pub(crate) fn entry_of_record<E: RecordEntry>(
 ) -> Option<E>
     requires { base + place.offset + 72 < 2 ^ 64 }
     ensures { IsEntryOf E.has_type E.entry_of (endian_of_file file.now) (attributes_of_file file.now) base
-        (record_view_of place file_record.now) result }
+        (record_view_of place file_record.now) (list_of result) }
 {
     let PerfFileRecord::EventRecord { attr_index, event } = file_record else {
         return None;

@@ -1,11 +1,12 @@
 //! Decodes the samples of recordings in memory into arrays of plain structs, with the frames of their call
-//! chains, and their records on tasks and on mappings.
+//! chains, their records on tasks and on mappings, and the values of counters.
 //!
 //! Each call keeps no state and allocates no memory for a sample. It fills arrays that the caller passes.
 #![tactic(auto)]
 
 mod array;
 pub mod body;
+pub mod counters;
 pub mod details;
 pub mod entries;
 mod entry;

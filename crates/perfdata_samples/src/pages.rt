@@ -1,6 +1,6 @@
 //! The samples of a perf.data file, in pages.
 ghost use Rattle.std.specs.Prelude.{◌≡◌};
-ghost use Rattle.perfdata_samples.specs.Pages.{ReadsSamplePage, WalksSamples, page_status, page_frames_count};
+ghost use Rattle.perfdata_samples.specs.Pages.{ReadsSamplePage, WalksSamples, page_end_frames, page_end_status};
 
 use crate::frame::FrameEntry;
 use crate::records::add_record;
@@ -23,12 +23,12 @@ pub struct SamplesResult {
     pub status: SamplesStatus,
 }
 
-// How a walk over a page of samples ends.
+// How a walk over a page ends.
 #[derive(Drop)]
 pub(crate) enum PageEnd {
-    // The array of samples is full.
+    // The array of samples, or of counters, is full.
     Full,
-    // The next record is a sample with this number of frames, which don't fit.
+    // The next record has this number of frames, or of counters, which don't fit.
     NoSpace(u64),
     // The records end, or an error follows.
     Records(Result<(), Error>),
@@ -100,14 +100,14 @@ pub(crate) fn walk_samples(
     }
 }
 
-// The status of a page.
-fn status_of_page(page: &SamplePage) -> SamplesStatus
-    ensures { result ≡ page_status page.now }
+// The status of a page with this number of elements.
+pub(crate) fn status_of_page_end(end: &PageEnd, count: u64) -> SamplesStatus
+    ensures { result ≡ page_end_status end.now count }
 {
-    match &page.end {
+    match end {
         PageEnd::Full => SamplesStatus::Records(Status::Success),
         PageEnd::NoSpace(_) => {
-            if page.count == 0 {
+            if count == 0 {
                 SamplesStatus::NoSpace
             } else {
                 SamplesStatus::Records(Status::Success)
@@ -118,13 +118,14 @@ fn status_of_page(page: &SamplePage) -> SamplesStatus
     }
 }
 
-// The number of frames of a page; if its first sample has too many, the number of that one.
-fn frames_count_of_page(page: &SamplePage) -> u64
-    ensures { result ≡ page_frames_count page.now }
+// The number that a page with `count` elements reports: `used`, or what its first record needs if that
+// doesn't fit.
+pub(crate) fn used_of_page_end(end: &PageEnd, count: u64, used: u64) -> u64
+    ensures { result ≡ page_end_frames end.now count used }
 {
-    match page.end {
-        PageEnd::NoSpace(needed) if page.count == 0 => needed,
-        _ => page.frames_count,
+    match end {
+        PageEnd::NoSpace(needed) if count == 0 => *needed,
+        _ => used,
     }
 }
 
@@ -171,7 +172,7 @@ pub fn file_samples(
     *position = page.next;
     SamplesResult {
         count: page.count,
-        frames_count: frames_count_of_page(&page),
-        status: status_of_page(&page),
+        frames_count: used_of_page_end(&page.end, page.count, page.frames_count),
+        status: status_of_page_end(&page.end, page.count),
     }
 }

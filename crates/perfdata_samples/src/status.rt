@@ -16,7 +16,8 @@ pub enum SamplesStatus {
     /// The status of the records.
     Records(Status),
 
-    /// The call chain of the next sample has more frames than the array of frames has elements.
+    /// The call chain of the next sample has more frames than the array of frames has elements, or the next
+    /// record has more counter values than their array.
     NoSpace,
 }
 
@@ -34,9 +35,9 @@ impl SamplesStatus {
 
 // The text of `NoSpace`.
 fn no_space_text() -> &'static str
-    ensures { result.now ≡ codes "the array of frames is smaller than a call chain" }
+    ensures { result.now ≡ codes "the array is too small for the next record" }
 {
-    "the array of frames is smaller than a call chain"
+    "the array is too small for the next record"
 }
 
 // Writes a text and a NUL over the start of a buffer. The text is truncated to the buffer's capacity.

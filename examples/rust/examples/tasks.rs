@@ -1,6 +1,6 @@
-//! Prints the tasks and the mappings of a perf.data file or of a pipe on standard input: `tasks file PATH | pipe` prints the fields of each
-//! record, and its name or path in hexadecimal, and then the status.
-use dewikura::{file_mappings, file_tasks, pipe_mappings, pipe_tasks, Error, Mapping, Task};
+//! Prints the tasks, the mappings and the counter values of a perf.data file or of a pipe on standard input: `tasks file PATH | pipe` prints
+//! the fields of each, its name or path in hexadecimal, and then the status.
+use dewikura::{file_counters, file_mappings, file_tasks, pipe_counters, pipe_mappings, pipe_tasks, Counter, Error, Mapping, Task};
 use std::io::{stdin, stdout, BufWriter, Read, Write};
 use std::process::ExitCode;
 use std::{env, fs, io};
@@ -24,6 +24,11 @@ fn mapping_line(mapping: &Mapping, input: &[u8]) -> String {
     format!("mapping {offset} {timestamp} {kind} {misc} {pid} {tid} {address} {length} {page_offset} {file} {size} 0 {build_id:0<40} {path}")
 }
 
+fn counter_line(counter: &Counter) -> String {
+    let Counter { sample, value, id, time_enabled, time_running, lost } = counter;
+    format!("counter {sample} {value} {id} {time_enabled} {time_running} {lost}")
+}
+
 fn status(result: Result<(), Error>) -> u32 {
     result.err().map_or(0, |error| error.0)
 }
@@ -36,6 +41,9 @@ fn print(input: &[u8], is_pipe: bool) -> io::Result<()> {
     let (mappings, result) = if is_pipe { pipe_mappings(input) } else { file_mappings(input) };
     mappings.iter().try_for_each(|mapping| writeln!(output, "{}", mapping_line(mapping, input)))?;
     writeln!(output, "mappings {}", status(result))?;
+    let (counters, result) = if is_pipe { pipe_counters(input) } else { file_counters(input) };
+    counters.iter().try_for_each(|counter| writeln!(output, "{}", counter_line(counter)))?;
+    writeln!(output, "counters {}", status(result))?;
     output.flush()
 }
 

@@ -1,5 +1,5 @@
-//! A safe wrapper of the calls that list the records of perf.data files, perf pipes and jitdumps, and the samples, tasks and mappings of
-//! recordings.
+//! A safe wrapper of the calls that list the records of perf.data files, perf pipes and jitdumps, and the samples, tasks, mappings and
+//! counter values of recordings.
 //!
 //! A slice of Rust is never NULL and never changes while it is borrowed, so each call meets the obligations of `include/dewikura.h`.
 use std::fmt;
@@ -182,8 +182,21 @@ impl Mapping {
     }
 }
 
+/// The value of a counter in a sample or in a READ record (`struct dewikura_counter`). What it doesn't have is 0.
+#[repr(C)]
+#[derive(Clone, Copy, Debug, Default, PartialEq, Eq)]
+pub struct Counter {
+    pub value: u64,
+    pub id: u64,
+    pub time_enabled: u64,
+    pub time_running: u64,
+    pub lost: u64,
+    /// The offset of the record.
+    pub sample: u64,
+}
+
 const _: () = assert!(size_of::<Record>() == 56 && size_of::<JitRecord>() == 24 && size_of::<Sample>() == 88 && size_of::<Frame>() == 16);
-const _: () = assert!(size_of::<Task>() == 56 && size_of::<Mapping>() == 128);
+const _: () = assert!(size_of::<Task>() == 56 && size_of::<Mapping>() == 128 && size_of::<Counter>() == 48);
 
 /// The status DEWIKURA_NO_SPACE.
 const NO_SPACE: u32 = 25;
@@ -202,6 +215,8 @@ extern "C" {
     fn dewikura_read_pipe_tasks_raw(data: *const u8, size: usize, tasks: *mut Task, capacity: usize, total: *mut u64) -> u32;
     fn dewikura_read_file_mappings_raw(data: *const u8, size: usize, cursor: *mut Cursor, mappings: *mut Mapping, capacity: usize, count: *mut u64) -> u32;
     fn dewikura_read_pipe_mappings_raw(data: *const u8, size: usize, mappings: *mut Mapping, capacity: usize, total: *mut u64) -> u32;
+    fn dewikura_read_file_counters_raw(data: *const u8, size: usize, cursor: *mut Cursor, counters: *mut Counter, capacity: usize, count: *mut u64) -> u32;
+    fn dewikura_read_pipe_counters_raw(data: *const u8, size: usize, counters: *mut Counter, capacity: usize, total: *mut u64) -> u32;
     fn dewikura_read_jit_records_raw(data: *const u8, size: usize, start_offset: u64, records: *mut JitRecord, capacity: usize, count: *mut u64, next_offset: *mut u64) -> u32;
 }
 
@@ -359,6 +374,30 @@ pub fn file_mappings(input: &[u8]) -> (Vec<Mapping>, Result<(), Error>) {
 /// Returns the mappings of a perf.data pipe, and the error after them.
 pub fn pipe_mappings(input: &[u8]) -> (Vec<Mapping>, Result<(), Error>) {
     pipe_entries(input, dewikura_read_pipe_mappings_raw)
+}
+
+/// Returns the counter values of a perf.data file, and the error after them.
+pub fn file_counters(input: &[u8]) -> (Vec<Counter>, Result<(), Error>) {
+    let (mut counters, mut cursor) = (Vec::new(), Cursor::default());
+    let mut page = vec![Counter::default(); 1024];
+    loop {
+        let mut count = 0;
+        // SAFETY: the pointers are those of slices, with their lengths; the array is initialized.
+        let status = unsafe { dewikura_read_file_counters_raw(input.as_ptr(), input.len(), &mut cursor, page.as_mut_ptr(), page.len(), &mut count) };
+        if status == NO_SPACE {
+            page.resize(count as usize, Counter::default());
+            continue;
+        }
+        counters.extend_from_slice(&page[..count as usize]);
+        if status != 0 || count == 0 {
+            return (counters, result_of(status));
+        }
+    }
+}
+
+/// Returns the counter values of a perf.data pipe, and the error after them.
+pub fn pipe_counters(input: &[u8]) -> (Vec<Counter>, Result<(), Error>) {
+    pipe_entries(input, dewikura_read_pipe_counters_raw)
 }
 
 /// Returns the complete records of a jitdump from an offset on, the offset after them, and the error there.

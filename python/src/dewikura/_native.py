@@ -50,10 +50,11 @@ read_file_samples = _declare_read("read_file_samples_raw", POINTER(_structs.Curs
                                   POINTER(_structs.Frame), size, POINTER(u64))
 read_pipe_samples = _declare_read("read_pipe_samples_raw", POINTER(_structs.Sample), size, POINTER(u64), POINTER(_structs.Frame), size, POINTER(u64))
 # The calls that read the entries of a struct: of a file from a cursor on, and of a whole pipe.
+_ENTRIES = ((_structs.Task, "tasks"), (_structs.Mapping, "mappings"), (_structs.Counter, "counters"))
 read_file_entries = {kind: _declare_read(f"read_file_{name}_raw", POINTER(_structs.Cursor), POINTER(kind), size, POINTER(u64))
-                     for kind, name in ((_structs.Task, "tasks"), (_structs.Mapping, "mappings"))}
+                     for kind, name in _ENTRIES}
 read_pipe_entries = {kind: _declare_read(f"read_pipe_{name}_raw", POINTER(kind), size, POINTER(u64))
-                     for kind, name in ((_structs.Task, "tasks"), (_structs.Mapping, "mappings"))}
+                     for kind, name in _ENTRIES}
 read_sample_details = _declare_read("read_sample_details_raw", u32, POINTER(_structs.Attr), POINTER(_structs.SampleDetails))
 sort_records = _declare("sort_records_raw", POINTER(_structs.Record), size)
 read_attrs = _declare_reads("attrs", POINTER(_structs.Attr), size, POINTER(u8), size, POINTER(u64), size, POINTER(_structs.AttrTotals))

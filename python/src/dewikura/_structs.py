@@ -221,6 +221,21 @@ class Mapping(ctypes.Structure):
                 f"page_offset={self.page_offset:#x})")
 
 
+class Counter(ctypes.Structure):
+    """The value of a counter in a sample or in a READ record. What it doesn't have is 0. `sample` is the offset of the record."""
+
+    value: int
+    id: int
+    time_enabled: int
+    time_running: int
+    lost: int
+    sample: int
+    _fields_ = [(name, u64) for name in ("value", "id", "time_enabled", "time_running", "lost", "sample")]
+
+    def __repr__(self) -> str:
+        return f"Counter(value={self.value}, id={self.id}, sample={self.sample})"
+
+
 class Attr(ctypes.Structure):
     """A perf_event_attr, with the positions of its name and its ids."""
 

@@ -14,7 +14,7 @@ from typing import Any, ContextManager, Iterator, Literal, Mapping as AnyMapping
 
 from . import _native, _structs
 from ._arrays import StructSequence
-from ._structs import Frame, Mapping, Record, Sample, SampleDetails, Task, known
+from ._structs import Counter, Frame, Mapping, Record, Sample, SampleDetails, Task, known
 from .constants import AttrFlag, DsoKind, EventType, Feature, ReadFormat, SampleType, Status, SymbolFileType
 from .errors import PerfDataError, check, error_of
 
@@ -83,6 +83,12 @@ class Mappings(StructSequence[Mapping]):
     """The mappings of a recording."""
 
     _struct = Mapping
+
+
+class Counters(StructSequence[Counter]):
+    """The counter values of the samples and READ records of a recording."""
+
+    _struct = Counter
 
 
 @dataclasses.dataclass(frozen=True)
@@ -339,6 +345,18 @@ class Recording(ContextManager["Recording"]):
         """Returns the path of the file of a mapping."""
         return bytes(self._data[mapping.path_offset:mapping.path_offset + mapping.path_size])
 
+    def partial_counters(self) -> Tuple[Counters, Optional[Exception]]:
+        """Returns the counter values before the first error, and that error, or None if there is none."""
+        return self._keep("counters", lambda data: self._read_entries(data, Counters))
+
+    @property
+    def counters(self) -> Counters:
+        """All counter values of samples and READ records in the order of the input. Raises the first error of the input."""
+        counters, error = self.partial_counters()
+        if error is not None:
+            raise error
+        return counters
+
     def events(self) -> Iterator[Record]:
         """Iterates over the records with an attribute, which the kernel wrote."""
         return filter(lambda record: record.has_attr, self.records)
@@ -508,8 +526,11 @@ class Recording(ContextManager["Recording"]):
         with _native.Input(data) as (address, size):
             while True:
                 status = read(address, size, cursor, entries.free(), entries.capacity - entries.used, count)
+                if status == Status.NO_SPACE:
+                    entries.grow(count.value)
+                    continue
                 entries.used += count.value
-                if status != Status.OK or entries.used < entries.capacity:
+                if status != Status.OK or count.value == 0:
                     return entries.array, entries.used, status
                 entries.grow(1)
 

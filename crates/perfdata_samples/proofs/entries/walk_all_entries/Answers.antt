@@ -1,8 +1,8 @@
 use Rattle.std.proofs.Common.{arith, Ok, Err, ap, ◌∙◌}
 use Rattle.linux_perf_data.specs.Descriptions.{described_attributes}
 use Rattle.linux_perf_data.specs.PerfFile.{attributes_of_file}
-use Rattle.perfdata_samples.proofs.EntryWalks.{few_of, none_so_far, one_entry_more, walks_all_entries}
-use Rattle.perfdata_samples.specs.Entries.{IsEntryOf}
+use Rattle.perfdata_samples.proofs.EntryWalks.{few_of, none_so_far, one_record_of_entries, walks_all_entries}
+use Rattle.perfdata_samples.specs.Entries.{IsEntryOf, list_of}
 use Rattle.perfdata_samples.proofs.entries.walk_all_entries.Goals as goal
 
 pub records-init : goal.records-init
@@ -27,8 +27,8 @@ records-preserved g c =
     let moved = step.returns.offset in
     let start = step.returns.record_offset in
     record {
-      so_far = one_entry_more (IsEntryOf g.E.RecordEntry.has_type g.E.RecordEntry.entry_of) c.args.input.now c.records.input c.next_record.new.self c.args.file.now c.records.file c.next_record.new.perf_file c.args.entries.now c.records.count c.records.entries c.in-Ok-Some.place c.in-Ok-Some.file_record before.so_far step
-          c.next_record.ensures.same_input c.first_record_offset-base.result c.write_option-count.result c.entry_of_record-entry.result c.write_option-count.new.entries c.first_record_offset-base.ensures c.entry_of_record-entry.ensures added c.write_option-count.ensures.written;
+      so_far = one_record_of_entries (IsEntryOf g.E.RecordEntry.has_type g.E.RecordEntry.entry_of) c.args.input.now c.records.input c.next_record.new.self c.args.file.now c.records.file c.next_record.new.perf_file c.args.entries.now c.records.count c.records.entries c.in-Ok-Some.place c.in-Ok-Some.file_record before.so_far step
+          c.next_record.ensures.same_input c.first_record_offset-base.result c.write_option-count.result (list_of c.entry_of_record-entry.result) c.write_option-count.new.entries c.first_record_offset-base.ensures c.entry_of_record-entry.ensures added c.write_option-count.ensures.written;
       count_below = omega (arith, added, few, below, moved, start);
     }
 

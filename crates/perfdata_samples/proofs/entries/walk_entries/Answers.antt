@@ -1,6 +1,6 @@
 use Rattle.std.proofs.Common.{arith, Ok, Err, Some, None, ap, ◌∙◌}
-use Rattle.perfdata_samples.proofs.EntryWalks.{few_of, none_so_far, one_entry_more, walks_entries}
-use Rattle.perfdata_samples.specs.Entries.{IsEntryOf}
+use Rattle.perfdata_samples.proofs.EntryWalks.{few_of, none_so_far, one_record_of_entries, walks_entries}
+use Rattle.perfdata_samples.specs.Entries.{IsEntryOf, list_of}
 use Rattle.perfdata_samples.proofs.entries.walk_entries.Goals as goal
 
 pub records-init : goal.records-init
@@ -24,8 +24,8 @@ records-preserved g c =
     let same = c.records.auto.entries in
     let few = few_of c.entry_of_record-entry.result in
     record {
-      so_far = one_entry_more (IsEntryOf g.E.RecordEntry.has_type g.E.RecordEntry.entry_of) c.args.input.now c.records.input c.next_record.new.self c.args.file.now c.records.file c.next_record.new.perf_file c.args.entries.now c.records.count c.records.entries c.in-Ok-Some.place c.in-Ok-Some.file_record before.so_far step
-          c.next_record.ensures.same_input c.first_record_offset-base.result c.write_option-count.result c.entry_of_record-entry.result c.write_option-count.new.entries c.first_record_offset-base.ensures c.entry_of_record-entry.ensures added c.write_option-count.ensures.written;
+      so_far = one_record_of_entries (IsEntryOf g.E.RecordEntry.has_type g.E.RecordEntry.entry_of) c.args.input.now c.records.input c.next_record.new.self c.args.file.now c.records.file c.next_record.new.perf_file c.args.entries.now c.records.count c.records.entries c.in-Ok-Some.place c.in-Ok-Some.file_record before.so_far step
+          c.next_record.ensures.same_input c.first_record_offset-base.result c.write_option-count.result (list_of c.entry_of_record-entry.result) c.write_option-count.new.entries c.first_record_offset-base.ensures c.entry_of_record-entry.ensures added c.write_option-count.ensures.written;
       fits = omega (arith, added, free, same, few);
     }
 

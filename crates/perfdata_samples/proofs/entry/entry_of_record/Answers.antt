@@ -6,6 +6,7 @@ use Rattle.linux_perf_data.specs.PerfFile.{descriptions_of_file, endian_of_file}
 use Rattle.perfdata_events.specs.EventFormat.{event_format_of}
 use Rattle.perfdata_samples.proofs.RecordLemmas.{format_at}
 use Rattle.perfdata_samples.proofs.EntryWalks.{unwrap_zero}
+use Rattle.perfdata_samples.specs.Entries.{list_of}
 use Rattle.perfdata_samples.proofs.entry.entry_of_record.Goals as goal
 
 pub returns-in-Ok : goal.returns-in-Ok
@@ -24,7 +25,7 @@ returns-in-Ok g c =
         raw_is = record { record_type = refl; misc = refl; body = refl };
         parsed = c.in-Ok.parsed;
         is_parsed = c.in-Ok.ensures.value;
-        entry_is = c.of_event.ensures ∙ ap (λ t. g.E.RecordEntry.entry_of (record { offset = c.args.place.offset; timestamp = t; body_offset = c.args.base + c.args.place.offset + 8; misc = c.in-EventRecord.event.misc }) c.in-Ok.parsed) (c.unwrap_or.ensures ∙ unwrap_zero c.args.place.timestamp);
+        entries_are = ap list_of (c.of_event.ensures ∙ ap (λ t. g.E.RecordEntry.entry_of (record { offset = c.args.place.offset; timestamp = t; body_offset = c.args.base + c.args.place.offset + 8; misc = c.in-EventRecord.event.misc }) c.in-Ok.parsed) (c.unwrap_or.ensures ∙ unwrap_zero c.args.place.timestamp));
       },
     ))
 

@@ -1,0 +1,48 @@
+use Rattle.std.proofs.Common.{sym, ap, ◌∙◌, refl, length, inl, inr, Some}
+use Rattle.std.proofs.lemmas.Option.{slice_get_read}
+use Rattle.std.specs.IoError.{error_kind}
+use Rattle.std.specs.Prelude.{slice_get}
+use Rattle.linux_perf_data.specs.PerfFile.{descriptions_of_file, endian_of_file}
+use Rattle.perfdata_events.specs.EventFormat.{event_format_of}
+use Rattle.perfdata_samples.proofs.RecordLemmas.{format_at}
+use Rattle.perfdata_samples.specs.Counters.{counter_entries}
+use Rattle.perfdata_samples.proofs.counters.values_of_record.Goals as goal
+
+pub returns-in-Ok : goal.returns-in-Ok
+returns-in-Ok c =
+    let index = c.in-EventRecord.attr_index in
+    let all = c.event_attributes.result.now in
+    let lookup = c.in_ok-description.ensures.lookup in
+    let found = ap (λ l. slice_get l index) (sym c.event_attributes.ensures.are) ∙ slice_get_read all (length all) index c.in_ok-description.description.now refl lookup.3.0 lookup.1 in
+    λ place. λ base. rw c.in-EventRecord.is (inl (
+      sym c.has_counters.ensures ∙ c.if-not-has_counters.false,
+      record {
+        format = c.new-format.result;
+        format_is = format_at (endian_of_file c.args.file.now) (descriptions_of_file c.args.file.now) index c.in-EventRecord.event.parse_info c.in_ok-description.description.now found
+            ∙ ap Some (sym (c.new-format.ensures ∙ (λ i. event_format_of (c.attributes.ensures i) (c.endian.ensures i))));
+        raw = c.in-EventRecord.event;
+        raw_is = record { record_type = refl; misc = refl; body = refl };
+        parsed = c.in-Ok.parsed;
+        is_parsed = c.in-Ok.ensures.value;
+        entries_are = ap (counter_entries place.offset) c.values_of_event.ensures;
+      },
+    ))
+
+pub returns-in-Err : goal.returns-in-Err
+returns-in-Err c =
+    let index = c.in-EventRecord.attr_index in
+    let all = c.event_attributes.result.now in
+    let lookup = c.in_ok-description.ensures.lookup in
+    let found = ap (λ l. slice_get l index) (sym c.event_attributes.ensures.are) ∙ slice_get_read all (length all) index c.in_ok-description.description.now refl lookup.3.0 lookup.1 in
+    λ place. λ base. rw c.in-EventRecord.is (inr (
+      refl,
+      inr (inr (record {
+        format = c.new-format.result;
+        format_is = format_at (endian_of_file c.args.file.now) (descriptions_of_file c.args.file.now) index c.in-EventRecord.event.parse_info c.in_ok-description.description.now found
+            ∙ ap Some (sym (c.new-format.ensures ∙ (λ i. event_format_of (c.attributes.ensures i) (c.endian.ensures i))));
+        raw = c.in-EventRecord.event;
+        raw_is = record { record_type = refl; misc = refl; body = refl };
+        kind = error_kind c.in-Err.field-0;
+        fails = c.in-Err.ensures.error;
+      })),
+    ))
