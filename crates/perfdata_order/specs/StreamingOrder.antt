@@ -309,22 +309,23 @@ module _ {R : Type 0} where
   TakesSorted old (Some info) new = (key : ℕ) × ((held : HeldRecord) × ReturnsSorted old key held new × (view_with info (body_in Sorted new) ≡ held_view held))
 
   module _ (state : R → State) where
-    -- A body of more than 65,536 bytes was read, and memory ran out for its copy.
-    pub record CopyFailed (old : PerfRecordIter R) (file : PerfFile) (e : Error) (new : PerfRecordIter R) (file' : PerfFile) : Type 0 where
+    -- A body of more than 65,536 bytes was read, and memory ran out for its copy: `copy` is shorter than the body.
+    pub record CopyFailed (old : PerfRecordIter R) (file : PerfFile) (e : Error) (copy : List ℕ) (new : PerfRecordIter R) (file' : PerfFile) : Type 0 where
       pub out_of_memory : e ≡ error.Memory
       pub h : RecordView
       pub returned : ReturnsRecord state old file h new file'
       pub is_large : 65536 < length h.body
+      pub not_copied : length copy < length h.body
 
     -- The error of the source, or of the copy of a large body.
-    abbrev pub FailsToRead : PerfRecordIter R → PerfFile → Error → PerfRecordIter R → PerfFile → Type 0
-    FailsToRead old file e new file' = ReturnsError state old file e new file' ⊎ CopyFailed old file e new file'
+    abbrev pub FailsToRead : PerfRecordIter R → PerfFile → Error → List ℕ → PerfRecordIter R → PerfFile → Type 0
+    FailsToRead old file e copy new file' = ReturnsError state old file e new file' ⊎ CopyFailed old file e copy new file'
 
     -- Reading a record, whose body is then `body`.
     abbrev pub ReadsRecord : PerfRecordIter R → PerfFile → Result (Option RecordInfo) Error → List ℕ → PerfRecordIter R → PerfFile → Type 0
     ReadsRecord old file (Ok (Some info)) body new file' = ReturnsRecord state old file (view_with info body) new file'
     ReadsRecord old file (Ok None) body new file' = ReturnsEnd state old file new file'
-    ReadsRecord old file (Err e) body new file' = FailsToRead old file e new file'
+    ReadsRecord old file (Err e) body new file' = FailsToRead old file e body new file'
 
     -- A record was read, and is pending.
     pub record ReadsWaiting (old : OrderedRecords R) (file : PerfFile) (key : Option ℕ) (h : RecordView) (new : OrderedRecords R) (file' : PerfFile) : Type 0 where
@@ -344,7 +345,7 @@ module _ {R : Type 0} where
     -- An error was read.
     pub record ReadsError (old : OrderedRecords R) (file : PerfFile) (e : Error) (new : OrderedRecords R) (file' : PerfFile) : Type 0 where
       pub nothing_pending : unplaced_of old ≡ nothing
-      pub fails : FailsToRead old.records file e new.records file'
+      pub fails : FailsToRead old.records file e new.body.items new.records file'
       pub pending : unplaced_of new ≡ failing e
       pub same_order : SameOrder old new
 

@@ -132,6 +132,7 @@ pub(crate) fn copy_body(buffer: &mut Vec<u8>, body: RawData<'_>) -> Result<(), A
     requires { buffer.old.items ≡ [] }
     ensures items { IfOk result (λ _. buffer.new.items ≡ bytes_of body.entry) }
     ensures full { OnErr result (vec_capacity buffer.old < length (bytes_of body.entry)) }
+    ensures not_copied { OnErr result (length buffer.new.items < length (bytes_of body.entry)) }
 {
     match body {
         RawData::Single(bytes) => buffer.extend_from_slice(bytes),
