@@ -386,6 +386,7 @@ DEWIKURA_CHECK_SIZE(dewikura_frame, 16);
 DEWIKURA_CHECK_SIZE(dewikura_sample_details, 192);
 DEWIKURA_CHECK_SIZE(dewikura_task, 56);
 DEWIKURA_CHECK_SIZE(dewikura_mapping, 128);
+DEWIKURA_CHECK_SIZE(dewikura_counter, 48);
 DEWIKURA_CHECK_SIZE(dewikura_attr, 168);
 DEWIKURA_CHECK_SIZE(dewikura_attr_totals, 24);
 DEWIKURA_CHECK_SIZE(dewikura_feature_set, 32);

@@ -56,7 +56,9 @@ pub struct InMemoryRecords<'a> {
 }
 
 impl<'a> InMemoryRecords<'a> {
-    ghost use Rattle.linux_perf_data.specs.InMemoryReading.{KeepsInput, NeedsMemoryForMetadataOnly, NeedsMemoryInPipeOnly, ReturnsNextInMemory, first_record_offset_of, input_of};
+    ghost use Rattle.linux_perf_data.specs.InMemoryReading.{KeepsInput, NeedsMemoryForMetadataOnly};
+    ghost use Rattle.linux_perf_data.specs.InMemoryReading.{NeedsMemoryInPipeOnly, ReturnsNextInMemory};
+    ghost use Rattle.linux_perf_data.specs.InMemoryReading.{first_record_offset_of, input_of};
 
     /// Returns the offset of the first record's header in the input, in bytes.
     ///

@@ -1,11 +1,20 @@
 //! Laws of the record layout, over its definitions alone: the list of records that the contracts of a reading
 //! describe exists and is unique.
 ghost use Rattle.linux_perf_data.specs.BuildIds.{BuildIdListIsUnique, KeysEqualByTexts};
-ghost use Rattle.linux_perf_data.specs.LateMetadata.{AccumulatesNone, AccumulatesOneMore, EventDescStaysValid};
+ghost use Rattle.linux_perf_data.specs.LateMetadata.{AccumulatesNone, AccumulatesOneMore};
+ghost use Rattle.linux_perf_data.specs.LateMetadata.{EventDescStaysValid};
 ghost use Rattle.linux_perf_data.specs.Reading.{NoCalls, OneCallMore};
 ghost use Rattle.linux_perf_data.specs.FileReading.{ReadingFilePartly, ReadingFileToEnd, ReadingFileToError};
-ghost use Rattle.linux_perf_data.specs.PipeReading.{ReadingPipePartly, ReadingPipeToEnd, ReadingPipeToError, LongestRun, OpeningHasNoError};
-ghost use Rattle.linux_perf_data.specs.Laws.{RecordIsUnique, ErrorIsUnique, NoErrorAtRecord, EndErrorOrRecord, ConsistentOrNot, InconsistencyIsUnique, LayoutIsUnique, LayoutExists, RemainingRecordsAreUnique, OffsetsIncrease, OffsetAndRoundOfRecord, MarkersAddNoAttributes, AuxtracesParse, NoNamesOnError, NamesAreUnique, PipeOpeningIsUnique, DescribedPipeOpens, DescribedFileOpens, FileDescriptionIsUnique, TruncatedHeaderFails, FarHeaderFails, UnknownMagicFails, FileErrorIsUnique, PipeErrorIsUnique};
+ghost use Rattle.linux_perf_data.specs.PipeReading.{ReadingPipePartly, ReadingPipeToEnd, ReadingPipeToError};
+ghost use Rattle.linux_perf_data.specs.PipeReading.{LongestRun, OpeningHasNoError};
+ghost use Rattle.linux_perf_data.specs.Laws.{RecordIsUnique, ErrorIsUnique, NoErrorAtRecord};
+ghost use Rattle.linux_perf_data.specs.Laws.{EndErrorOrRecord, ConsistentOrNot, InconsistencyIsUnique};
+ghost use Rattle.linux_perf_data.specs.Laws.{LayoutIsUnique, LayoutExists, RemainingRecordsAreUnique};
+ghost use Rattle.linux_perf_data.specs.Laws.{OffsetsIncrease, OffsetAndRoundOfRecord, MarkersAddNoAttributes};
+ghost use Rattle.linux_perf_data.specs.Laws.{AuxtracesParse, NoNamesOnError, NamesAreUnique};
+ghost use Rattle.linux_perf_data.specs.Laws.{PipeOpeningIsUnique, DescribedPipeOpens, DescribedFileOpens};
+ghost use Rattle.linux_perf_data.specs.Laws.{FileDescriptionIsUnique, TruncatedHeaderFails, FarHeaderFails};
+ghost use Rattle.linux_perf_data.specs.Laws.{UnknownMagicFails, FileErrorIsUnique, PipeErrorIsUnique};
 
 use perfdata_base::source::Source;
 

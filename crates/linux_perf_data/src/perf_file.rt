@@ -4,11 +4,18 @@ ghost use Rattle.std.specs.Option.{option_map};
 ghost use Rattle.perfdata_base.specs.Features.{HasFeature};
 ghost use Rattle.perfdata_simpleperf.specs.MetaInfo.{ParsesMetaInfo};
 ghost use Rattle.linux_perf_data.specs.FirstIdIndex.{IndexesAttributes, id_lists_of};
-ghost use Rattle.linux_perf_data.specs.FeatureNumbers.{arch, build_id, clock_data, clock_id, cmd_line, compressed, cpu_desc, cpuid, event_desc, hostname, nr_cpus, os_release, pmu_mappings, sample_time, simpleperf_file, simpleperf_file2, simpleperf_meta_info, total_mem, version};
-ghost use Rattle.linux_perf_data.specs.NameTable.{TableHasEvents, TableNamesAll, TableEmptyWithoutEventDesc, TableIsReadable};
+ghost use Rattle.linux_perf_data.specs.FeatureNumbers.{arch, build_id, clock_data, clock_id, cmd_line};
+ghost use Rattle.linux_perf_data.specs.FeatureNumbers.{compressed, cpu_desc, cpuid, event_desc, hostname};
+ghost use Rattle.linux_perf_data.specs.FeatureNumbers.{nr_cpus, os_release, pmu_mappings, sample_time};
+ghost use Rattle.linux_perf_data.specs.FeatureNumbers.{simpleperf_file, simpleperf_file2};
+ghost use Rattle.linux_perf_data.specs.FeatureNumbers.{simpleperf_meta_info, total_mem, version};
+ghost use Rattle.linux_perf_data.specs.NameTable.{TableHasEvents, TableNamesAll, TableEmptyWithoutEventDesc};
+ghost use Rattle.linux_perf_data.specs.NameTable.{TableIsReadable};
 ghost use Rattle.linux_perf_data.specs.FeatureData.{feature_data_of};
 ghost use Rattle.linux_perf_data.specs.Simpleperf.{AnswersSymbolTables};
-ghost use Rattle.linux_perf_data.specs.Values.{AnswersOf, ParsesStringSection, ParsesStringList, ParsesU64, ParsesNrCpus, ParsesSampleTimes, ParsesCompression, ParsesClockData, ParsesPmuMappings};
+ghost use Rattle.linux_perf_data.specs.Values.{AnswersOf, ParsesStringSection, ParsesStringList, ParsesU64};
+ghost use Rattle.linux_perf_data.specs.Values.{ParsesNrCpus, ParsesSampleTimes, ParsesCompression};
+ghost use Rattle.linux_perf_data.specs.Values.{ParsesClockData, ParsesPmuMappings};
 ghost use Rattle.linux_perf_data.specs.BuildIds.{AnswersBuildIds};
 
 mod build_ids;
@@ -53,7 +60,8 @@ pub struct PerfFile {
 }
 
 impl PerfFile {
-    ghost use Rattle.linux_perf_data.specs.PerfFile.{descriptions_of_file, features_of_file, endian_of_file, feature_data_in_file};
+    ghost use Rattle.linux_perf_data.specs.PerfFile.{descriptions_of_file, features_of_file, endian_of_file};
+    ghost use Rattle.linux_perf_data.specs.PerfFile.{feature_data_in_file};
 
     /// Returns the attributes of the recorded events. There is at least one.
     pub fn event_attributes(&self) -> &[AttributeDescription]

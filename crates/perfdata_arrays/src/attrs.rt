@@ -1,6 +1,8 @@
 //! The attributes of a perf.data file or pipe, with their names and IDs.
 ghost use Rattle.std.specs.Prelude.{◌≡◌};
-ghost use Rattle.perfdata_arrays.specs.Attrs.{AreEndOffsets, ReadsFileAttrs, ReadsPipeAttrs, IsCheckedSum, WritesAttrsOrPrefix, attr_entry_at, has_name_number, name_bytes, no_attrs_with};
+ghost use Rattle.perfdata_arrays.specs.Attrs.{AreEndOffsets, ReadsFileAttrs, ReadsPipeAttrs, IsCheckedSum};
+ghost use Rattle.perfdata_arrays.specs.Attrs.{WritesAttrsOrPrefix, attr_entry_at, has_name_number};
+ghost use Rattle.perfdata_arrays.specs.Attrs.{name_bytes, no_attrs_with};
 
 use crate::array::{copy_at, write_entry};
 use crate::records::{walk, walk_result_status};

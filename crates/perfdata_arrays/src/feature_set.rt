@@ -1,6 +1,7 @@
 //! The set of features of a perf.data file or pipe.
 ghost use Rattle.std.specs.Prelude.{◌≡◌};
-ghost use Rattle.perfdata_arrays.specs.FeatureSets.{AreBitsOf, ReadsFileFeatures, ReadsPipeFeatures, no_features_with};
+ghost use Rattle.perfdata_arrays.specs.FeatureSets.{AreBitsOf, ReadsFileFeatures, ReadsPipeFeatures};
+ghost use Rattle.perfdata_arrays.specs.FeatureSets.{no_features_with};
 
 use crate::records::{walk, walk_result_status};
 use crate::status::{Status, status_of_error};

@@ -1,6 +1,7 @@
 //! The bodies of the move and unwinding info records of a jitdump.
 ghost use Rattle.std.specs.Prelude.{◌≡◌, ◌+◌, ◌-◌, ◌^◌, ◌<◌, ◌≤◌, IfOk, length, take, drop};
-ghost use Rattle.perfdata_arrays.specs.JitBodies.{FindsBody, ReadsJitMove, ReadsJitUnwinding, move_entry, unwinding_entry};
+ghost use Rattle.perfdata_arrays.specs.JitBodies.{FindsBody, ReadsJitMove, ReadsJitUnwinding, move_entry};
+ghost use Rattle.perfdata_arrays.specs.JitBodies.{unwinding_entry};
 
 use crate::array::byte_count;
 use crate::jit::{JitRecord, parse_header, record_at};

@@ -1,7 +1,8 @@
 //! The statuses of calls, their codes and their texts.
 ghost use Rattle.std.specs.Prelude.{◌≡◌, ◌-◌, ◌++◌, ◌∷◌, [], length, take};
 ghost use Rattle.linux_perf_data.specs.RecordEntries.{with_prefix};
-ghost use Rattle.perfdata_arrays.specs.Status.{io_kind_status, read_error_status, error_status, jit_error_status, status_code, code_text};
+ghost use Rattle.perfdata_arrays.specs.Status.{io_kind_status, read_error_status, error_status};
+ghost use Rattle.perfdata_arrays.specs.Status.{jit_error_status, status_code, code_text};
 
 use crate::array::{copy_prefix, write_entry};
 use linux_perf_data::jitdump::JitDumpError;

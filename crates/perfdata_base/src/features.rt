@@ -2,7 +2,8 @@
 ghost use Rattle.std.specs.Prelude.{◌≡◌, ◌↔◌, IsTrue, [], Contains, Some, length};
 ghost use Rattle.std.specs.Iterator.{YieldsFirstBy, item_count};
 ghost use Rattle.std.specs.Option.{option_map};
-ghost use Rattle.perfdata_base.specs.Features.{HasFeature, InsertsFeature, feature_name, feature_text, features_of, remaining_features};
+ghost use Rattle.perfdata_base.specs.Features.{HasFeature, InsertsFeature, feature_name, feature_text};
+ghost use Rattle.perfdata_base.specs.Features.{features_of, remaining_features};
 
 use std::fmt;
 

@@ -1,8 +1,12 @@
 //! Offsets of the time and the identifier in a record's body, and the numbers at these offsets.
 ghost use Rattle.std.specs.Prelude.{◌≡◌, ℕ, ◌+◌, ◌*◌, ◌^◌, ◌==◌, ◌≤◌, filter, length, position};
 ghost use Rattle.std.specs.Int.RustNames.{bit_and};
-ghost use Rattle.perfdata_base.specs.ParseInfo.{offset_from_start, offset_from_end, sample_words, trailing_words, identifier_word, id_parse_info_of, parse_info_of};
-ghost use Rattle.perfdata_base.specs.ParseInfo.{checked_offset_from_start, checked_offset_from_end, offset_in_body, u64_field_at, time_of, time_in, identifier_of, leading_identifier_of};
+ghost use Rattle.perfdata_base.specs.ParseInfo.{offset_from_start, offset_from_end, sample_words};
+ghost use Rattle.perfdata_base.specs.ParseInfo.{trailing_words, identifier_word, id_parse_info_of};
+ghost use Rattle.perfdata_base.specs.ParseInfo.{parse_info_of};
+ghost use Rattle.perfdata_base.specs.ParseInfo.{checked_offset_from_start, checked_offset_from_end};
+ghost use Rattle.perfdata_base.specs.ParseInfo.{offset_in_body, u64_field_at, time_of, time_in};
+ghost use Rattle.perfdata_base.specs.ParseInfo.{identifier_of, leading_identifier_of};
 ghost use Rattle.perfdata_base.specs.Raw.{bytes_of};
 
 use crate::attr::{AttrFlags, PerfEventAttr, SampleFormat};

@@ -1,5 +1,7 @@
 //! Bytes in one slice or in two, and byte orders.
-ghost use Rattle.std.specs.Prelude.{◌≡◌, ◌+◌, ◌<◌, ◌≤◌, ◌++◌, ◌==◌, ◌⊎◌, ℕ, List, length, take, drop, slice_index, slice_range, refl, IfErr, IfNone, IfOk, IfSome, IsOkAnd, OnErr, OnOk};
+ghost use Rattle.std.specs.Prelude.{◌≡◌, ◌+◌, ◌<◌, ◌≤◌, ◌++◌, ◌==◌, ◌⊎◌, ℕ, List, length, take, drop};
+ghost use Rattle.std.specs.Prelude.{slice_index, slice_range, refl, IfErr, IfNone, IfOk, IfSome, IsOkAnd};
+ghost use Rattle.std.specs.Prelude.{OnErr, OnOk};
 ghost use Rattle.std.specs.Cow.{cow_slice_items, IsBorrowedSlice, IsOwnedSlice};
 ghost use Rattle.std.specs.Int.{w32, cast_signed};
 ghost use Rattle.std.specs.Str.{bytes_eq};
@@ -7,9 +9,11 @@ ghost use Rattle.std.specs.Cmp.{partial_equiv_from_equiv};
 ghost use Rattle.std.specs.Cmp.Lexicographic.{on_texts_equal};
 ghost use Rattle.memchr.specs.Find.{IsFirstByte, is_byte};
 ghost use Rattle.perfdata_base.specs.Endian.{number_in};
-ghost use Rattle.perfdata_base.specs.Raw.{bytes_of, HasNoNul, EndsBefore, IsSingle, DropsPrefix, ReadsNulString};
+ghost use Rattle.perfdata_base.specs.Raw.{bytes_of, HasNoNul, EndsBefore, IsSingle, DropsPrefix};
+ghost use Rattle.perfdata_base.specs.Raw.{ReadsNulString};
 ghost use Rattle.perfdata_base.specs.declared.raw.Endianness.{Endianness};
-ghost use Rattle.perfdata_base.specs.declared.raw.Endianness.TheVariants.{LittleEndian as Little, BigEndian as Big};
+ghost use Rattle.perfdata_base.specs.declared.raw.Endianness.TheVariants.{LittleEndian as Little};
+ghost use Rattle.perfdata_base.specs.declared.raw.Endianness.TheVariants.{BigEndian as Big};
 ghost use Rattle.perfdata_base.specs.declared.raw.RawData.TheVariants.{Single};
 
 use crate::source::unexpected_eof;

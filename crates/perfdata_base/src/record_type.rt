@@ -1,7 +1,8 @@
 //! The types of records and their names.
 ghost use Rattle.std.specs.Prelude.{◌≡◌};
 ghost use Rattle.std.specs.Option.{option_map};
-ghost use Rattle.perfdata_base.specs.RecordType.{record_type_name, kernel_type_name, perf_type_name, simpleperf_type_name};
+ghost use Rattle.perfdata_base.specs.RecordType.{record_type_name, kernel_type_name, perf_type_name};
+ghost use Rattle.perfdata_base.specs.RecordType.{simpleperf_type_name};
 
 use crate::event::RecordType;
 

@@ -1,12 +1,19 @@
 //! Byte sources, and functions that read, skip and append their bytes.
-ghost use Rattle.std.specs.Prelude.{◌≡◌, ◌+◌, ◌^◌, ◌<◌, ◌≤◌, ◌↔◌, ℕ, List, [], IsTrue, IfErr, OnErr, min, length, take, drop, vec_len, vec_capacity, Ok, refl};
+ghost use Rattle.std.specs.Prelude.{◌≡◌, ◌+◌, ◌^◌, ◌<◌, ◌≤◌, ◌↔◌, ℕ, List, [], IsTrue, IfErr, OnErr, min};
+ghost use Rattle.std.specs.Prelude.{length, take, drop, vec_len, vec_capacity, Ok, refl};
 ghost use Rattle.std.proofs.Common.{lit<};
 ghost use Rattle.std.proofs.lemmas.Bool.{false≢true};
 ghost use Rattle.std.specs.Io.Cursor.{cursor_inner, cursor_position};
 ghost use Rattle.std.specs.IoError.{error_kind};
 ghost use Rattle.std.specs.declared.io.ErrorKind.TheVariants.{Interrupted, UnexpectedEof};
-ghost use Rattle.perfdata_base.specs.Source.{State, memory_source, memory_source_at, opaque_source, counted_state, CanCount, CountsRead, CountsSeek, PausesOnlyIfIncomplete, PausesOnlyOnError, RemainsFromPosition, SizeFitsI64, PositionFitsU64, Seeks, Reads, FillsBuffer, SkipsUpTo, AppendsUpTo, ReadsExactly, SkipsExactly, AppendsExactly, IsIoErrorOf};
-ghost use Rattle.perfdata_base.specs.RelativeSeek.{AgreesWithPosition, ReadUpdatesPosition, SeekUpdatesPosition};
+ghost use Rattle.perfdata_base.specs.Source.{State, memory_source, memory_source_at, opaque_source};
+ghost use Rattle.perfdata_base.specs.Source.{counted_state, CanCount, CountsRead, CountsSeek};
+ghost use Rattle.perfdata_base.specs.Source.{PausesOnlyIfIncomplete, PausesOnlyOnError, RemainsFromPosition};
+ghost use Rattle.perfdata_base.specs.Source.{SizeFitsI64, PositionFitsU64, Seeks, Reads, FillsBuffer};
+ghost use Rattle.perfdata_base.specs.Source.{SkipsUpTo, AppendsUpTo, ReadsExactly, SkipsExactly};
+ghost use Rattle.perfdata_base.specs.Source.{AppendsExactly, IsIoErrorOf};
+ghost use Rattle.perfdata_base.specs.RelativeSeek.{AgreesWithPosition, ReadUpdatesPosition};
+ghost use Rattle.perfdata_base.specs.RelativeSeek.{SeekUpdatesPosition};
 ghost use Rattle.std.specs.Io.KnownBytes.{Keeps, ReadConsumes};
 ghost use Rattle.std.specs.Io.Seek.{SeekMoves};
 ghost use Rattle.perfdata_base.specs.Buffered.{IsPrefixOfRemaining, ReadsBuffered, AppendsBuffered};

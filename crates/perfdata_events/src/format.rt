@@ -55,7 +55,8 @@ fn sample_id_size(format: SampleFields) -> usize
 }
 
 impl EventFormat {
-    ghost use Rattle.perfdata_events.specs.EventFormat.{event_format_of, big_endian_format_of, register_masks_of, trailing_size, SplitsTrailing};
+    ghost use Rattle.perfdata_events.specs.EventFormat.{event_format_of, big_endian_format_of};
+    ghost use Rattle.perfdata_events.specs.EventFormat.{register_masks_of, trailing_size, SplitsTrailing};
 
     /// Returns the format of the records of an attribute, with numbers in the byte order `endian`.
     pub fn new(attr: &PerfEventAttr, endian: Endianness) -> EventFormat

@@ -145,7 +145,8 @@ impl<'a> CgroupRecord<'a> {
 
 impl<'a> NamespacesRecord<'a> {
     ghost use Rattle.std.specs.Prelude.{◌≡◌, ◌≤◌, ◌<◌, IfSome, IfNone};
-    ghost use Rattle.perfdata_events.specs.Namespaces.{namespaces, namespaces_of, namespace_count, namespace_at};
+    ghost use Rattle.perfdata_events.specs.Namespaces.{namespaces, namespaces_of, namespace_count};
+    ghost use Rattle.perfdata_events.specs.Namespaces.{namespace_at};
 
     /// Returns the number of namespaces.
     pub fn len(&self) -> usize

@@ -1,11 +1,15 @@
 //! A reader that lends the bytes of a source from two buffers.
-ghost use Rattle.std.specs.Prelude.{◌≡◌, ◌↔◌, ◌<◌, ◌≤◌, IfErr, IfOk, IfSome, IsTrue, OnOk, length, take, slice_range, true, false, vec_len};
+ghost use Rattle.std.specs.Prelude.{◌≡◌, ◌↔◌, ◌<◌, ◌≤◌, IfErr, IfOk, IfSome, IsTrue, OnOk, length, take};
+ghost use Rattle.std.specs.Prelude.{slice_range, true, false, vec_len};
 ghost use Rattle.std.specs.Borrow.{sem};
 ghost use Rattle.std.specs.Io.BufRead.{Rests};
 ghost use Rattle.std.specs.IoError.{error_kind};
 ghost use Rattle.std.specs.declared.io.ErrorKind.TheVariants.{Other};
 ghost use Rattle.perfdata_base.specs.Raw.{IsSingle, bytes_of};
-ghost use Rattle.perfdata_jit.specs.BufferedReader.{EnsuresBuffered, ConsumesData, ConsumesHeader, IsNextContiguous, SkipsBytes, ConsumesBuffered, buffered_in, has_seek_failed, overflow_len_of, ring_capacity_of, source_of};
+ghost use Rattle.perfdata_jit.specs.BufferedReader.{EnsuresBuffered, ConsumesData, ConsumesHeader};
+ghost use Rattle.perfdata_jit.specs.BufferedReader.{IsNextContiguous, SkipsBytes, ConsumesBuffered};
+ghost use Rattle.perfdata_jit.specs.BufferedReader.{buffered_in, has_seek_failed, overflow_len_of};
+ghost use Rattle.perfdata_jit.specs.BufferedReader.{ring_capacity_of, source_of};
 ghost use Rattle.perfdata_jit.specs.Seeking.{SkipsBySeek};
 ghost use Rattle.perfdata_jit.specs.contracts.buffered_reader.BufferedReader.{the_row};
 

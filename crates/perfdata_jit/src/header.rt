@@ -4,7 +4,9 @@ ghost use Rattle.std.specs.IoError.{error_kind};
 ghost use Rattle.std.specs.declared.io.ErrorKind.TheVariants.{UnexpectedEof};
 ghost use Rattle.perfdata_base.specs.Endian.{number_in};
 ghost use Rattle.perfdata_base.specs.Raw.{bytes_of};
-ghost use Rattle.perfdata_jit.specs.JitHeader.{BeginsWithJitHeader, IsEndianOfMagic, IsHeaderAfterMagic, IsTruncatedAfterMagic, IsJitHeaderError, IsUnknownMagic, header_after_magic, jit_magic_of};
+ghost use Rattle.perfdata_jit.specs.JitHeader.{BeginsWithJitHeader, IsEndianOfMagic, IsHeaderAfterMagic};
+ghost use Rattle.perfdata_jit.specs.JitHeader.{IsTruncatedAfterMagic, IsJitHeaderError, IsUnknownMagic};
+ghost use Rattle.perfdata_jit.specs.JitHeader.{header_after_magic, jit_magic_of};
 
 use crate::error::JitDumpError;
 use byteorder::{BigEndian, LittleEndian};

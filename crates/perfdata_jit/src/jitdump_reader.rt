@@ -3,7 +3,9 @@ ghost use Rattle.std.specs.Prelude.{◌≡◌, ◌↔◌, ◌≤◌, IfOk, IsTru
 ghost use Rattle.std.specs.Borrow.{sem};
 ghost use Rattle.std.specs.Io.BufRead.{Rests};
 ghost use Rattle.perfdata_jit.specs.RecordBytes.{HasNoWholeRecord, HasWholeRecord};
-ghost use Rattle.perfdata_jit.specs.JitDumpReader.{ReturnsHeader, NextJitRecord, OpensReader, SkipsBuffered, SkipsRecord, jit_header, jit_source, jit_buffered, jit_seek_failed, jit_offset, jit_endian};
+ghost use Rattle.perfdata_jit.specs.JitDumpReader.{ReturnsHeader, NextJitRecord, OpensReader, SkipsBuffered};
+ghost use Rattle.perfdata_jit.specs.JitDumpReader.{SkipsRecord, jit_header, jit_source, jit_buffered};
+ghost use Rattle.perfdata_jit.specs.JitDumpReader.{jit_seek_failed, jit_offset, jit_endian};
 ghost use Rattle.perfdata_jit.specs.HeaderSteps.{PeeksHeader, PeeksValidHeader, BuffersRecord};
 ghost use Rattle.perfdata_jit.specs.ReadUntilEof.{CountsFill, FillsUntilEof};
 ghost use Rattle.perfdata_jit.specs.contracts.jitdump_reader.JitDumpReader.{the_row};

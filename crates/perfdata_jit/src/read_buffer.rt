@@ -1,5 +1,6 @@
 //! The bytes that are read but not consumed: those of the overflow buffer, followed by those of the ring.
-ghost use Rattle.std.specs.Prelude.{◌≡◌, ℕ, ◌+◌, ◌-◌, ◌^◌, ◌<◌, ◌≤◌, ◌⊎◌, List, [], ◌++◌, length, take, drop, slice_range, OnErr, OnOk, vec_len};
+ghost use Rattle.std.specs.Prelude.{◌≡◌, ℕ, ◌+◌, ◌-◌, ◌^◌, ◌<◌, ◌≤◌, ◌⊎◌, List, [], ◌++◌, length, take, drop};
+ghost use Rattle.std.specs.Prelude.{slice_range, OnErr, OnOk, vec_len};
 ghost use Rattle.std.specs.Borrow.{sem};
 ghost use Rattle.std.specs.Io.BufRead.{Rests};
 ghost use Rattle.perfdata_base.specs.Raw.{IsSingle, bytes_of};
@@ -50,7 +51,9 @@ fn join<'a>(first: &'a [u8], second: &'a [u8]) -> RawData<'a>
 
 impl ReadBuffer {
     ghost use Rattle.perfdata_jit.specs.contracts.read_buffer.ReadBuffer.{the_row};
-    ghost use Rattle.perfdata_jit.specs.ReadBuffer.{ConsumesPrefix, IsContiguous, IsSpanSingle, IsSpanWithin, span_bytes, read_buffer_bytes, IsOverflowConsumed, overflow_len, overflow_capacity, ring_capacity};
+    ghost use Rattle.perfdata_jit.specs.ReadBuffer.{ConsumesPrefix, IsContiguous, IsSpanSingle, IsSpanWithin};
+    ghost use Rattle.perfdata_jit.specs.ReadBuffer.{span_bytes, read_buffer_bytes, IsOverflowConsumed};
+    ghost use Rattle.perfdata_jit.specs.ReadBuffer.{overflow_len, overflow_capacity, ring_capacity};
     ghost use Rattle.perfdata_jit.specs.Ring.{ring_bytes, ring_len, ring_size};
 
     pub(crate) fn new(ring: Ring, overflow: Vec<u8>) -> ReadBuffer

@@ -6,7 +6,10 @@ ghost use Rattle.std.specs.Prelude.{option_copied};
 ghost use Rattle.std.specs.List.Sorted.{IsNonDecreasingBy};
 ghost use Rattle.perfdata_base.specs.Endian.{number_in};
 ghost use Rattle.perfdata_base.specs.Raw.{bytes_of, EndsBefore};
-ghost use Rattle.perfdata_jit.specs.JitRecords.{CodeIsAtOffset, IsTruncatedDebugEntry, IsDebugInfo, IsDebugEntry, IsLoad, IsLookup, IsDebugInfoError, IsLoadError, IsUnwindingError, IsUnwinding, IsDebugEntriesError, ReadsDebugEntries, move_of};
+ghost use Rattle.perfdata_jit.specs.JitRecords.{CodeIsAtOffset, IsTruncatedDebugEntry, IsDebugInfo};
+ghost use Rattle.perfdata_jit.specs.JitRecords.{IsDebugEntry, IsLoad, IsLookup, IsDebugInfoError};
+ghost use Rattle.perfdata_jit.specs.JitRecords.{IsLoadError, IsUnwindingError, IsUnwinding};
+ghost use Rattle.perfdata_jit.specs.JitRecords.{IsDebugEntriesError, ReadsDebugEntries, move_of};
 
 use crate::record::JitDumpRecordHeader;
 use byteorder::{BigEndian, LittleEndian};

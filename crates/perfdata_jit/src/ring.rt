@@ -1,5 +1,6 @@
 //! A buffer of fixed size that is used as a ring: its bytes may wrap around its end.
-ghost use Rattle.std.specs.Prelude.{◌≡◌, ℕ, ◌+◌, ◌-◌, ◌^◌, ◌<◌, ◌≤◌, ◌⊎◌, List, [], ◌++◌, length, take, drop, slice_range, IfOk, vec_len};
+ghost use Rattle.std.specs.Prelude.{◌≡◌, ℕ, ◌+◌, ◌-◌, ◌^◌, ◌<◌, ◌≤◌, ◌⊎◌, List, [], ◌++◌, length, take, drop};
+ghost use Rattle.std.specs.Prelude.{slice_range, IfOk, vec_len};
 ghost use Rattle.perfdata_base.specs.Source.{Reads, CountsRead};
 ghost use Rattle.perfdata_jit.specs.RingFilling.{FillsRing};
 

@@ -2,9 +2,13 @@
 ghost use Rattle.std.specs.Prelude.{◌≡◌, ◌+◌, ◌^◌, ◌<◌, ◌≤◌, IsTrue, OnOk, false, length};
 ghost use Rattle.std.specs.Io.KnownBytes.{Keeps};
 ghost use Rattle.perfdata_jit.specs.RecordBytes.{HasWholeRecord};
-ghost use Rattle.perfdata_jit.specs.JitDumpReader.{jit_buffered, jit_seek_failed, jit_offset, jit_endian, jit_ring_capacity};
+ghost use Rattle.perfdata_jit.specs.JitDumpReader.{jit_buffered, jit_seek_failed, jit_offset, jit_endian};
+ghost use Rattle.perfdata_jit.specs.JitDumpReader.{jit_ring_capacity};
 ghost use Rattle.perfdata_listing.specs.LineText.{text_of};
-ghost use Rattle.perfdata_listing.specs.JitListing.{FlushesBeforeBlocking, FlushesJitBeforeBlocking, raw_record_text, ListsJit, ListsJitRecords, ListsLiveJit, ListsLiveJitRecords, ListsNextJit, MayBlock, ReadsNothing};
+ghost use Rattle.perfdata_listing.specs.JitListing.{FlushesBeforeBlocking, FlushesJitBeforeBlocking};
+ghost use Rattle.perfdata_listing.specs.JitListing.{raw_record_text, ListsJit, ListsJitRecords, ListsLiveJit};
+ghost use Rattle.perfdata_listing.specs.JitListing.{ListsLiveJitRecords, ListsNextJit, MayBlock};
+ghost use Rattle.perfdata_listing.specs.JitListing.{ReadsNothing};
 
 use crate::line::Line;
 use crate::list::{ListCause, ListFault};

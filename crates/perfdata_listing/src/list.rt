@@ -2,11 +2,13 @@
 ghost use Rattle.std.specs.Prelude.{◌≡◌, ◌⊎◌, [], IfOk, IfErr, IsErr, IsTrue, OnOk, OnErr, Ok, false};
 ghost use Rattle.std.specs.Io.KnownBytes.{Keeps};
 ghost use Rattle.linux_perf_data.specs.BufferedRecord.{IsFinished};
-ghost use Rattle.perfdata_listing.specs.CountingBufWriter.{pending_bytes, has_failed, lines_written, BuffersAndForwards};
+ghost use Rattle.perfdata_listing.specs.CountingBufWriter.{pending_bytes, has_failed, lines_written};
+ghost use Rattle.perfdata_listing.specs.CountingBufWriter.{BuffersAndForwards};
 ghost use Rattle.linux_perf_data.specs.RecordViews.{record_view_of};
 ghost use Rattle.perfdata_listing.specs.Listing.{WritesRecord, IsPlainLine};
 ghost use Rattle.linux_perf_data.specs.Reading.{HasMatchingFile, HasNotFailed};
-ghost use Rattle.perfdata_listing.specs.Listing.{ListsNext, ListsRecords, ListsLiveRecords, ListsFile, MayBlock, FlushesBeforeBlocking};
+ghost use Rattle.perfdata_listing.specs.Listing.{ListsNext, ListsRecords, ListsLiveRecords, ListsFile};
+ghost use Rattle.perfdata_listing.specs.Listing.{MayBlock, FlushesBeforeBlocking};
 ghost use Rattle.perfdata_listing.specs.PipeListing.{FlushesPipeBeforeBlocking, ListsPipe, ListsLivePipe};
 
 use crate::line::Line;

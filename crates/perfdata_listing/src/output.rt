@@ -1,5 +1,6 @@
 //! Output to a writer that may fail: lines, a buffer that counts them, and the end of the program's output.
-ghost use Rattle.std.specs.Prelude.{◌≡◌, ◌≢◌, ◌+◌, ◌-◌, ◌^◌, ◌<◌, ◌≤◌, ◌++◌, ℕ, List, [], length, take, drop, vec_len, vec_capacity, IfOk, OnOk, OnErr, false};
+ghost use Rattle.std.specs.Prelude.{◌≡◌, ◌≢◌, ◌+◌, ◌-◌, ◌^◌, ◌<◌, ◌≤◌, ◌++◌, ℕ, List, [], length, take, drop};
+ghost use Rattle.std.specs.Prelude.{vec_len, vec_capacity, IfOk, OnOk, OnErr, false};
 ghost use Rattle.std.specs.Io.{WritesAtMost};
 ghost use Rattle.std.specs.Io.KnownBytes.{Appends, Keeps, WriteAppends};
 ghost use Rattle.perfdata_listing.specs.Output.{WritesAll, Finishes, newline_count};
@@ -123,7 +124,9 @@ fn append_within_capacity(buffer: &mut Vec<u8>, bytes: &[u8])
 }
 
 impl<W: Write> CountingBufWriter<W> {
-    ghost use Rattle.perfdata_listing.specs.CountingBufWriter.{pending_bytes, has_failed, lines_written, inner_writer, BuffersAndForwards, AcceptsWrite, Tries};
+    ghost use Rattle.perfdata_listing.specs.CountingBufWriter.{pending_bytes, has_failed, lines_written};
+    ghost use Rattle.perfdata_listing.specs.CountingBufWriter.{inner_writer, BuffersAndForwards};
+    ghost use Rattle.perfdata_listing.specs.CountingBufWriter.{AcceptsWrite, Tries};
 
     /// Creates a buffer of 64 KiB for a writer. Fails if the allocation fails, and drops the writer.
     pub fn new(alloc: Global, inner: W) -> Result<CountingBufWriter<W>, AllocError>
@@ -193,7 +196,9 @@ impl<W: Write> CountingBufWriter<W> {
 }
 
 impl<W: Write> Write for CountingBufWriter<W> {
-    ghost use Rattle.perfdata_listing.specs.CountingBufWriter.{pending_bytes, free_capacity, contents_with_buffer, BuffersAndForwards, AcceptsWrite, Tries};
+    ghost use Rattle.perfdata_listing.specs.CountingBufWriter.{pending_bytes, free_capacity};
+    ghost use Rattle.perfdata_listing.specs.CountingBufWriter.{contents_with_buffer, BuffersAndForwards};
+    ghost use Rattle.perfdata_listing.specs.CountingBufWriter.{AcceptsWrite, Tries};
 
     ghost contents = { contents_with_buffer W.contents };
 

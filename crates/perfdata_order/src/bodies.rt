@@ -94,7 +94,8 @@ pub(crate) struct Bodies {
 }
 
 impl Bodies {
-    ghost use Rattle.perfdata_order.specs.Bodies.{AppendsBody, ReleasesBody, MovesOn, KeepsBodies, HoldsNone, CanAppend, bytes_at, body_at};
+    ghost use Rattle.perfdata_order.specs.Bodies.{AppendsBody, ReleasesBody, MovesOn, KeepsBodies, HoldsNone};
+    ghost use Rattle.perfdata_order.specs.Bodies.{CanAppend, bytes_at, body_at};
 
     pub(crate) fn new(alloc: Global) -> Bodies
         ensures { HoldsNone result }

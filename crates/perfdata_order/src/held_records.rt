@@ -22,7 +22,8 @@ pub(crate) struct HeldRecords {
 }
 
 impl HeldRecords {
-    ghost use Rattle.perfdata_order.specs.Sorter.{IsNew, TestsAvailable, TestsEmpty, EndsRound, EndsAllRounds, ReleasesHalf};
+    ghost use Rattle.perfdata_order.specs.Sorter.{IsNew, TestsAvailable, TestsEmpty, EndsRound};
+    ghost use Rattle.perfdata_order.specs.Sorter.{EndsAllRounds, ReleasesHalf};
     ghost use Rattle.perfdata_order.specs.HeldRecords.{InsertsRecord, TakesRecord, body_of};
 
     pub(crate) fn new(alloc: Global) -> HeldRecords

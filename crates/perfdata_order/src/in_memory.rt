@@ -53,7 +53,9 @@ pub(crate) fn time_key(place: RecordPlace) -> Option<u64>
 }
 
 impl<'a> InMemoryOrderedRecords<'a> {
-    ghost use Rattle.perfdata_order.specs.InMemoryOrder.{EndsRoundsBefore, IsNewOrder, PlacesPending, ReadsPending, ReturnsInOrder, TakesEnd, TakesUntimed};
+    ghost use Rattle.perfdata_order.specs.InMemoryOrder.{EndsRoundsBefore, IsNewOrder, PlacesPending};
+    ghost use Rattle.perfdata_order.specs.InMemoryOrder.{ReadsPending, ReturnsInOrder, TakesEnd};
+    ghost use Rattle.perfdata_order.specs.InMemoryOrder.{TakesUntimed};
 
     /// Returns the records of `records` in order of time. The order allocates with `alloc`.
     pub fn new(alloc: Global, records: InMemoryRecords<'a>) -> InMemoryOrderedRecords<'a>

@@ -1,7 +1,16 @@
 //! Laws of values and of records in order.
-ghost use Rattle.perfdata_order.specs.InMemoryLaws.{CallsSorterInTurn, HoldsTwoRounds as HoldsTwoRoundsInMemory, ReadsRecordsOfInput, ReturnsEachRecordOnce, TimesAscendUnderPerfRule};
-ghost use Rattle.perfdata_order.specs.StreamingLaws.{ReadsRecordsOfSource, CountsEarly, NoneEarlyWithoutBudget, StaysWithinBudget, HoldsTwoRounds, ReturnsEachRecordOnce as ReturnsEachRecordOnceOf, CallsSorterInTurn as CallsSorterInTurnOf, TimesAscendUnderPerfRule as TimesAscendUnderPerfRuleOf};
-ghost use Rattle.perfdata_order.specs.SorterLaws.{AscendsUnderRule, KeepsInsertionOrder, ReturnsEachOnce, RunsAscend};
+ghost use Rattle.perfdata_order.specs.InMemoryLaws.{CallsSorterInTurn};
+ghost use Rattle.perfdata_order.specs.InMemoryLaws.{HoldsTwoRounds as HoldsTwoRoundsInMemory};
+ghost use Rattle.perfdata_order.specs.InMemoryLaws.{ReadsRecordsOfInput, ReturnsEachRecordOnce};
+ghost use Rattle.perfdata_order.specs.InMemoryLaws.{TimesAscendUnderPerfRule};
+ghost use Rattle.perfdata_order.specs.StreamingLaws.{ReadsRecordsOfSource, CountsEarly};
+ghost use Rattle.perfdata_order.specs.StreamingLaws.{NoneEarlyWithoutBudget, StaysWithinBudget};
+ghost use Rattle.perfdata_order.specs.StreamingLaws.{HoldsTwoRounds};
+ghost use Rattle.perfdata_order.specs.StreamingLaws.{ReturnsEachRecordOnce as ReturnsEachRecordOnceOf};
+ghost use Rattle.perfdata_order.specs.StreamingLaws.{CallsSorterInTurn as CallsSorterInTurnOf};
+ghost use Rattle.perfdata_order.specs.StreamingLaws.{TimesAscendUnderPerfRule as TimesAscendUnderPerfRuleOf};
+ghost use Rattle.perfdata_order.specs.SorterLaws.{AscendsUnderRule, KeepsInsertionOrder, ReturnsEachOnce};
+ghost use Rattle.perfdata_order.specs.SorterLaws.{RunsAscend};
 
 use linux_perf_data::laws::offsets_increase;
 use linux_perf_data::source::Source;

@@ -62,7 +62,9 @@ pub struct OrderedRecords<R> {
 
 impl<R> OrderedRecords<R> {
     ghost use Rattle.perfdata_order.specs.declared.streaming.Pending.TheVariants.{Nothing};
-    ghost use Rattle.perfdata_order.specs.StreamingOrder.{IsNewOrder, EndsRoundsBefore, ReleasesEarly, MayInsert, HoldsRecord, TakesEnd, TakesSorted, TakesUntimed, body_in, early_of};
+    ghost use Rattle.perfdata_order.specs.StreamingOrder.{IsNewOrder, EndsRoundsBefore, ReleasesEarly};
+    ghost use Rattle.perfdata_order.specs.StreamingOrder.{MayInsert, HoldsRecord, TakesEnd, TakesSorted};
+    ghost use Rattle.perfdata_order.specs.StreamingOrder.{TakesUntimed, body_in, early_of};
 
     /// Returns the records of `records` in order of time. The order allocates with `alloc`.
     pub fn new(alloc: Global, records: PerfRecordIter<R>) -> OrderedRecords<R>
@@ -268,7 +270,8 @@ impl<R: Source> OrderedRecords<R> {
     ghost use Rattle.std.specs.Borrow.{sem};
     ghost use Rattle.perfdata_order.specs.contracts.streaming.OrderedRecords.{the_row};
     ghost use Rattle.perfdata_order.specs.declared.streaming.Pending.TheVariants.{Record};
-    ghost use Rattle.perfdata_order.specs.StreamingOrder.{unplaced_of, AdmitsPending, PlacesPending, ReadsNext, AdvancesInOrder, ReturnsInOrder};
+    ghost use Rattle.perfdata_order.specs.StreamingOrder.{unplaced_of, AdmitsPending, PlacesPending};
+    ghost use Rattle.perfdata_order.specs.StreamingOrder.{ReadsNext, AdvancesInOrder, ReturnsInOrder};
     ghost use Rattle.perfdata_order.specs.StreamingOrder.Unplaced.{waiting};
     ghost use Rattle.perfdata_order.specs.HeldRecord.{held_size as size_of};
     ghost use Rattle.linux_perf_data.specs.Layout.{RecordView};

@@ -2,7 +2,9 @@
 ghost use Rattle.std.specs.Prelude.{◌≡◌, ◌↔◌, IsTrue, length};
 ghost use Rattle.perfdata_base.specs.Endian.{number_in};
 ghost use Rattle.perfdata_base.specs.Source.{State, PausesOnlyOnError};
-ghost use Rattle.perfdata_records.specs.BuildIdEvent.{IsTruncatedBuildIdEntry, IsWithoutZeroGroups, IsBuildIdIn, ReadsBuildIdEvent, ReadsFirstEntry, ParsesBuildIdEvent};
+ghost use Rattle.perfdata_records.specs.BuildIdEvent.{IsTruncatedBuildIdEntry, IsWithoutZeroGroups};
+ghost use Rattle.perfdata_records.specs.BuildIdEvent.{IsBuildIdIn, ReadsBuildIdEvent, ReadsFirstEntry};
+ghost use Rattle.perfdata_records.specs.BuildIdEvent.{ParsesBuildIdEvent};
 ghost use Rattle.perfdata_sections.specs.HeaderString.{before_nul};
 ghost use Rattle.perfdata_sections.specs.ParsedPart.{NoPauseIfOutOfMemory};
 

@@ -258,7 +258,8 @@ pub enum PerfFileRecord<'a> {
 }
 
 impl<'a> PerfFileRecord<'a> {
-    ghost use Rattle.perfdata_records.specs.FileRecord.{file_record_type, file_record_misc, file_record_body, file_record_attr_index};
+    ghost use Rattle.perfdata_records.specs.FileRecord.{file_record_type, file_record_misc, file_record_body};
+    ghost use Rattle.perfdata_records.specs.FileRecord.{file_record_attr_index};
 
     /// Returns the record's type: below 64 if the kernel wrote the record, 64 or above if a tool did.
     pub fn record_type(&self) -> RecordType

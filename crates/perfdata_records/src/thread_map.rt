@@ -1,5 +1,6 @@
 //! The recorded threads.
-ghost use Rattle.std.specs.Prelude.{◌≡◌, ◌==◌, ◌*◌, ◌/◌, ◌<◌, ◌≤◌, ⊤, IfOk, IfErr, OnOk, IfSome, IfNone, length, drop};
+ghost use Rattle.std.specs.Prelude.{◌≡◌, ◌==◌, ◌*◌, ◌/◌, ◌<◌, ◌≤◌, ⊤, IfOk, IfErr, OnOk, IfSome, IfNone};
+ghost use Rattle.std.specs.Prelude.{length, drop};
 ghost use Rattle.std.specs.Iterator.{YieldsFirstBy, item_count};
 ghost use Rattle.perfdata_base.specs.Raw.{bytes_of, EndsBefore, DropsPrefix};
 ghost use Rattle.perfdata_base.specs.Endian.{number_in};
@@ -45,7 +46,8 @@ pub struct ThreadMapIter<'a> {
 }
 
 impl<'a> ThreadMap<'a> {
-    ghost use Rattle.perfdata_records.specs.ThreadMap.{AreThreadEntries, IsThreadMapError, IsThreadMap, entry_bytes_of, remaining_threads, threads_of};
+    ghost use Rattle.perfdata_records.specs.ThreadMap.{AreThreadEntries, IsThreadMapError, IsThreadMap};
+    ghost use Rattle.perfdata_records.specs.ThreadMap.{entry_bytes_of, remaining_threads, threads_of};
 
     /// Parses the body of a record: a count of eight bytes, and that many entries of 24 bytes.
     ///

@@ -82,9 +82,15 @@ pub record AreOffsets (format : EventFormat) (body : List ℕ) (offsets : PartOf
 abbrev pub IsTruncatedIn : EventFormat → List ℕ → Type 0
 IsTruncatedIn format body = (kind : ErrorKind) × sample (number_in format.endian) format body (fails kind)
 
--- the fields of some bits are truncated
+-- the bits of the fields before one of the parts
+abbrev pub IsBeforePart : ℕ → Type 0
+IsBeforePart bits =
+    (bits ≡ before_raw) ⊎ ((bits ≡ before_branches) ⊎ ((bits ≡ before_user_registers)
+    ⊎ ((bits ≡ before_user_stack) ⊎ ((bits ≡ before_interrupt_registers) ⊎ (bits ≡ before_aux)))))
+
+-- the fields before one of the parts are truncated
 abbrev pub HasTruncatedPart : EventFormat → List ℕ → Type 0
-HasTruncatedPart format body = (bits : ℕ) × IsTruncatedIn (with_fields format bits) body
+HasTruncatedPart format body = (bits : ℕ) × IsBeforePart bits × IsTruncatedIn (with_fields format bits) body
 
 -- ---- the parts
 

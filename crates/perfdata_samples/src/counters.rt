@@ -6,8 +6,10 @@ ghost use Rattle.linux_perf_data.specs.RecordViews.{record_view_of};
 ghost use Rattle.linux_perf_data.specs.declared.records.iter.RecordPlace.{RecordPlace};
 ghost use Rattle.perfdata_arrays.specs.Overwrites.{with_entries_at};
 ghost use Rattle.perfdata_events.specs.ReadValues.{counter_count};
-ghost use Rattle.perfdata_samples.specs.Counters.{AreCountersOf, counter_entries, event_values, group_entries, group_entry, is_counter_type, single_entry};
-ghost use Rattle.perfdata_samples.specs.CounterPages.{AddsCounters, ReadsCounterPage, ReadsPipeCounters, WalksCounters};
+ghost use Rattle.perfdata_samples.specs.Counters.{AreCountersOf, counter_entries, event_values};
+ghost use Rattle.perfdata_samples.specs.Counters.{group_entries, group_entry, is_counter_type, single_entry};
+ghost use Rattle.perfdata_samples.specs.CounterPages.{AddsCounters, ReadsCounterPage, ReadsPipeCounters};
+ghost use Rattle.perfdata_samples.specs.CounterPages.{WalksCounters};
 ghost use Rattle.perfdata_samples.specs.PipeEntries.{WalksAllEntries};
 
 use crate::array::write_entry;

@@ -2,7 +2,8 @@
 ghost use Rattle.std.specs.Prelude.{◌≡◌, ◌+◌, ◌<◌, ◌^◌, replicate};
 ghost use Rattle.linux_perf_data.specs.RecordEntries.{with_prefix};
 ghost use Rattle.perfdata_base.specs.Raw.{bytes_of};
-ghost use Rattle.perfdata_samples.specs.Mappings.{event_mapping, identity_of, is_mapping_type, mmap_entry, mmap2_entry};
+ghost use Rattle.perfdata_samples.specs.Mappings.{event_mapping, identity_of, is_mapping_type, mmap_entry};
+ghost use Rattle.perfdata_samples.specs.Mappings.{mmap2_entry};
 ghost use Rattle.perfdata_samples.specs.MappingPages.{ReadsMappingPage, ReadsPipeMappings};
 
 use crate::entries::{EntriesResult, file_entries, pipe_entries};

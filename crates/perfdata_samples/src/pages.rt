@@ -1,6 +1,7 @@
 //! The samples of a perf.data file, in pages.
 ghost use Rattle.std.specs.Prelude.{◌≡◌};
-ghost use Rattle.perfdata_samples.specs.Pages.{ReadsSamplePage, WalksSamples, page_end_frames, page_end_status};
+ghost use Rattle.perfdata_samples.specs.Pages.{ReadsSamplePage, WalksSamples, page_end_frames};
+ghost use Rattle.perfdata_samples.specs.Pages.{page_end_status};
 
 use crate::frame::FrameEntry;
 use crate::records::add_record;

@@ -3,7 +3,8 @@ ghost use Rattle.std.specs.Prelude.{◌≡◌};
 ghost use Rattle.linux_perf_data.specs.PerfFile.{attributes_of_file, endian_of_file};
 ghost use Rattle.linux_perf_data.specs.RecordViews.{record_view_of};
 ghost use Rattle.perfdata_arrays.specs.Walk.{walk_status};
-ghost use Rattle.perfdata_samples.specs.Pipes.{CountsRecord, ReadsPipeSamples, WalksAllSamples, WritesFramesAt};
+ghost use Rattle.perfdata_samples.specs.Pipes.{CountsRecord, ReadsPipeSamples, WalksAllSamples};
+ghost use Rattle.perfdata_samples.specs.Pipes.{WritesFramesAt};
 ghost use Rattle.perfdata_samples.specs.Records.{frames_of_body};
 ghost use Rattle.std.specs.Prelude.{true};
 

@@ -2,7 +2,9 @@
 ghost use Rattle.std.specs.Prelude.{◌≡◌};
 ghost use Rattle.perfdata_sections.specs.Error.{IsUnsupported};
 ghost use Rattle.perfdata_sections.specs.ParsedPart.{file_error_of};
-ghost use Rattle.perfdata_sections.specs.declared.error.Error.TheVariants.{Memory as OfMemory, Read as OfRead, IoError as OfIo, StringUtf8 as OfUtf8};
+ghost use Rattle.perfdata_sections.specs.declared.error.Error.TheVariants.{Memory as OfMemory};
+ghost use Rattle.perfdata_sections.specs.declared.error.Error.TheVariants.{Read as OfRead, IoError as OfIo};
+ghost use Rattle.perfdata_sections.specs.declared.error.Error.TheVariants.{StringUtf8 as OfUtf8};
 
 use crate::decode_error::DecodeError;
 use perfdata_base::source::AppendError;

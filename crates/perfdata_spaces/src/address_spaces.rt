@@ -39,7 +39,8 @@ pub fn context_of_mode(misc: u16) -> CallContext
 
 impl AddressSpaces {
     ghost use Rattle.perfdata_spaces.specs.AddressSpaces.{Follows, FollowsBut, FindsIndex, KeepsIndices};
-    ghost use Rattle.perfdata_spaces.specs.AddressSpaces.{mapping_values, space_effects, name_effects, then_applied};
+    ghost use Rattle.perfdata_spaces.specs.AddressSpaces.{mapping_values, space_effects, name_effects};
+    ghost use Rattle.perfdata_spaces.specs.AddressSpaces.{then_applied};
 
     /// Creates address spaces in which nothing is mapped.
     pub fn new(alloc: Global) -> AddressSpaces

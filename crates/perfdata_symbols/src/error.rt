@@ -1,7 +1,9 @@
 //! The errors of the readers.
 ghost use Rattle.std.specs.Prelude.{◌≡◌};
 ghost use Rattle.perfdata_symbols.specs.declared.error.ElfError.TheVariants.{Io as OfIo, Memory as OfMemory};
-ghost use Rattle.perfdata_symbols.specs.declared.error.JitSymbolsError.TheVariants.{Io as OfJitIo, Memory as OfJitMemory, Jitdump as OfJitdump};
+ghost use Rattle.perfdata_symbols.specs.declared.error.JitSymbolsError.TheVariants.{Io as OfJitIo};
+ghost use Rattle.perfdata_symbols.specs.declared.error.JitSymbolsError.TheVariants.{Memory as OfJitMemory};
+ghost use Rattle.perfdata_symbols.specs.declared.error.JitSymbolsError.TheVariants.{Jitdump as OfJitdump};
 
 use perfdata_jit::JitDumpError;
 use std::alloc::{AllocError, AllocFailed};

@@ -1,5 +1,6 @@
 //! Tables that find the symbol of an address.
-ghost use Rattle.std.specs.Prelude.{◌≡◌, ◌≤◌, ◌<◌, ◌^◌, ◌++◌, ◌∷◌, [], ℕ, IfOk, OnErr, OnOk, None, length, slice_range, vec_len};
+ghost use Rattle.std.specs.Prelude.{◌≡◌, ◌≤◌, ◌<◌, ◌^◌, ◌++◌, ◌∷◌, [], ℕ, IfOk, OnErr, OnOk, None, length};
+ghost use Rattle.std.specs.Prelude.{slice_range, vec_len};
 ghost use Rattle.std.proofs.Props.{props};
 ghost use Rattle.perfdata_symbols.specs.Layer.{symbol_in_layers};
 ghost use Rattle.perfdata_symbols.specs.Symbols.{IsLastIndex, IsLastSymbol, last_from};

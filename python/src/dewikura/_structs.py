@@ -348,8 +348,9 @@ class JitDebugEntryStruct(ctypes.Structure):
     _fields_ = [("code_address", u64), ("path_offset", u64), ("path_size", u64), ("line", u32), ("column", u32)]
 
 
-for _struct, _size in ((Record, 56), (Sample, 88), (Frame, 16), (SampleDetails, 192), (Task, 56), (Mapping, 128), (Attr, 168), (AttrTotals, 24), (FeatureSet, 32), (BuildIdEntry, 48),
-                       (JitHeaderStruct, 40), (JitRecord, 24), (JitLoadStruct, 64), (StringStruct, 24), (JitMoveStruct, 48), (JitUnwindingStruct, 40),
-                       (MetaPairStruct, 32), (SymbolFileStruct, 72), (SymbolStruct, 32), (SymbolTotals, 32), (JitDebugEntryStruct, 32)):
+for _struct, _size in ((Record, 56), (Sample, 88), (Frame, 16), (SampleDetails, 192), (Task, 56), (Mapping, 128), (Counter, 48), (Attr, 168),
+                       (AttrTotals, 24), (FeatureSet, 32), (BuildIdEntry, 48), (JitHeaderStruct, 40), (JitRecord, 24), (JitLoadStruct, 64),
+                       (StringStruct, 24), (JitMoveStruct, 48), (JitUnwindingStruct, 40), (MetaPairStruct, 32), (SymbolFileStruct, 72),
+                       (SymbolStruct, 32), (SymbolTotals, 32), (JitDebugEntryStruct, 32)):
     if ctypes.sizeof(_struct) != _size:
         raise ImportError(f"{_struct.__name__} has {ctypes.sizeof(_struct)} bytes instead of {_size}")

@@ -4,7 +4,8 @@ ghost use Rattle.std.specs.Prelude.{◌≡◌, if◌then◌else◌, None, Some};
 ghost use Rattle.std.specs.Option.{option_or};
 ghost use Rattle.perfdata_base.specs.ParseInfo.{is_set};
 ghost use Rattle.linux_perf_data.specs.Descriptions.{described_attribute, described_attributes};
-ghost use Rattle.linux_perf_data.specs.Consistency.{first_without_identifier, TestsIdOffsets, TestsSampleIdAll, ChecksEach, ChecksConsistency};
+ghost use Rattle.linux_perf_data.specs.Consistency.{first_without_identifier, TestsIdOffsets};
+ghost use Rattle.linux_perf_data.specs.Consistency.{TestsSampleIdAll, ChecksEach, ChecksConsistency};
 
 use bitflags::Flags;
 use perfdata_base::attr::{AttrFlags, PerfEventAttr, SampleFormat};

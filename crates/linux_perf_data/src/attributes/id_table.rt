@@ -2,7 +2,8 @@
 ghost use Rattle.std.specs.Prelude.{◌≡◌, ◌++◌, ◌<◌, ℕ, length, map, IfOk, None, OnOk};
 ghost use Rattle.std.specs.List.Sorted.{IsPermutation};
 ghost use Rattle.linux_perf_data.specs.Descriptions.{described_attributes};
-ghost use Rattle.linux_perf_data.specs.IdPairs.{last_index_of_id, id_pairs_of, rank_of_id, AreOrdered, AreAscending, IsInsertionPoint, TestsLastOfId, TestsPairAt};
+ghost use Rattle.linux_perf_data.specs.IdPairs.{last_index_of_id, id_pairs_of, rank_of_id, AreOrdered};
+ghost use Rattle.linux_perf_data.specs.IdPairs.{AreAscending, IsInsertionPoint, TestsLastOfId, TestsPairAt};
 
 use perfdata_parts::feature_sections::AttributeDescription;
 use std::alloc::{AllocError, Global};

@@ -58,7 +58,9 @@ fn build_table(alloc: Global, attributes: &[AttributeDescription]) -> Result<IdT
 }
 
 impl AttributeLookup {
-    ghost use Rattle.linux_perf_data.specs.AttributeLookup.{AddsAttribute, ChecksNextAttribute, BuildsLookup, HasOnly, KeepsAttributes, ResolvesEvent, ResolvesId, parse_info_at};
+    ghost use Rattle.linux_perf_data.specs.AttributeLookup.{AddsAttribute, ChecksNextAttribute, BuildsLookup};
+    ghost use Rattle.linux_perf_data.specs.AttributeLookup.{HasOnly, KeepsAttributes, ResolvesEvent};
+    ghost use Rattle.linux_perf_data.specs.AttributeLookup.{ResolvesId, parse_info_at};
 
     // Builds the lookup of consistent attributes.
     pub(crate) fn new(

@@ -53,7 +53,8 @@ fn index_first_ids(
 }
 
 impl NameTable {
-    ghost use Rattle.linux_perf_data.specs.NameTable.{name_from_table, ClonesNames, ReadsNameTable, TestsEndian};
+    ghost use Rattle.linux_perf_data.specs.NameTable.{name_from_table, ClonesNames, ReadsNameTable};
+    ghost use Rattle.linux_perf_data.specs.NameTable.{TestsEndian};
 
     // Parses the section EVENT_DESC. Without the section, the table is empty and no attribute has a name.
     pub(crate) fn read(

@@ -5,7 +5,8 @@ ghost use Rattle.std.specs.Option.{option_map};
 ghost use Rattle.linux_perf_data.specs.Descriptions.{described_attributes};
 ghost use Rattle.linux_perf_data.specs.FirstIdIndex.{IndexesAll};
 ghost use Rattle.linux_perf_data.specs.Names.{NamedBy};
-ghost use Rattle.linux_perf_data.specs.Renames.{AppendsRenames, AreRenamesFor, FindsRenames, HasOtherFirstId, IsUnlistedOrKept, KeepsName, TestsSameName};
+ghost use Rattle.linux_perf_data.specs.Renames.{AppendsRenames, AreRenamesFor, FindsRenames, HasOtherFirstId};
+ghost use Rattle.linux_perf_data.specs.Renames.{IsUnlistedOrKept, KeepsName, TestsSameName};
 
 use crate::attributes::first_id_index::FirstIdIndex;
 use crate::attributes::name_table::NameTable;

@@ -4,7 +4,8 @@ ghost use Rattle.std.specs.Prelude.{◌≡◌};
 ghost use Rattle.perfdata_base.specs.Features.{features_of};
 ghost use Rattle.perfdata_base.specs.Endian.{number_in};
 ghost use Rattle.perfdata_base.specs.Section.{ParsesSectionEntry};
-ghost use Rattle.linux_perf_data.specs.FeatureData.{SeeksToOffset, ReadsFeatureTable, ReadsSectionBytes, ReadsFeatureData, ReadsFeatures, feature_entries_of};
+ghost use Rattle.linux_perf_data.specs.FeatureData.{SeeksToOffset, ReadsFeatureTable, ReadsSectionBytes};
+ghost use Rattle.linux_perf_data.specs.FeatureData.{ReadsFeatureData, ReadsFeatures, feature_entries_of};
 
 use byteorder::{BigEndian, LittleEndian};
 use indexmap::IndexMap;

@@ -2,7 +2,9 @@
 ghost use Rattle.perfdata_base.specs.Source.{PausesOnlyOnError};
 ghost use Rattle.std.specs.Prelude.{◌≡◌, IfErr};
 ghost use Rattle.std.specs.Option.{option_map};
-ghost use Rattle.linux_perf_data.specs.AttributeSources.{known_sections, ReadsAttributes, ReadsTypesSection, ParsesMetaEventTypes, ReadsSimpleperfSection, ReadsAttrsSection};
+ghost use Rattle.linux_perf_data.specs.AttributeSources.{known_sections, ReadsAttributes, ReadsTypesSection};
+ghost use Rattle.linux_perf_data.specs.AttributeSources.{ParsesMetaEventTypes, ReadsSimpleperfSection};
+ghost use Rattle.linux_perf_data.specs.AttributeSources.{ReadsAttrsSection};
 ghost use Rattle.linux_perf_data.specs.FileOpening.{RecognizesMagic, OpensAfterHeader, OpensPerfFile};
 ghost use Rattle.linux_perf_data.specs.FeatureData.{feature_data_of};
 ghost use Rattle.linux_perf_data.specs.NamedErrors.{IsFileOpeningError};

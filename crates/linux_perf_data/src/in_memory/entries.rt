@@ -94,7 +94,8 @@ impl RecordEntry {
 impl<'a> InMemoryRecords<'a> {
     ghost use Rattle.linux_perf_data.specs.FileWalk.{IsNextRecord, IsWalkAhead};
     ghost use Rattle.linux_perf_data.specs.RecordEntries.{ReadsEntries};
-    ghost use Rattle.linux_perf_data.specs.WalkEntries.{ReadsEntriesOfWalk, TakesEntryOfWalk, TakesRecordOfWalk, WritesMoreEntries};
+    ghost use Rattle.linux_perf_data.specs.WalkEntries.{ReadsEntriesOfWalk, TakesEntryOfWalk};
+    ghost use Rattle.linux_perf_data.specs.WalkEntries.{TakesRecordOfWalk, WritesMoreEntries};
 
     // Takes the next record of a walk from these records, which stay where the walk started.
     #[inline(always)]

@@ -4,7 +4,8 @@ ghost use Rattle.std.specs.Prelude.{◌≡◌, ◌≤◌, ◌<◌, ◌^◌, IfSo
 ghost use Rattle.std.specs.List.{slice_range};
 ghost use Rattle.linux_perf_data.specs.AttributeLookup.{HasOnly, KeepsAttributes};
 ghost use Rattle.linux_perf_data.specs.InMemory.{TakesFileRecord};
-ghost use Rattle.linux_perf_data.specs.FileWalk.{IsNextRecord, IsWalkOf, MovesIter, MovesPast, PeeksNextRecord, StartsWalk, remaining_in, with_lookup};
+ghost use Rattle.linux_perf_data.specs.FileWalk.{IsNextRecord, IsWalkOf, MovesIter, MovesPast};
+ghost use Rattle.linux_perf_data.specs.FileWalk.{PeeksNextRecord, StartsWalk, remaining_in, with_lookup};
 ghost use Rattle.linux_perf_data.specs.RecordViews.{IdentifiesRecord};
 
 use crate::attributes::lookup::AttributeLookup;

@@ -1,7 +1,8 @@
 //! Takes records from bytes in memory. The calls are those of a `PerfRecordIter` over a cursor, but the body
 //! buffer stays empty.
 ghost use Rattle.std.specs.Prelude.{◌≡◌, []};
-ghost use Rattle.linux_perf_data.specs.InMemory.{EndsOrFails, ProcessesBody, TakesFileRecord, TakesRawRecord, TakesRecord};
+ghost use Rattle.linux_perf_data.specs.InMemory.{EndsOrFails, ProcessesBody, TakesFileRecord, TakesRawRecord};
+ghost use Rattle.linux_perf_data.specs.InMemory.{TakesRecord};
 
 use crate::in_memory::file_walk::FileWalk;
 use crate::in_memory::framing::{skip_bytes, take_record_body};

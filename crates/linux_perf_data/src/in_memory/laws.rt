@@ -1,5 +1,6 @@
 //! Laws of a reading in memory: it returns what a streaming reading of the same bytes returns.
-ghost use Rattle.linux_perf_data.specs.InMemoryReading.{NoCallsInMemory, OneCallMoreInMemory, ReturnsSameEnd, ReturnsSameError, ReturnsSameRecords};
+ghost use Rattle.linux_perf_data.specs.InMemoryReading.{NoCallsInMemory, OneCallMoreInMemory, ReturnsSameEnd};
+ghost use Rattle.linux_perf_data.specs.InMemoryReading.{ReturnsSameError, ReturnsSameRecords};
 
 /// Extends consecutive calls of `InMemoryRecords::next_record` by one call.
 pub fn consecutive_calls()

@@ -1,7 +1,9 @@
 //! Parses the bytes of sections, without a source.
 ghost use Rattle.std.specs.Prelude.{◌≡◌, ◌≤◌, length, take, drop};
 ghost use Rattle.perfdata_base.specs.Endian.{number_in};
-ghost use Rattle.linux_perf_data.specs.Values.{ParsesStringSection, ParsesStringList, ParsesU64, ParsesNrCpus, ParsesSampleTimes, ParsesCompression, ParsesClockData, ParsesPmuMappings, SplitsString};
+ghost use Rattle.linux_perf_data.specs.Values.{ParsesStringSection, ParsesStringList, ParsesU64};
+ghost use Rattle.linux_perf_data.specs.Values.{ParsesNrCpus, ParsesSampleTimes, ParsesCompression};
+ghost use Rattle.linux_perf_data.specs.Values.{ParsesClockData, ParsesPmuMappings, SplitsString};
 
 use byteorder::{BigEndian, LittleEndian};
 use perfdata_base::endian::{read_u32, read_u64};

@@ -32,7 +32,10 @@ pub(crate) enum LateNames {
 }
 
 impl PerfFile {
-    ghost use Rattle.linux_perf_data.specs.LateSteps.{FindsFileRenames, FindsLateNames, AreNamesForAll, AreLateNamesFor, IndexesFile, IsNameFor, HasSpareCapacity, ReservesOne, PushesAttribute, ReplacesEventDesc, ReplacesFeature, PushesNamed};
+    ghost use Rattle.linux_perf_data.specs.LateSteps.{FindsFileRenames, FindsLateNames, AreNamesForAll};
+    ghost use Rattle.linux_perf_data.specs.LateSteps.{AreLateNamesFor, IndexesFile, IsNameFor};
+    ghost use Rattle.linux_perf_data.specs.LateSteps.{HasSpareCapacity, ReservesOne, PushesAttribute};
+    ghost use Rattle.linux_perf_data.specs.LateSteps.{ReplacesEventDesc, ReplacesFeature, PushesNamed};
     ghost use Rattle.linux_perf_data.specs.FirstIdIndex.{IndexesAll};
     ghost use Rattle.linux_perf_data.specs.PerfFile.{descriptions_of_file, feature_data_in_file};
 

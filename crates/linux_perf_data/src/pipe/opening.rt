@@ -2,9 +2,13 @@
 ghost use Rattle.std.specs.Prelude.{◌≡◌, ◌≤◌, []};
 ghost use Rattle.linux_perf_data.specs.LateMetadata.{IsMetadataType};
 ghost use Rattle.perfdata_base.specs.Source.{PausesOnlyOnError};
-ghost use Rattle.linux_perf_data.specs.Pauses.{PausesOnlyWithoutHeader, PausesOnlyWithoutPendingHeader, PausesOnlyInEndedOpening};
+ghost use Rattle.linux_perf_data.specs.Pauses.{PausesOnlyWithoutHeader, PausesOnlyWithoutPendingHeader};
+ghost use Rattle.linux_perf_data.specs.Pauses.{PausesOnlyInEndedOpening};
 ghost use Rattle.linux_perf_data.specs.PipeOpening.{OpensPerfPipe};
-ghost use Rattle.linux_perf_data.specs.PipeSteps.{FinishesOpening, AddsRecord, OpensAfterPipeHeader, ParsesAttribute, ParsesFeature, ReadsMetadata, ReadsMetadataBody, ReadsNext, CollectsMetadata, ReportsContentsError, TestsMetadataType};
+ghost use Rattle.linux_perf_data.specs.PipeSteps.{FinishesOpening, AddsRecord, OpensAfterPipeHeader};
+ghost use Rattle.linux_perf_data.specs.PipeSteps.{ParsesAttribute, ParsesFeature, ReadsMetadata};
+ghost use Rattle.linux_perf_data.specs.PipeSteps.{ReadsMetadataBody, ReadsNext, CollectsMetadata};
+ghost use Rattle.linux_perf_data.specs.PipeSteps.{ReportsContentsError, TestsMetadataType};
 
 use crate::attributes::consistency::check_consistency;
 use crate::attributes::names::name_attributes;

@@ -1,6 +1,7 @@
 //! The result of opening a pipe.
 ghost use Rattle.std.specs.Prelude.{Some};
-ghost use Rattle.linux_perf_data.specs.NameTable.{TableHasEvents, TableNamesAll, TableEmptyWithoutEventDesc, TableIsReadable};
+ghost use Rattle.linux_perf_data.specs.NameTable.{TableHasEvents, TableNamesAll, TableEmptyWithoutEventDesc};
+ghost use Rattle.linux_perf_data.specs.NameTable.{TableIsReadable};
 ghost use Rattle.linux_perf_data.specs.FeatureData.{feature_data_of};
 
 use crate::attributes::name_table::NameTable;

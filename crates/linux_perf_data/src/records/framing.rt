@@ -3,10 +3,13 @@ ghost use Rattle.std.specs.Prelude.{◌≡◌, ◌+◌, ◌<◌, ◌≤◌, [], 
 ghost use Rattle.perfdata_base.specs.Endian.{number_in};
 ghost use Rattle.perfdata_sections.specs.declared.error.Error.TheVariants.{Memory};
 ghost use Rattle.perfdata_base.specs.Source.{PausesOnlyOnError};
-ghost use Rattle.linux_perf_data.specs.BufferedRecord.{PeeksKernelRecord, PeeksWholeRecord, StartsWithHeader, WholeRecordLength};
+ghost use Rattle.linux_perf_data.specs.BufferedRecord.{PeeksKernelRecord, PeeksWholeRecord, StartsWithHeader};
+ghost use Rattle.linux_perf_data.specs.BufferedRecord.{WholeRecordLength};
 ghost use Rattle.linux_perf_data.specs.Input.{TakesPendingHeader, input_source_state};
 ghost use Rattle.linux_perf_data.specs.Pauses.{PausesOnlyAtEndOrError, PausesOnlyIfTruncated};
-ghost use Rattle.linux_perf_data.specs.RecordFraming.{ChecksBodySize, ChecksRecordEnd, SkipsBody, AppendsBody, BodyExceedsCapacity, ReadsRecordBody, ReadsRecordHeader, ReadsAuxData, TestsCompressed};
+ghost use Rattle.linux_perf_data.specs.RecordFraming.{ChecksBodySize, ChecksRecordEnd, SkipsBody};
+ghost use Rattle.linux_perf_data.specs.RecordFraming.{AppendsBody, BodyExceedsCapacity, ReadsRecordBody};
+ghost use Rattle.linux_perf_data.specs.RecordFraming.{ReadsRecordHeader, ReadsAuxData, TestsCompressed};
 
 use crate::records::input::{Input, next_header_bytes};
 use perfdata_base::endian::read_u64;

@@ -57,7 +57,8 @@ pub(crate) struct RecordInfo {
 
 impl RecordInfo {
     ghost use Rattle.perfdata_records.specs.FileRecord.{file_record_body};
-    ghost use Rattle.linux_perf_data.specs.RecordViews.{record_view_of, record_view_at, attr_index_by_writer, IdentifiesRecord};
+    ghost use Rattle.linux_perf_data.specs.RecordViews.{record_view_of, record_view_at, attr_index_by_writer};
+    ghost use Rattle.linux_perf_data.specs.RecordViews.{IdentifiesRecord};
     ghost use Rattle.linux_perf_data.specs.AttributeLookup.{HasOnly, KeepsAttributes};
 
     // Identifies the record with this record header and body, at this offset and in this round.
@@ -208,9 +209,12 @@ impl<R> PerfRecordIter<R> {
 // What reads a record is inlined into each caller of `next_record`, however many a program has: the results
 // are large, and go through memory from one function to another.
 impl<R: Source> PerfRecordIter<R> {
-    ghost use Rattle.linux_perf_data.specs.BufferedRecord.{IsFinished, IsNextBuffered, ContainsNextRecord, TestsNextBuffered};
-    ghost use Rattle.linux_perf_data.specs.Iter.{MemoryOnlyToGrow, TestsMayStart, Advances, NextRecord, section_size_of, iter_source_state};
-    ghost use Rattle.linux_perf_data.specs.IterSteps.{RawRecordExceedsBuffer, ReadsRawRecord, ProcessesRecord};
+    ghost use Rattle.linux_perf_data.specs.BufferedRecord.{IsFinished, IsNextBuffered, ContainsNextRecord};
+    ghost use Rattle.linux_perf_data.specs.BufferedRecord.{TestsNextBuffered};
+    ghost use Rattle.linux_perf_data.specs.Iter.{MemoryOnlyToGrow, TestsMayStart, Advances, NextRecord};
+    ghost use Rattle.linux_perf_data.specs.Iter.{section_size_of, iter_source_state};
+    ghost use Rattle.linux_perf_data.specs.IterSteps.{RawRecordExceedsBuffer, ReadsRawRecord};
+    ghost use Rattle.linux_perf_data.specs.IterSteps.{ProcessesRecord};
     ghost use Rattle.std.specs.Io.BufRead.{Rests};
     ghost use Rattle.std.specs.Borrow.{sem};
     ghost use Rattle.linux_perf_data.specs.contracts.records.iter.PerfRecordIter.{the_row};

@@ -1,7 +1,8 @@
 //! The header of a perf.data pipe.
 ghost use Rattle.std.specs.Prelude.{◌≡◌, ◌+◌, ◌≤◌, length};
 ghost use Rattle.perfdata_base.specs.Source.{State};
-ghost use Rattle.perfdata_base.specs.PipeHeader.{pipe_header_of, ParsesPipeHeader, ParsesPipeHeaderWithExtra, PausesOnlyInExtra};
+ghost use Rattle.perfdata_base.specs.PipeHeader.{pipe_header_of, ParsesPipeHeader, ParsesPipeHeaderWithExtra};
+ghost use Rattle.perfdata_base.specs.PipeHeader.{PausesOnlyInExtra};
 
 use crate::endian::read_u64;
 use crate::raw::Endianness;

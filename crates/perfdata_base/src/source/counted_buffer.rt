@@ -1,9 +1,11 @@
 //! A buffered reader of std as a source that exposes its buffer.
 ghost use Rattle.std.specs.Prelude.{◌≡◌, ◌+◌, ◌<◌, ◌≤◌, OnErr, length, vec_capacity, Ok, refl};
 ghost use Rattle.std.proofs.lemmas.Bool.{false≢true};
-ghost use Rattle.perfdata_base.specs.Source.{opaque_source, CountsRead, CountsSeek, SizeFitsI64, PositionFitsU64, Reads, Seeks};
+ghost use Rattle.perfdata_base.specs.Source.{opaque_source, CountsRead, CountsSeek, SizeFitsI64};
+ghost use Rattle.perfdata_base.specs.Source.{PositionFitsU64, Reads, Seeks};
 ghost use Rattle.perfdata_base.specs.Buffered.{IsPrefixOfRemaining, ReadsBuffered, AppendsBuffered};
-ghost use Rattle.perfdata_base.specs.RelativeSeek.{AgreesWithPosition, ReadUpdatesPosition, SeekUpdatesPosition};
+ghost use Rattle.perfdata_base.specs.RelativeSeek.{AgreesWithPosition, ReadUpdatesPosition};
+ghost use Rattle.perfdata_base.specs.RelativeSeek.{SeekUpdatesPosition};
 ghost use Rattle.std.specs.Io.Buffered.{reader_inner, reader_position, reader_remaining};
 ghost use Rattle.std.specs.Io.KnownBytes.{Keeps, ReadConsumes};
 ghost use Rattle.std.specs.Io.Seek.{SeekMoves};
@@ -47,7 +49,8 @@ impl<R: Read> CountedBuffer<R> {
 }
 
 impl<R: Read> Source for CountedBuffer<R> {
-    ghost use Rattle.perfdata_base.specs.CountedBuffer.{buffered_state, counted_buffer_bytes, TakesFromBuffer, AppendsFromBuffer};
+    ghost use Rattle.perfdata_base.specs.CountedBuffer.{buffered_state, counted_buffer_bytes};
+    ghost use Rattle.perfdata_base.specs.CountedBuffer.{TakesFromBuffer, AppendsFromBuffer};
 
     ghost state = { buffered_state };
 

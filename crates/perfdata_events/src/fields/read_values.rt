@@ -171,7 +171,8 @@ impl SingleValues {
 impl<'a> GroupValues<'a> {
     ghost use Rattle.std.specs.Prelude.{◌≡◌, ◌≤◌, ◌<◌, IfSome, IfNone};
     ghost use Rattle.perfdata_base.specs.ParseInfo.{is_set};
-    ghost use Rattle.perfdata_events.specs.ReadValues.{group_values, group_of, counter_width, counter_count, counter_at};
+    ghost use Rattle.perfdata_events.specs.ReadValues.{group_values, group_of, counter_width, counter_count};
+    ghost use Rattle.perfdata_events.specs.ReadValues.{counter_at};
 
     // The number of numbers of a counter.
     fn width(format: ReadFields) -> u64

@@ -2,7 +2,9 @@
 ghost use Rattle.std.specs.Prelude.{◌≡◌, ◌≢◌, IfErr};
 ghost use Rattle.perfdata_base.specs.Source.{PausesOnlyOnError};
 ghost use Rattle.perfdata_sections.specs.ParsedPart.{NoPauseIfOutOfMemory};
-ghost use Rattle.perfdata_sections.specs.EventDesc.{EventNeedsMemory, EventsNeedMemory, EventDescNeedsMemory, ReadsNameAndIds, ReadsPaddedFrame, ReadsEvent, ReadsEvents, ReadsEventDesc};
+ghost use Rattle.perfdata_sections.specs.EventDesc.{EventNeedsMemory, EventsNeedMemory, EventDescNeedsMemory};
+ghost use Rattle.perfdata_sections.specs.EventDesc.{ReadsNameAndIds, ReadsPaddedFrame, ReadsEvent};
+ghost use Rattle.perfdata_sections.specs.EventDesc.{ReadsEvents, ReadsEventDesc};
 ghost use Rattle.perfdata_sections.specs.declared.error.Error.TheVariants.{Memory as OfMemory};
 
 use crate::error::Error;

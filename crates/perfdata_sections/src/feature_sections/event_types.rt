@@ -2,7 +2,9 @@
 ghost use Rattle.std.specs.Prelude.{◌≡◌, ◌+◌, ◌*◌, ◌^◌, ◌<◌, length, IfOk, OnOk};
 ghost use Rattle.perfdata_base.specs.Source.{PausesOnlyOnError, at_offset};
 ghost use Rattle.perfdata_sections.specs.AttributeDescription.{CopiesName};
-ghost use Rattle.perfdata_sections.specs.EventTypes.{type_name_at, ids_end, ReadsSectionEntryAt, ReadsEventTypeEntryAt, ReadsEventTypeEntries, ReadsSectionIds, DescribesEntries, ReadsDescriptions};
+ghost use Rattle.perfdata_sections.specs.EventTypes.{type_name_at, ids_end, ReadsSectionEntryAt};
+ghost use Rattle.perfdata_sections.specs.EventTypes.{ReadsEventTypeEntryAt, ReadsEventTypeEntries};
+ghost use Rattle.perfdata_sections.specs.EventTypes.{ReadsSectionIds, DescribesEntries, ReadsDescriptions};
 
 use crate::error::{Error, ReadError};
 use crate::event_type::SimplePerfEventType;

@@ -5,7 +5,8 @@ ghost use Rattle.std.specs.declared.io.ErrorKind.TheVariants.{InvalidData};
 ghost use Rattle.perfdata_base.specs.Endian.{number_in};
 ghost use Rattle.perfdata_base.specs.Source.{State, PausesOnlyOnError};
 ghost use Rattle.perfdata_sections.specs.ParsedPart.{ParsesPart};
-ghost use Rattle.perfdata_sections.specs.NumberSections.{nr_cpus_of, sample_times_of, compression_of, ParsesClock};
+ghost use Rattle.perfdata_sections.specs.NumberSections.{nr_cpus_of, sample_times_of, compression_of};
+ghost use Rattle.perfdata_sections.specs.NumberSections.{ParsesClock};
 
 use perfdata_base::endian::{read_u32, read_u64};
 use perfdata_base::raw::{Endianness, FileOrder};

@@ -3,7 +3,8 @@ ghost use Rattle.std.specs.Prelude.{◌≡◌, ◌<◌, IfOk, OnErr, length, str
 ghost use Rattle.std.specs.Option.{option_map};
 ghost use Rattle.perfdata_base.specs.Source.{State, PausesOnlyOnError};
 ghost use Rattle.perfdata_sections.specs.ParsedPart.{NoPauseIfOutOfMemory};
-ghost use Rattle.perfdata_sections.specs.PmuMappings.{CollectsUnit, SortsUnits, ReadsPmuUnit, ReadsPmuUnits, ReadsPmus, ParsesPmus};
+ghost use Rattle.perfdata_sections.specs.PmuMappings.{CollectsUnit, SortsUnits, ReadsPmuUnit, ReadsPmuUnits};
+ghost use Rattle.perfdata_sections.specs.PmuMappings.{ReadsPmus, ParsesPmus};
 
 use crate::feature_sections::header_string::HeaderString;
 use indexmap::IndexMap;

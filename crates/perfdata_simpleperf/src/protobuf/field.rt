@@ -1,6 +1,7 @@
 //! Reads a field of a message, and checks its wire type against the field table of the message.
 ghost use Rattle.std.specs.Prelude.{◌≡◌, IfOk, IfErr};
-ghost use Rattle.perfdata_simpleperf.specs.Protobuf.Fields.{FieldAt, FieldError, field_value, field_type, is_accepted};
+ghost use Rattle.perfdata_simpleperf.specs.Protobuf.Fields.{FieldAt, FieldError, field_value, field_type};
+ghost use Rattle.perfdata_simpleperf.specs.Protobuf.Fields.{is_accepted};
 
 use crate::protobuf::groups::skip_group;
 use crate::protobuf::wire::{Value, WireType, read_key, read_value};

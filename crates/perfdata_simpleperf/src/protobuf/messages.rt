@@ -1,10 +1,21 @@
 //! Decodes messages by merging their fields.
-ghost use Rattle.std.specs.Prelude.{◌≡◌, ◌⊎◌, ◌∷◌, [], ◌++◌, List, ℕ, ◌%◌, IfOk, IfErr, OnOk, string_bytes, IsUtf8, IsTrue, map};
+ghost use Rattle.std.specs.Prelude.{◌≡◌, ◌⊎◌, ◌∷◌, [], ◌++◌, List, ℕ, ◌%◌, IfOk, IfErr, OnOk, string_bytes};
+ghost use Rattle.std.specs.Prelude.{IsUtf8, IsTrue, map};
 ghost use Rattle.perfdata_simpleperf.specs.Protobuf.Fields.{field_value, field_type};
 ghost use Rattle.perfdata_simpleperf.specs.Protobuf.WireFormat.{bytes_contents};
-ghost use Rattle.perfdata_simpleperf.specs.Protobuf.Messages.{NoNestedMessage, NoNestedMessageError, IsValidContents, IsInvalidContents, LeafError, ArePacked, PackedError, IsAnyLeaf, FileMessageError, BeginsWithNumber, NeedsMemory, NoNestedNeeds, LeafNeedsMemory, SubmessageNeedsMemory, FileNeedsMemory};
+ghost use Rattle.perfdata_simpleperf.specs.Protobuf.Messages.{NoNestedMessage, NoNestedMessageError};
+ghost use Rattle.perfdata_simpleperf.specs.Protobuf.Messages.{IsValidContents, IsInvalidContents, LeafError};
+ghost use Rattle.perfdata_simpleperf.specs.Protobuf.Messages.{ArePacked, PackedError, IsAnyLeaf};
+ghost use Rattle.perfdata_simpleperf.specs.Protobuf.Messages.{FileMessageError, BeginsWithNumber};
+ghost use Rattle.perfdata_simpleperf.specs.Protobuf.Messages.{NeedsMemory, NoNestedNeeds, LeafNeedsMemory};
+ghost use Rattle.perfdata_simpleperf.specs.Protobuf.Messages.{SubmessageNeedsMemory, FileNeedsMemory};
 ghost use Rattle.perfdata_simpleperf.specs.FileRecord.{symbol_value, SymbolValue, info_value, record_value};
-ghost use Rattle.perfdata_simpleperf.specs.Protobuf.Values.{symbol_from, IsSymbol, low_u32, last_or, numbers_of, contents_of, AreOffsets, IsDex, IsAddressFrom, AreSymbols, texts_of, infos_of, is_info, MergesInfo, MergesInfos, IsFileRecord, previous_offsets, previous_elf_offset, previous_module_offset};
+ghost use Rattle.perfdata_simpleperf.specs.Protobuf.Values.{symbol_from, IsSymbol, low_u32, last_or};
+ghost use Rattle.perfdata_simpleperf.specs.Protobuf.Values.{numbers_of, contents_of, AreOffsets, IsDex};
+ghost use Rattle.perfdata_simpleperf.specs.Protobuf.Values.{IsAddressFrom, AreSymbols, texts_of, infos_of};
+ghost use Rattle.perfdata_simpleperf.specs.Protobuf.Values.{is_info, MergesInfo, MergesInfos, IsFileRecord};
+ghost use Rattle.perfdata_simpleperf.specs.Protobuf.Values.{previous_offsets, previous_elf_offset};
+ghost use Rattle.perfdata_simpleperf.specs.Protobuf.Values.{previous_module_offset};
 ghost use Rattle.perfdata_sections.specs.declared.decode_error.DecodeError.TheVariants.{Memory, Utf8};
 ghost use Rattle.perfdata_sections.specs.declared.decode_error.DecodeError.{DecodeError};
 ghost use Rattle.perfdata_simpleperf.specs.declared.protobuf.field.Message.TheVariants as messages;

@@ -1,6 +1,9 @@
 //! Reads protobuf varints, keys and values.
 ghost use Rattle.std.specs.Prelude.{◌≤◌, ◌<◌, ◌*◌, ◌-◌, ◌^◌, IfOk, IfErr};
-ghost use Rattle.perfdata_simpleperf.specs.Protobuf.WireFormat.{VarintAt, VarintError, NumberAt, NumberError, KeyAt, KeyError, FixedAt, FixedError, value_contents, ValueAt, ValueError, IsNotGroup};
+ghost use Rattle.perfdata_simpleperf.specs.Protobuf.WireFormat.{VarintAt, VarintError, NumberAt, NumberError};
+ghost use Rattle.perfdata_simpleperf.specs.Protobuf.WireFormat.{KeyAt, KeyError, FixedAt, FixedError};
+ghost use Rattle.perfdata_simpleperf.specs.Protobuf.WireFormat.{value_contents, ValueAt, ValueError};
+ghost use Rattle.perfdata_simpleperf.specs.Protobuf.WireFormat.{IsNotGroup};
 
 use perfdata_sections::decode_error::DecodeError;
 

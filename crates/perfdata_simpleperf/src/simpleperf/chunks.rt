@@ -1,7 +1,8 @@
 //! Splits a section into chunks, each preceded by its length.
 ghost use Rattle.std.specs.Prelude.{◌≡◌, ◌⊎◌, ℕ, List, IfOk, IfErr, map};
 ghost use Rattle.perfdata_simpleperf.specs.FileRecord.{FileValue, record_value};
-ghost use Rattle.perfdata_simpleperf.specs.Chunks.{ChunkError, ChunkAt, IsChunkReadError, AreChunks, ChunkNeedsMemory, FirstChunkError, ReportsChunkError};
+ghost use Rattle.perfdata_simpleperf.specs.Chunks.{ChunkError, ChunkAt, IsChunkReadError, AreChunks};
+ghost use Rattle.perfdata_simpleperf.specs.Chunks.{ChunkNeedsMemory, FirstChunkError, ReportsChunkError};
 ghost use Rattle.perfdata_base.specs.declared.raw.Endianness.{Endianness};
 ghost use Rattle.perfdata_sections.specs.declared.error.Error.{Error};
 ghost use Rattle.perfdata_sections.specs.declared.error.Error.TheVariants.{Memory};

@@ -1,7 +1,9 @@
 //! Parses the event types in simpleperf's meta info.
 ghost use Rattle.std.specs.Prelude.{IfOk, OnErr, Some};
 ghost use Rattle.perfdata_simpleperf.specs.MetaInfo.{map_text_at};
-ghost use Rattle.perfdata_simpleperf.specs.EventTypeInfo.{EventType, line_fields, event_type_info, DescribesEvent, BeginsWithEvents, ParsesEvent, ParsesEventTypes, ReturnsEventTypes, IsFirstThree};
+ghost use Rattle.perfdata_simpleperf.specs.EventTypeInfo.{EventType, line_fields, event_type_info};
+ghost use Rattle.perfdata_simpleperf.specs.EventTypeInfo.{DescribesEvent, BeginsWithEvents, ParsesEvent};
+ghost use Rattle.perfdata_simpleperf.specs.EventTypeInfo.{ParsesEventTypes, ReturnsEventTypes, IsFirstThree};
 
 use perfdata_sections::event_type::SimplePerfEventType;
 use std::alloc::{AllocError, Global};

@@ -1,6 +1,7 @@
 //! Parses section SIMPLEPERF_FILE2: chunks that contain protobuf messages.
 ghost use Rattle.std.specs.Prelude.{◌≡◌, ◌⊎◌, List, IfOk, IfErr, IsErrAnd, MatchResult, map};
-ghost use Rattle.perfdata_simpleperf.specs.File2.{IsFile2Of, File2Error, File2NeedsMemory, ReportsFile2Error, ReportsMessageError};
+ghost use Rattle.perfdata_simpleperf.specs.File2.{IsFile2Of, File2Error, File2NeedsMemory, ReportsFile2Error};
+ghost use Rattle.perfdata_simpleperf.specs.File2.{ReportsMessageError};
 ghost use Rattle.perfdata_simpleperf.specs.FileRecord.{FileValue, record_value};
 ghost use Rattle.perfdata_simpleperf.specs.Chunks.{ChunkError};
 ghost use Rattle.perfdata_simpleperf.specs.Protobuf.Messages.{FileMessageError, FileNeedsMemory};

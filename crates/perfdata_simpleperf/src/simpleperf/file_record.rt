@@ -2,7 +2,8 @@
 ghost use Rattle.std.specs.Prelude.{◌≡◌, ◌⊎◌, List, IfOk, IfErr, IsErrAnd, MatchResult};
 ghost use Rattle.perfdata_simpleperf.specs.FileRecord.{FileValue, record_value};
 ghost use Rattle.perfdata_simpleperf.specs.Protobuf.Fields.{FieldValue};
-ghost use Rattle.perfdata_simpleperf.specs.Protobuf.Messages.{IsFileMessage, FileMessageError, FileNeedsMemory};
+ghost use Rattle.perfdata_simpleperf.specs.Protobuf.Messages.{IsFileMessage, FileMessageError};
+ghost use Rattle.perfdata_simpleperf.specs.Protobuf.Messages.{FileNeedsMemory};
 ghost use Rattle.perfdata_simpleperf.specs.Protobuf.Values.{HasValue, IsFileRecord};
 ghost use Rattle.perfdata_sections.specs.declared.decode_error.DecodeError.{DecodeError};
 ghost use Rattle.perfdata_sections.specs.declared.decode_error.DecodeError.TheVariants.{Memory};

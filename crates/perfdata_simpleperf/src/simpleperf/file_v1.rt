@@ -1,10 +1,13 @@
 //! Decodes a file record of the older simpleperf format.
-ghost use Rattle.std.specs.Prelude.{◌≡◌, ◌⊎◌, ◌≤◌, List, length, map, string_bytes, IfOk, IfErr, IsErrAnd, MatchResult};
+ghost use Rattle.std.specs.Prelude.{◌≡◌, ◌⊎◌, ◌≤◌, List, length, map, string_bytes, IfOk, IfErr, IsErrAnd};
+ghost use Rattle.std.specs.Prelude.{MatchResult};
 ghost use Rattle.std.specs.IoError.{error_kind};
 ghost use Rattle.std.specs.declared.io.ErrorKind.{ErrorKind};
 ghost use Rattle.std.specs.declared.io.ErrorKind.TheVariants.{OutOfMemory};
 ghost use Rattle.perfdata_simpleperf.specs.FileRecord.{FileValue, symbol_value, info_value, record_value};
-ghost use Rattle.perfdata_simpleperf.specs.FileV1.{IntegerAt, IntegerError, BoundedAt, BoundedError, CountedAt, CountedError, SymbolAt, SymbolError, OffsetAt, OffsetError, InfoAt, InfoError, IsV1, V1Error};
+ghost use Rattle.perfdata_simpleperf.specs.FileV1.{IntegerAt, IntegerError, BoundedAt, BoundedError};
+ghost use Rattle.perfdata_simpleperf.specs.FileV1.{CountedAt, CountedError, SymbolAt, SymbolError, OffsetAt};
+ghost use Rattle.perfdata_simpleperf.specs.FileV1.{OffsetError, InfoAt, InfoError, IsV1, V1Error};
 
 use crate::simpleperf::nul_text::split_nul_text;
 use crate::simpleperf::simpleperf_dso_type::{
