@@ -1,13 +1,15 @@
-//! Runs the cases of `data/`: calls of the reader, of listings and of the accessors of metadata, and what
-//! they return.
+//! Runs the cases of `data/`: calls of the reader, of listings, of the orders in time and of the accessors of
+//! metadata, and what they return.
 #![tactic(auto)]
 
 mod listing;
 mod metadata;
+mod orders;
 mod output;
 mod reading;
 mod sink;
 mod slices;
+mod sorting;
 mod sources;
 
 use conformance_cases::{Call, Calls, CaseResult, push_line, run};
@@ -25,6 +27,8 @@ impl Calls for ReaderCalls {
             "flush" => output::push_flush(call, out)?,
             "finish" => output::push_finish(call, out)?,
             "read-file" | "read-pipe" => reading::push_reading(call, out)?,
+            "order-file" | "order-pipe" => orders::push_ordered(call, out)?,
+            "sort" => sorting::sort(call, out)?,
             "metadata" => metadata::push_metadata(call, out)?,
             "bytes-left" => slices::push_bytes_left(call, out)?,
             "entries" | "two-bodies" => slices::push_in_memory(call, out)?,

@@ -1,7 +1,8 @@
-//! Runs the cases of `data/`: calls of the parsers of single values, and of the jitdump reader, and what they
-//! return.
+//! Runs the cases of `data/`: calls of the parsers of single values and of event bodies, and of the jitdump
+//! reader, and what they return.
 #![tactic(auto)]
 
+mod events;
 mod jitdump;
 mod lists;
 mod numbers;
@@ -37,7 +38,8 @@ fn call_in<T: FileOrder>(call: &Call<'_>, out: &mut String) -> CaseResult<bool> 
             || simpleperf::call::<T>(call, out)?
             || jitdump::call::<T>(call, out)?
             || sections::call::<T>(call, out)?
-            || parts::call::<T>(call, out)?,
+            || parts::call::<T>(call, out)?
+            || events::call(call, out)?,
     )
 }
 
