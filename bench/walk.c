@@ -3,6 +3,7 @@
 // array, and time and identifier at fixed offsets. These print the number of records. `walk compare PATH` compares both arrays. `walk samples
 // PATH` and `walk own-samples PATH` fill arrays of samples and their frames, and print the number of samples; `walk compare-samples PATH`
 // compares them.
+#include "../tests/contexts.h"
 #include "dewikura.h"
 #include <fcntl.h>
 #include <inttypes.h>
@@ -123,18 +124,6 @@ typedef struct {
     struct dewikura_frame *frames;
     uint64_t count, frames_count;
 } Samples;
-
-static uint32_t context_of(uint64_t value) {
-    switch ((int64_t)value) {
-    case -32: return DEWIKURA_CONTEXT_HYPERVISOR;
-    case -128: return DEWIKURA_CONTEXT_KERNEL;
-    case -512: return DEWIKURA_CONTEXT_USER;
-    case -2048: return DEWIKURA_CONTEXT_GUEST;
-    case -2176: return DEWIKURA_CONTEXT_GUEST_KERNEL;
-    case -2560: return DEWIKURA_CONTEXT_GUEST_USER;
-    default: return DEWIKURA_CONTEXT_UNKNOWN;
-    }
-}
 
 // The next word. Returns 0 if it isn't complete.
 static inline int next_word(const uint8_t **at, const uint8_t *end, uint64_t *word) {

@@ -2,6 +2,7 @@
 // 4,096 bytes), with those that a decoder of its own finds in the bodies of its records: the fields of PERF_RECORD_SAMPLE in the order of
 // the kernel's perf_event.h. The samples of a file are also read in chains of calls with small arrays. `samples print-file|print-pipe PATH`
 // prints a line for each sample instead: its fields and its frames.
+#include "contexts.h"
 #include "dewikura.h"
 #include <inttypes.h>
 #include <stdio.h>
@@ -52,19 +53,6 @@ static void skip(struct fields *fields, uint64_t words)
         fields->is_truncated = 1;
     else
         fields->at += 8 * words;
-}
-
-static uint32_t context_of(uint64_t value)
-{
-    switch ((int64_t)value) {
-    case -32: return DEWIKURA_CONTEXT_HYPERVISOR;
-    case -128: return DEWIKURA_CONTEXT_KERNEL;
-    case -512: return DEWIKURA_CONTEXT_USER;
-    case -2048: return DEWIKURA_CONTEXT_GUEST;
-    case -2176: return DEWIKURA_CONTEXT_GUEST_KERNEL;
-    case -2560: return DEWIKURA_CONTEXT_GUEST_USER;
-    default: return DEWIKURA_CONTEXT_UNKNOWN;
-    }
 }
 
 static void skip_values(struct fields *fields, uint64_t format)
