@@ -160,6 +160,7 @@ impl<'a> CallChain<'a> {
     }
 
     /// Does what [`CallChain::parse`] does if the chain is there.
+    #[inline(always)]
     pub fn parse_if(
         endian: Endianness,
         present: bool,

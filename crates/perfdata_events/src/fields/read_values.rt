@@ -280,6 +280,7 @@ impl<'a> ReadValues<'a> {
     }
 
     /// Does what [`ReadValues::parse`] does if the values are there.
+    #[inline(always)]
     pub fn parse_if(
         endian: Endianness,
         present: bool,

@@ -1,6 +1,6 @@
 //! Optional words of eight bytes each, and lists of numbers.
-ghost use Rattle.std.specs.Prelude.{◌≡◌, ◌<◌, ◌*◌, [], ◌∷◌, IfSome, IfNone, length};
-ghost use Rattle.perfdata_base.specs.Raw.{bytes_of};
+ghost use Rattle.std.specs.Prelude.{◌≡◌, ◌<◌, ◌*◌, [], ◌∷◌, IfErr, IfSome, IfNone, OnErr, OnOk, length, take};
+ghost use Rattle.perfdata_base.specs.Raw.{DropsPrefix, EndsBefore, bytes_of};
 ghost use Rattle.perfdata_events.specs.Single.{KeepsSingle, NoParts};
 ghost use Rattle.perfdata_events.specs.SingleParts.{SingleNumbers};
 ghost use Rattle.perfdata_base.specs.Endian.{number_in};
@@ -14,6 +14,24 @@ use crate::fields::task::Task;
 use crate::fields::u64s::{RawDataU64, split_off_elements};
 use perfdata_base::raw::{Endianness, RawData};
 use std::io::Result;
+
+// Does what `RawData::read_exact` does, faster for bytes in one slice.
+#[inline(always)]
+fn read_exact(fields: &mut RawData<'_>, buf: &mut [u8]) -> Result<()>
+    ensures read { OnOk result (buf.new ≡ take (length buf.old) (bytes_of fields.old)) }
+    ensures rest { OnOk result (DropsPrefix (length buf.old) fields.old fields.new) }
+    ensures too_short { IfErr result (λ error. EndsBefore (length buf.old) (bytes_of fields.old) error) }
+    ensures unchanged { OnErr result (fields.new ≡ fields.old) }
+{
+    if let RawData::Single(bytes) = *fields {
+        if let Some((prefix, rest)) = bytes.split_at_checked(buf.len()) {
+            buf.copy_from_slice(prefix);
+            *fields = RawData::Single(rest);
+            return Ok(());
+        }
+    }
+    fields.read_exact(buf)
+}
 
 /// Removes a number of eight bytes if it is there.
 ///
@@ -32,7 +50,7 @@ pub fn read_u64_if(
         return Ok(None);
     }
     let mut bytes = [0u8; 8];
-    fields.read_exact(&mut bytes)?;
+    read_exact(fields, &mut bytes)?;
     Ok(Some(u64_at(endian, &bytes, 0)))
 }
 
@@ -53,7 +71,7 @@ pub fn read_u32_if(
         return Ok(None);
     }
     let mut bytes = [0u8; 8];
-    fields.read_exact(&mut bytes)?;
+    read_exact(fields, &mut bytes)?;
     Ok(Some(u32_at(endian, &bytes, 0)))
 }
 
@@ -74,7 +92,7 @@ pub fn read_task_if(
         return Ok(None);
     }
     let mut bytes = [0u8; 8];
-    fields.read_exact(&mut bytes)?;
+    read_exact(fields, &mut bytes)?;
     Ok(Some(Task {
         pid: i32_at(endian, &bytes, 0),
         tid: i32_at(endian, &bytes, 4),
@@ -90,7 +108,7 @@ pub fn read_u64(endian: Endianness, fields: &mut RawData<'_>) -> Result<u64>
     ensures single { KeepsSingle NoParts fields.old result fields.new }
 {
     let mut bytes = [0u8; 8];
-    fields.read_exact(&mut bytes)?;
+    read_exact(fields, &mut bytes)?;
     Ok(u64_at(endian, &bytes, 0))
 }
 
@@ -103,7 +121,7 @@ pub fn read_u32(endian: Endianness, fields: &mut RawData<'_>) -> Result<u32>
     ensures single { KeepsSingle NoParts fields.old result fields.new }
 {
     let mut bytes = [0u8; 4];
-    fields.read_exact(&mut bytes)?;
+    read_exact(fields, &mut bytes)?;
     Ok(u32_at(endian, &bytes, 0))
 }
 
@@ -116,7 +134,7 @@ pub fn read_task(endian: Endianness, fields: &mut RawData<'_>) -> Result<Task>
     ensures single { KeepsSingle NoParts fields.old result fields.new }
 {
     let mut bytes = [0u8; 8];
-    fields.read_exact(&mut bytes)?;
+    read_exact(fields, &mut bytes)?;
     Ok(Task {
         pid: i32_at(endian, &bytes, 0),
         tid: i32_at(endian, &bytes, 4),
