@@ -58,7 +58,7 @@ invalid_data_status (IoError e) is = ap io_kind_status is
 invalid_data_status _ is = absurd is
 
 -- errors with one cause have one status
-same_status : (e f : Error) → SameCause e f → error_status e ≡ error_status f
+pub same_status : (e f : Error) → SameCause e f → error_status e ≡ error_status f
 same_status e f same = elim same [
   | inl equal ↦ ap error_status equal
   | inr other ↦ elim other [
@@ -73,7 +73,7 @@ same_status e f same = elim same [
 -- ---- the entries of a call
 
 -- the entries that are written over the start of an array with capacity for them
-take-written : {T : Type 0} (es old : List T) → length es ≤ length old → take (length es) (with_prefix es old) ≡ es
+pub take-written : {T : Type 0} (es old : List T) → length es ≤ length old → take (length es) (with_prefix es old) ≡ es
 take-written [] old fits = refl
 take-written (e ∷ es) [] fits = absurd (omega (arith, fits))
 take-written (e ∷ es) (o ∷ os) fits = ap (λ l. e ∷ l) (take-written es os (omega (arith, fits)))

@@ -33,10 +33,10 @@ Remain bytes page q = FileRecordsFrom bytes (endian_of_file page.file) page.head
 
 module _ (bytes : List ℕ) {base base' capacity capacity' : ℕ} {from from' next next' : RecordPosition} {records records' : List RecordView} {status status' : Status}
     (a : IsPage bytes base from capacity records status next) (b : IsPage bytes base' from' capacity' records' status' next') where
-  same : DescribeSame a.header b.header a.file b.file
+  pub same : DescribeSame a.header b.header a.file b.file
   same = file_description_is_unique (at_start bytes) a.header b.header a.file b.file a.describes b.describes
 
-  same_attributes : attributes_of_file a.file ≡ attributes_of_file b.file
+  pub same_attributes : attributes_of_file a.file ≡ attributes_of_file b.file
   same_attributes = sym (attributes_of_events (descriptions_of_file a.file)) ∙ ap (map attribute_of_event) same.events ∙ attributes_of_events (descriptions_of_file b.file)
 
   same_remaining : Remain bytes a ≡ Remain bytes b

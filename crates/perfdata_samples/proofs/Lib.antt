@@ -13,3 +13,8 @@ pub mod EntryPageLemmas
 pub mod PipeEntryLemmas
 pub mod CounterLemmas
 pub mod CounterPageLemmas
+pub mod RecordItems
+pub mod PageItems
+pub mod ItemChains
+pub mod SampleItems
+pub mod SampleChainLemmas

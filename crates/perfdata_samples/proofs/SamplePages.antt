@@ -96,6 +96,7 @@ module _ (bytes : List ℕ) (from : RecordPosition) (reader : InMemoryReader) (p
       page = page_of bytes from reader parsed records now now_file all (length records) Success (inl (refl, refl));
       are_samples = are_of_file;
       ends = inr (inl (
+        room,
         needed,
         record {
           next = lacks.next;

@@ -4,6 +4,7 @@ pub mod Samples
 pub mod Status
 pub mod Records
 pub mod Pages
+pub mod SampleChains
 pub mod Pipes
 pub mod Entries
 pub mod EntryPages

@@ -116,7 +116,7 @@ ReportsNoSpace count used needed result =
     ((count ≡ 0) × (result.status ≡ status.NoSpace) × (result.frames_count ≡ needed)) ⊎ ((0 < count) × (result.status ≡ status.Records Success) × (result.frames_count ≡ used))
 
 -- The samples are those of the records of a file from a position on, up to another position, by the attributes of the file. The page
--- ends because the array of samples is full, because the frames of the next sample don't fit, or because the records end.
+-- ends because the array of samples is full, or else because the frames of the next sample don't fit, or because the records end.
 pub record IsSamplePage (bytes : List ℕ) (from : RecordPosition) (capacity : ℕ) (frames : List FrameEntry) (samples : List Sample) (own_frames : List FrameEntry) (result : SamplesResult) (next : RecordPosition) : Type 0 where
   pub records : List RecordView
   pub base : ℕ
@@ -126,7 +126,7 @@ pub record IsSamplePage (bytes : List ℕ) (from : RecordPosition) (capacity : �
   pub are_samples : AreSamplesOf (endian_of_file page.file) (λ _. attributes_of_file page.file) (wants_frames frames) records samples own_frames
   pub ends :
       ((length samples ≡ capacity) × (result.status ≡ status.Records Success) × (result.frames_count ≡ length own_frames))
-      ⊎ (((needed : ℕ) × IsFollowedByTooMany bytes base from page.file records (wants_frames frames) (length own_frames) (length frames) needed × ReportsNoSpace (length samples) (length own_frames) needed result)
+      ⊎ (((length samples < capacity) × (needed : ℕ) × IsFollowedByTooMany bytes base from page.file records (wants_frames frames) (length own_frames) (length frames) needed × ReportsNoSpace (length samples) (length own_frames) needed result)
       ⊎ ((length samples < capacity) × (length records < records_capacity) × (result.status ≡ status.Records end) × (result.frames_count ≡ length own_frames)))
 
 -- The result for a page of samples. If the file doesn't open, no sample is written, and the position is unchanged.

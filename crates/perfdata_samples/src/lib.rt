@@ -12,6 +12,7 @@ pub mod entries;
 mod entry;
 mod envelope;
 pub mod frame;
+pub mod laws;
 pub mod mappings;
 pub mod pages;
 pub mod pipes;
