@@ -18,3 +18,6 @@ pub mod PageItems
 pub mod ItemChains
 pub mod SampleItems
 pub mod SampleChainLemmas
+pub mod ParsedOnce
+pub mod EntryItems
+pub mod EntryChainLemmas

@@ -8,6 +8,7 @@ pub mod SampleChains
 pub mod Pipes
 pub mod Entries
 pub mod EntryPages
+pub mod EntryChains
 pub mod PipeEntries
 pub mod Tasks
 pub mod TaskPages

@@ -1,6 +1,9 @@
 //! Laws of pages: a chain of calls writes what one call with arrays for all of it writes.
+ghost use Rattle.perfdata_samples.specs.EntryChains.{ChainIsOneEntryPage};
+ghost use Rattle.perfdata_samples.specs.Mappings.{IsMappingOf};
 ghost use Rattle.perfdata_samples.specs.SampleChains.{ChainIsOneSamplePage, SamplePageIsUnique};
 ghost use Rattle.perfdata_samples.specs.SampleChains.{SamplesAreUnique, SamplesJoin};
+ghost use Rattle.perfdata_samples.specs.Tasks.{IsTaskOf};
 
 /// The samples up to a position and the samples from there on are the samples of the records of both. The
 /// frames of the later samples follow those of the first.
@@ -28,4 +31,20 @@ pub fn sample_page_is_unique()
 /// last call that finds the end.
 pub fn chain_is_one_sample_page()
     ensures { ChainIsOneSamplePage }
+{}
+
+/// A chain of calls of `file_tasks` writes the same entries as one call with capacity for them.
+///
+/// Each call begins at the position that the call before it moved, with an array of any capacity. The array
+/// of the one call has as many elements as the chain writes entries, or more if the last call finds the end
+/// of the records: then the one call has its status. Memory doesn't run out in the one call, nor in a last
+/// call that finds the end.
+pub fn chain_is_one_task_page()
+    ensures { ChainIsOneEntryPage IsTaskOf }
+{}
+
+/// A chain of calls of `file_mappings` writes the same entries as one call with capacity for them, as for
+/// `file_tasks`.
+pub fn chain_is_one_mapping_page()
+    ensures { ChainIsOneEntryPage IsMappingOf }
 {}
