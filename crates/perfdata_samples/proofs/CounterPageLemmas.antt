@@ -1,7 +1,7 @@
 -- A page of counters.
-use Rattle.std.proofs.Common.{◌≡◌, ◌⊎◌, ℕ, zero, suc, ◌+◌, ◌<◌, ◌≤◌, ◌++◌, List, [], ◌∷◌, length, refl, sym, ap, ◌∙◌, subst, inl, inr, arith, length-append, Ok, Err}
+use Rattle.std.proofs.Common.{◌≡◌, ◌⊎◌, ℕ, zero, suc, ◌+◌, ◌≤◌, ◌++◌, List, [], ◌∷◌, length, refl, sym, ap, ◌∙◌, subst, inl, inr, arith, length-append, Ok, Err}
 use Rattle.std.proofs.lemmas.Bool.Decides.{nat_tests}
-use Rattle.std.specs.Prelude.{◌==◌, Result, false}
+use Rattle.std.specs.Prelude.{◌==◌, false}
 use Rattle.perfdata_base.specs.Source.{memory_source_at}
 use Rattle.perfdata_sections.specs.declared.error.Error.{Error}
 use Rattle.linux_perf_data.specs.InMemoryPositions.{ParsesFileAt, position_of}
@@ -93,7 +93,7 @@ module _ (bytes : List ℕ) (from : RecordPosition) (reader : InMemoryReader) (p
       are_counters = here;
       ends = inl (full, is, counted);
     }
-    page_is (NoSpace needed) lacks is counted = record {
+    page_is (NoSpace needed) (fewer, lacks) is counted = record {
       records = records;
       base = base;
       first_record_offset = first_record_offset_of reader.records;
@@ -103,6 +103,7 @@ module _ (bytes : List ℕ) (from : RecordPosition) (reader : InMemoryReader) (p
       page = page_of bytes from reader parsed records now now_file all (length records) Success (inl (refl, refl));
       are_counters = here;
       ends = inr (inl (
+        fewer,
         needed,
         record {
           next = lacks.next;

@@ -21,3 +21,5 @@ pub mod SampleChainLemmas
 pub mod ParsedOnce
 pub mod EntryItems
 pub mod EntryChainLemmas
+pub mod CounterItems
+pub mod CounterChainLemmas

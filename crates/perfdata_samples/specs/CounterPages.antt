@@ -46,10 +46,10 @@ pub record LacksSpaceForCounters (old : InMemoryRecords) (file : PerfFile) (reco
   pub too_many : capacity < used + needed
   pub returned : ReturnsRecordsInMemory old file (records ++ next ∷ []) new file'
 
--- How the walk ends after these records: the array is full, the next counters don't fit, or the records end.
+-- How the walk ends after these records: the array is full, or else the next counters don't fit, or the records end.
 abbrev pub EndsCounters : InMemoryRecords → PerfFile → List RecordView → ℕ → ℕ → InMemoryRecords → PerfFile → PageEnd → InMemoryRecords → PerfFile → Type 0
 EndsCounters old file records count capacity now now_file Full new file' = count ≡ capacity
-EndsCounters old file records count capacity now now_file (NoSpace needed) new file' = LacksSpaceForCounters old file records capacity count needed new file'
+EndsCounters old file records count capacity now now_file (NoSpace needed) new file' = (count < capacity) × LacksSpaceForCounters old file records capacity count needed new file'
 EndsCounters old file records count capacity now now_file (Records r) new file' = (count < capacity) × WalkEnds now.iter now_file r new.iter file' × NeedsMemoryInPipeOnly now r
 
 -- The walk returns these records, and writes and counts their counters. The next position is after the last of them.
@@ -84,7 +84,7 @@ ReportsNoSpaceForCounters used needed result =
     ((used ≡ 0) × (result.status ≡ status.NoSpace) × (result.count ≡ needed)) ⊎ ((0 < used) × (result.status ≡ status.Records Success) × (result.count ≡ used))
 
 -- The counters are those of the records of a file from a position on, up to another position, by the attributes of the file. The page
--- ends because the array is full, because the counters of the next record don't fit, or because the records end.
+-- ends because the array is full, or else because the counters of the next record don't fit, or because the records end.
 pub record IsCounterPage (bytes : List ℕ) (from : RecordPosition) (capacity : ℕ) (counters : List CounterEntry) (result : CountersResult) (next : RecordPosition) : Type 0 where
   pub records : List RecordView
   pub base : ℕ
@@ -96,7 +96,7 @@ pub record IsCounterPage (bytes : List ℕ) (from : RecordPosition) (capacity : 
   pub are_counters : AreEntriesOf AreCountersOf (endian_of_file page.file) (λ _. attributes_of_file page.file) first_record_offset records counters
   pub ends :
       ((length counters ≡ capacity) × (result.status ≡ status.Records Success) × (result.count ≡ length counters))
-      ⊎ (((needed : ℕ) × IsFollowedByTooManyCounters bytes base from page.file records first_record_offset (length counters) capacity needed × ReportsNoSpaceForCounters (length counters) needed result)
+      ⊎ (((length counters < capacity) × (needed : ℕ) × IsFollowedByTooManyCounters bytes base from page.file records first_record_offset (length counters) capacity needed × ReportsNoSpaceForCounters (length counters) needed result)
       ⊎ ((length counters < capacity) × (length records < records_capacity) × (result.status ≡ status.Records end) × (result.count ≡ length counters)))
 
 -- The result for a page of counters. If the file doesn't open, none is written, and the position is unchanged.

@@ -17,3 +17,4 @@ pub mod MappingPages
 pub mod Details
 pub mod Counters
 pub mod CounterPages
+pub mod CounterChains

@@ -1,4 +1,5 @@
 //! Laws of pages: a chain of calls writes what one call with arrays for all of it writes.
+ghost use Rattle.perfdata_samples.specs.CounterChains.{ChainIsOneCounterPage};
 ghost use Rattle.perfdata_samples.specs.EntryChains.{ChainIsOneEntryPage};
 ghost use Rattle.perfdata_samples.specs.Mappings.{IsMappingOf};
 ghost use Rattle.perfdata_samples.specs.SampleChains.{ChainIsOneSamplePage, SamplePageIsUnique};
@@ -47,4 +48,11 @@ pub fn chain_is_one_task_page()
 /// `file_tasks`.
 pub fn chain_is_one_mapping_page()
     ensures { ChainIsOneEntryPage IsMappingOf }
+{}
+
+/// A chain of calls of `file_counters` writes the same counters as one call with capacity for them, as for
+/// `file_tasks`. A call that finds the end has the status of an error, or writes no counter although its
+/// array has elements.
+pub fn chain_is_one_counter_page()
+    ensures { ChainIsOneCounterPage }
 {}

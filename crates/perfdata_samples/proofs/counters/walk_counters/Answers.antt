@@ -31,12 +31,13 @@ returns-in-Err-add_counters c =
     let own = counter_entries c.in-Ok-Some.place.offset c.values_of_record-values.result in
     let lacks = c.in-Err-add_counters.ensures in
     let too_many = lacks.1 in
+    let free = c.records-test.true in
     let same = c.records.auto.counters in
     let is = entries_next AreCountersOf c.args.input.now c.records.input c.next_record.new.self c.args.file.now c.records.file c.next_record.new.perf_file c.args.counters.now c.records.count c.records.counters c.in-Ok-Some.place c.in-Ok-Some.file_record before.so_far step
     c.next_record.ensures.same_input (first_record_offset_of c.args.input.now) own refl (c.values_of_record-values.ensures c.in-Ok-Some.place (first_record_offset_of c.args.input.now)) in
     let returned = returned_next AreCountersOf c.args.input.now c.records.input c.next_record.new.self c.args.file.now c.records.file c.next_record.new.perf_file c.args.counters.now c.records.count c.records.counters c.in-Ok-Some.place c.in-Ok-Some.file_record before.so_far step c.next_record.ensures.same_input in
     walks_counters c.args.input.now c.records.input c.next_record.new.self c.args.file.now c.records.file c.next_record.new.perf_file c.args.counters.now c.records.count c.records.counters c.add_counters.new.counters c.position-next.result (NoSpace c.in-Err-add_counters.needed) before.so_far before.fits c.position-next.ensures lacks.2
-    (record { next = record_view_of c.in-Ok-Some.place c.in-Ok-Some.file_record; counters = own; are_counters = is; needed_is = lacks.0; too_many = omega (arith, too_many, same); returned = returned })
+    (omega (arith, free, same), record { next = record_view_of c.in-Ok-Some.place c.in-Ok-Some.file_record; counters = own; are_counters = is; needed_is = lacks.0; too_many = omega (arith, too_many, same); returned = returned })
 
 pub returns-in-Ok-None : goal.returns-in-Ok-None
 returns-in-Ok-None c =
