@@ -736,9 +736,9 @@ static inline uint32_t dewikura_is_big_endian(const void *data, size_t size)
 // the records that follow. If it is smaller and the status is DEWIKURA_OK, there are no more records. Calls with arrays of any capacity
 // write the same records as one call with an array for all of them. FINISHED_ROUND records aren't returned; they are counted in `round`.
 //
-// A call reads the metadata that open the file, and the records that it writes. It allocates no memory for records. After an error,
-// *cursor is at the record in error: the next call returns the same status, and *count is 0. If the file doesn't open, *cursor is
-// unchanged.
+// A call reads the metadata that open the file, and the records that it writes. It allocates no memory for records. *cursor is directly
+// after the last written record, also after an error: the next call then returns the same status, and *count is 0. If the file doesn't
+// open, *cursor is unchanged.
 DEWIKURA_NODISCARD static inline dewikura_status dewikura_read_file_records(const void *data, size_t size, struct dewikura_cursor *cursor,
     struct dewikura_record *records, size_t capacity, uint64_t *count)
 {

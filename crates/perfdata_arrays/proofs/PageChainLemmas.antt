@@ -20,7 +20,7 @@ use Rattle.linux_perf_data.proofs.FileErrorUniqueness.{opening_error_is_unique}
 use Rattle.linux_perf_data.proofs.LayoutUniqueness.{remaining_is_unique}
 use Rattle.linux_perf_data.specs.RecordEntries.{with_prefix, record_entries_at, record_entry_at}
 use Rattle.perfdata_arrays.specs.PageChains.{ChainIsOnePage, HasMemory, IsCallAt, IsChain, PageCall, chain_entries, written_entries}
-use Rattle.perfdata_arrays.specs.Pages.{IsPage}
+use Rattle.perfdata_arrays.specs.Pages.{IsPage, position_after}
 use Rattle.perfdata_arrays.specs.Status.{error_status, io_kind_status, read_error_status}
 use Rattle.linux_perf_data.specs.declared.in_memory.entries.RecordEntry.{RecordEntry}
 use Rattle.perfdata_arrays.specs.declared.status.Status.{Status}
@@ -80,12 +80,13 @@ take-written (e ∷ es) (o ∷ os) fits = ap (λ l. e ∷ l) (take-written es os
 
 -- ---- a call
 
--- the file doesn't open, and no entry is written
-record FailsToOpen (bytes : List ℕ) (status : Status) (entries : List RecordEntry) : Type 0 where
+-- the file doesn't open, no entry is written, and the position is unchanged
+record FailsToOpen (bytes : List ℕ) (from : RecordPosition) (status : Status) (next : RecordPosition) (entries : List RecordEntry) : Type 0 where
   error : Error
   status_is : status ≡ error_status error
   cause : error ≢ Memory → IsFileError (at_start bytes) error
   none : entries ≡ []
+  unmoved : next ≡ from
 
 -- the entries are those of a page
 record WritesPage (bytes : List ℕ) (from : RecordPosition) (capacity : ℕ) (status : Status) (next : RecordPosition) (entries : List RecordEntry) : Type 0 where
@@ -108,9 +109,9 @@ module _ (bytes : List ℕ) (from : RecordPosition) (call : PageCall) (is : IsCa
   written_count : length (written_entries call) ≡ call.result.count
   written_count = ap length written_are ∙ length-entries is.base is.records ∙ sym is.writes.count
 
-  call_writes : FailsToOpen bytes call.result.status (written_entries call) ⊎ WritesPage bytes from (length call.before) call.result.status call.next (written_entries call)
+  call_writes : FailsToOpen bytes from call.result.status call.next (written_entries call) ⊎ WritesPage bytes from (length call.before) call.result.status call.next (written_entries call)
   call_writes = elim is.ends [
-    | inl failed ↦ inl (record { error = failed.2.0; status_is = failed.2.1; cause = failed.2.2; none = written_are ∙ ap (record_entries_at is.base) failed.0 })
+    | inl failed ↦ inl (record { error = failed.2.0; status_is = failed.2.1; cause = failed.2.2; none = written_are ∙ ap (record_entries_at is.base) failed.0; unmoved = failed.1 })
     | inr page ↦ inr (record { base = is.base; records = is.records; page = page; entries_are = written_are })
   ]
 
@@ -129,12 +130,14 @@ with_capacity bytes base capacity capacity' from next records status fewer fewer
     | inl full ↦ (let long = full.1 in absurd (omega (arith, long, fewer)))
     | inr ended ↦ inr (fewer', ended.1)
   ];
+  next_position = page.next_position;
   next_fits = page.next_fits;
+  next_round_fits = page.next_round_fits;
 }
 
 -- a page with a capacity of exactly these records contains them
 exact_page : (bytes : List ℕ) {base base' capacity capacity' : ℕ} {from next next' : RecordPosition} {records records' : List RecordView} {status status' : Status} (a : IsPage bytes base from capacity records status next) (b : IsPage bytes base' from capacity' records' status' next')
-    → length records' < capacity' → capacity ≡ length records' → (records ≡ records') × (base ≡ base')
+    → length records' < capacity' → capacity ≡ length records' → (records ≡ records') × (base ≡ base') × (next ≡ next')
 exact_page bytes {base} {base'} {capacity} {capacity'} {from} {next} {next'} {records} {records'} {status} {status'} a b fewer is = elim a.ends [
   | inl full ↦ elim b.ends [
     | inl all ↦ (let long = all.1 in absurd (omega (arith, long, fewer)))
@@ -142,7 +145,8 @@ exact_page bytes {base} {base'} {capacity} {capacity'} {from} {next} {next'} {re
         let x = some_follow bytes a in
         let unique = remaining_is_unique _ _ _ _ _ _ _ _ _ _ x.1.1 (of_first bytes a b from (records' ++ []) ended.1.0 (b.extends_remaining [] ended.1.0 ended.1.1)) in
         let long = full.1 in
-        (first_equal records records' x.0 [] unique.0 (omega (arith, long, is)), same_base bytes a b)
+        let same = first_equal records records' x.0 [] unique.0 (omega (arith, long, is)) in
+        (same, same_base bytes a b, a.next_position ∙ ap (position_after from) same ∙ sym b.next_position)
   ]
   | inr ended ↦
       let less = ended.0 in
@@ -151,15 +155,15 @@ exact_page bytes {base} {base'} {capacity} {capacity'} {from} {next} {next'} {re
 ]
 
 -- a file that opens has no error
-never_fails : (bytes : List ℕ) {base capacity : ℕ} {from next : RecordPosition} {records : List RecordView} {status status' : Status} {entries : List RecordEntry}
-    → IsPage bytes base from capacity records status next → FailsToOpen bytes status' entries → status' ≢ OutOfMemory → ⊥
+never_fails : (bytes : List ℕ) {base capacity : ℕ} {from next from' next' : RecordPosition} {records : List RecordView} {status status' : Status} {entries : List RecordEntry}
+    → IsPage bytes base from capacity records status next → FailsToOpen bytes from' status' next' entries → status' ≢ OutOfMemory → ⊥
 never_fails bytes page failed memory =
     described_file_opens (at_start bytes) page.header page.file failed.error page.describes (failed.cause (λ is. memory (failed.status_is ∙ ap error_status is)))
 
 -- the file doesn't open, or the chain writes a page with a capacity above the number of its records
 abbrev ChainWrites : List ℕ → RecordPosition → List PageCall → PageCall → Type 0
 ChainWrites bytes from calls last =
-    FailsToOpen bytes last.result.status (chain_entries calls last)
+    FailsToOpen bytes from last.result.status last.next (chain_entries calls last)
     ⊎ ((capacity : ℕ) × WritesPage bytes from capacity last.result.status last.next (chain_entries calls last) × (length (chain_entries calls last) < capacity))
 
 chain_writes : (bytes : List ℕ) (from : RecordPosition) (calls : List PageCall) (last : PageCall) → IsChain bytes from calls last → HasMemory last → ChainWrites bytes from calls last
@@ -202,7 +206,7 @@ chain_is_one_page bytes from calls last whole chain is larger memory memory' =
             let none = failed.none ∙ sym failed'.none in
             let cause = failed.cause (λ e. memory' (failed.status_is ∙ ap error_status e)) in
             let cause' = failed'.cause (λ e. memory (failed'.status_is ∙ ap error_status e)) in
-            (same_entries none, none, λ _. failed.status_is ∙ same_status failed.error failed'.error (opening_error_is_unique (at_start bytes) failed.error failed'.error cause cause') ∙ sym failed'.status_is)
+            (same_entries none, none, failed.unmoved ∙ sym failed'.unmoved, λ _. failed.status_is ∙ same_status failed.error failed'.error (opening_error_is_unique (at_start bytes) failed.error failed'.error cause cause') ∙ sym failed'.status_is)
         | inr page ↦ absurd (never_fails bytes page.1.page failed memory')
       ]
       | inr page ↦ elim (chain_writes bytes from calls last chain memory) [
@@ -218,12 +222,12 @@ chain_is_one_page bytes from calls last whole chain is larger memory memory' =
                   let unique = page_is_unique bytes page.base joined.base (length whole.before) (length whole.before) from whole.next last.next page.records joined.records whole.result.status last.result.status (inl refl) page.page raised in
                   let same : written_entries whole ≡ chain_entries calls last =
                   page.entries_are ∙ ap (record_entries_at page.base) unique.0 ∙ ap (λ n. record_entries_at n joined.records) unique.2 ∙ sym joined.entries_are in
-                  (same_entries same, same, λ _. unique.1)
+                  (same_entries same, same, unique.3, λ _. unique.1)
               | inr exact ↦
                   let unique = exact_page bytes page.page joined.page below (omega (arith, long, larger, exact)) in
                   let same : written_entries whole ≡ chain_entries calls last =
                   page.entries_are ∙ ap (record_entries_at page.base) unique.0 ∙ ap (λ n. record_entries_at n joined.records) unique.1 ∙ sym joined.entries_are in
-                  (same_entries same, same, λ less. absurd (omega (arith, long, exact, less)))
+                  (same_entries same, same, unique.2, λ less. absurd (omega (arith, long, exact, less)))
             ]
       ]
     ]

@@ -18,7 +18,7 @@ use Rattle.linux_perf_data.specs.declared.perf_file.PerfFile.{PerfFile}
 use Rattle.linux_perf_data.specs.declared.records.iter.Stage.TheVariants.{Running}
 use Rattle.linux_perf_data.specs.Attribute.{Attribute}
 use Rattle.linux_perf_data.specs.AttributeLookup.{Represents}
-use Rattle.linux_perf_data.specs.Reading.{HasMatchingFile, ReturnsRecords}
+use Rattle.linux_perf_data.specs.Reading.{HasMatchingFile, ReturnsRecords, end_after}
 use Rattle.linux_perf_data.specs.InMemory.{memory_state, MemoryIter, with_buffer}
 use Rattle.linux_perf_data.specs.InMemoryPositions.{FileRecordsFrom, IsAtPosition, ParsesFileAt, position_of, round_at}
 use Rattle.linux_perf_data.specs.InMemoryReading.{NeedsMemoryInPipeOnly, first_record_offset_of, input_of}
@@ -27,12 +27,12 @@ use Rattle.linux_perf_data.specs.Layout.{ErrorAt, LayoutEnd, LayoutError, Metada
 use Rattle.linux_perf_data.specs.OpenedFile.{DescribesFile, FileParseError}
 use Rattle.linux_perf_data.specs.PerfFile.{attributes_of_file, endian_of_file}
 use Rattle.linux_perf_data.specs.RecordFraming.{IsErrorFor}
-use Rattle.linux_perf_data.proofs.FileReadings.{after_prefix_is, consumed_of, fits_of, own_of, read_so_far_of, runs_of, source_error_none, stops_of, whole_of}
+use Rattle.linux_perf_data.proofs.FileReadings.{after_prefix_is, consumed_of, fits_of, offset_of, own_of, read_so_far_of, runs_of, source_error_none, stops_of, whole_of}
 use Rattle.linux_perf_data.proofs.InMemoryPlaces.{section_view}
 use Rattle.linux_perf_data.proofs.InMemoryReadings.{same_end, same_error, same_records}
 use Rattle.linux_perf_data.specs.RecordEntries.{with_prefix, HasBodiesAt, record_entries_at}
 use Rattle.perfdata_arrays.specs.Overwrites.{with_prefix_from}
-use Rattle.perfdata_arrays.specs.Pages.{IsPage, ReadsFilePage, WalksPage, layout_end_status, layout_error_status}
+use Rattle.perfdata_arrays.specs.Pages.{IsPage, ReadsFilePage, WalksPage, layout_end_status, layout_error_status, position_after, round_after}
 use Rattle.perfdata_arrays.specs.Status.{error_status, io_kind_status}
 use Rattle.perfdata_arrays.specs.Walk.{WalkEnds, walk_status}
 use Rattle.linux_perf_data.specs.declared.in_memory.entries.RecordEntry.{RecordEntry}
@@ -82,6 +82,11 @@ never_memory input size (Err x) section needs e is memory =
     let same : x ≡ e = cc in
     let pipe = needs (same ∙ memory) in
     absurd cc
+
+-- the round after some records is that of the last
+round_of : (it now : MemoryIter) (file file' : PerfFile) (records : List RecordView) → ReturnsRecords memory_state it file records now file' → now.round ≡ round_after it.round records
+round_of it now file file' [] (same, _) = ap (λ i. i.round) same
+round_of it now file file' (h ∷ hs) (next, (next_file, step, more)) = round_of next now next_file file' hs more ∙ ap (λ n. round_after n hs) step.round
 
 -- ---- an iterator at a position
 
@@ -159,6 +164,12 @@ module _ (bytes : List ℕ) (header : PerfHeader) (file : PerfFile) where
                 ∙ ap (λ l. Some l) (drop-drop (length consumed.prefix) (header.data_section.offset + q.offset) bytes ∙ ap (λ n. drop n bytes) (let e : header.data_section.offset + q.offset + length consumed.prefix ≡ header.data_section.offset + now.offset = omega (arith, long, start) in e));
             section_size = h.same_input.section_size ∙ at.section_size;
           }
+
+      pub next_position : next ≡ position_after q records
+      next_position =
+          let offset : now.offset ≡ end_after q.offset records = offset_of memory_state it now file now_file records all ∙ ap (λ n. end_after n records) at.offset in
+          let round : now.round ≡ round_after (round_at q) records = round_of it now file now_file records all ∙ ap (λ n. round_after n records) at.round in
+          λ i. record { offset = offset i; round = round i }
 
       pub own_next : HasMatchingFile memory_state now now_file
       own_next = own_of memory_state it now file now_file records own_at all
@@ -260,6 +271,8 @@ module _ (bytes : List ℕ) (from : RecordPosition) where
           first_record_at = refl;
           extends_remaining = λ rest end remain. extends bytes header file from it at now w.file_at_end w.records streamed.1 rest end (subst (λ q. RemainFrom q rest end) next_is remain);
           ends = subst (PageEnd walked.next) (sym status) page_end;
+          next_position = next_is ∙ next_position bytes header file from it at now w.file_at_end w.records streamed.1;
           next_fits = subst (λ q. q.offset < 2 ^ 64) (sym next_is) (fits_of memory_state it now file w.file_at_end w.records at_fits streamed.1);
+          next_round_fits = subst (λ q. q.round ≤ q.offset) (sym next_is) now.rounds_fit;
         });
       }

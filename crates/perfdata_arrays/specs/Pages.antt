@@ -1,5 +1,5 @@
 -- The records of a file in pages: a call writes the records from a position on, and moves the position past them.
-use Rattle.std.specs.Prelude.{◌≡◌, ◌⊎◌, ℕ, ◌+◌, ◌^◌, ◌≤◌, ◌<◌, List, [], ◌++◌, length, take, Result, Ok}
+use Rattle.std.specs.Prelude.{◌≡◌, ◌⊎◌, ℕ, ◌+◌, ◌^◌, ◌≤◌, ◌<◌, List, [], ◌∷◌, ◌++◌, length, take, Result, Ok}
 use Rattle.perfdata_base.specs.Source.{at_start}
 use Rattle.perfdata_base.specs.declared.header.PerfHeader.{PerfHeader}
 use Rattle.perfdata_sections.specs.declared.error.Error.{Error}
@@ -7,11 +7,12 @@ use Rattle.linux_perf_data.specs.declared.in_memory.InMemoryRecords.{InMemoryRec
 use Rattle.linux_perf_data.specs.declared.in_memory.position.RecordPosition.{RecordPosition}
 use Rattle.linux_perf_data.specs.declared.perf_file.PerfFile.{PerfFile}
 use Rattle.linux_perf_data.specs.FileOpening.{IsFileError}
-use Rattle.linux_perf_data.specs.InMemoryPositions.{FileRecordsFrom, position_of}
+use Rattle.linux_perf_data.specs.InMemoryPositions.{FileRecordsFrom, position_of, round_at}
 use Rattle.linux_perf_data.specs.InMemoryReading.{NeedsMemoryInPipeOnly, ReturnsRecordsInMemory, first_record_offset_of, input_of}
 use Rattle.linux_perf_data.specs.Layout.{LayoutEnd, LayoutError, RecordView, ends_complete, ends_with_error, truncated_header, size_below_header, end_overflows, truncated_body, compressed_record, aux_body_too_short, aux_end_overflows, truncated_aux_data}
 use Rattle.linux_perf_data.specs.OpenedFile.{DescribesFile}
 use Rattle.linux_perf_data.specs.PerfFile.{attributes_of_file, endian_of_file}
+use Rattle.linux_perf_data.specs.Reading.{end_after}
 use Rattle.linux_perf_data.specs.RecordEntries.{with_prefix, HasBodiesAt, record_entries_at}
 use Rattle.perfdata_arrays.specs.Records.{FailsWithStatus, WritesRecords}
 use Rattle.perfdata_arrays.specs.Walk.{WalkEnds}
@@ -37,6 +38,18 @@ pub record WalksPage (old : InMemoryRecords) (file : PerfFile) (before : List Re
   pub body_bytes_at : HasBodiesAt (input_of old) (first_record_offset_of old) records
   pub ends : ((walked.end ≡ Ok tt) × (length records ≡ length before)) ⊎ ((length records < length before) × WalkEnds input_at_end.iter file_at_end walked.end new.iter file' × NeedsMemoryInPipeOnly input_at_end walked.end)
 
+-- ---- positions
+
+-- The round of the last of these records, or this round if there are none.
+abbrev pub round_after : ℕ → List RecordView → ℕ
+round_after round [] = round
+round_after round (h ∷ hs) = round_after h.round hs
+
+-- The position directly after the last of these records: the end of its body or aux data, before any marker that follows. If there
+-- are none, it is the position from which they are read; its round is at most its offset.
+abbrev pub position_after : RecordPosition → List RecordView → RecordPosition
+position_after from records = record { offset = end_after from.offset records; round = round_after (round_at from) records }
+
 -- ---- a page
 
 -- the status for the end of a file's records
@@ -55,8 +68,8 @@ abbrev pub layout_end_status : LayoutEnd → Status
 layout_end_status ends_complete = Success
 layout_end_status (ends_with_error f) = layout_error_status f
 
--- These are the records of a file from a position on, up to another position. Either there are as many as the array has elements,
--- or there are fewer, the records end at the other position, and the status is that of their end.
+-- These are the records of a file from a position on, up to the position after the last of them. Either there are as many as the
+-- array has elements, or there are fewer, the records end at that position, and the status is that of their end.
 pub record IsPage (bytes : List ℕ) (base : ℕ) (from : RecordPosition) (capacity : ℕ) (records : List RecordView) (status : Status) (next : RecordPosition) : Type 0 where
   pub file : PerfFile
   pub header : PerfHeader
@@ -67,7 +80,9 @@ pub record IsPage (bytes : List ℕ) (base : ℕ) (from : RecordPosition) (capac
       → FileRecordsFrom bytes (endian_of_file file) header from (attributes_of_file file) (records ++ rest) end
   pub ends : ((status ≡ Success) × (length records ≡ capacity))
       ⊎ ((length records < capacity) × ((end : LayoutEnd) × FileRecordsFrom bytes (endian_of_file file) header next (attributes_of_file file) [] end × (status ≡ layout_end_status end)))
+  pub next_position : next ≡ position_after from records
   pub next_fits : next.offset < 2 ^ 64
+  pub next_round_fits : next.round ≤ next.offset
 
 -- The result for a page. If the file doesn't open, no record is written, and the position is unchanged.
 pub record ReadsFilePage (bytes : List ℕ) (from : RecordPosition) (old : List RecordEntry) (result : RecordsResult) (next : RecordPosition) (new : List RecordEntry) : Type 0 where
@@ -84,8 +99,9 @@ abbrev pub PagesJoin : Type 0
 PagesJoin = (bytes : List ℕ) (base later_base capacity later_capacity : ℕ) (from middle next : RecordPosition) (records later : List RecordView) (status : Status) →
     IsPage bytes base from capacity records Success middle → length records ≡ capacity → IsPage bytes later_base middle later_capacity later status next → IsPage bytes base from (capacity + later_capacity) (records ++ later) status next
 
--- The records from a position on and the status are determined by the capacity, or by any capacity above their number.
+-- The records from a position on, the status and the next position are determined by the capacity, or by any capacity above the
+-- number of records.
 abbrev pub PageIsUnique : Type 0
 PageIsUnique = (bytes : List ℕ) (base base' capacity capacity' : ℕ) (from next next' : RecordPosition) (records records' : List RecordView) (status status' : Status) →
     (capacity ≡ capacity') ⊎ ((length records < capacity) × (length records' < capacity')) →
-    IsPage bytes base from capacity records status next → IsPage bytes base' from capacity' records' status' next' → (records ≡ records') × (status ≡ status') × (base ≡ base')
+    IsPage bytes base from capacity records status next → IsPage bytes base' from capacity' records' status' next' → (records ≡ records') × (status ≡ status') × (base ≡ base') × (next ≡ next')

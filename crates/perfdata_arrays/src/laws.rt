@@ -7,13 +7,14 @@ pub fn pages_join()
     ensures { PagesJoin }
 {}
 
-/// The records of a page and its status are determined by its position and its capacity. Pages with fewer
-/// records than their capacities are the same whatever the capacities are.
+/// The records of a page, its status and its next position are determined by its position and its capacity.
+/// Pages with fewer records than their capacities are the same whatever the capacities are.
 pub fn page_is_unique()
     ensures { PageIsUnique }
 {}
 
-/// A chain of calls of `file_records` writes the same entries as one call with capacity for them.
+/// A chain of calls of `file_records` writes the same entries as one call with capacity for them, and ends at
+/// the same position.
 ///
 /// Each call begins at the position that the call before it moved. All but the last succeed and fill their
 /// arrays, and the last writes fewer entries than its array has elements. If the one call has capacity for

@@ -148,12 +148,15 @@ pub(crate) fn walk_page(
 /// after the last written entry are unchanged. `count` is the number of written entries. FINISHED_ROUND
 /// markers aren't records.
 ///
+/// The moved position is directly after the last written record, before any marker that follows. If no record
+/// is written, it is the given position, whose round is replaced by the offset if it is larger.
+///
 /// If `count` is the capacity and the status is `Success`, a call with the moved position writes the records
 /// that follow. If `count` is smaller and the status is `Success`, the file has no more records.
 ///
 /// The errors are those of `InMemoryReader::parse_file` and of `InMemoryRecords::next_record`. If the file
-/// doesn't open, `count` is 0 and the position is unchanged. At an error, the position is that of the record
-/// in error or of the markers before it: the next call returns the same status, and `count` is 0.
+/// doesn't open, `count` is 0 and the position is unchanged. After an error of a record, a call with the moved
+/// position returns the same status, and `count` is 0.
 pub fn file_records(
     alloc: Global,
     bytes: &[u8],

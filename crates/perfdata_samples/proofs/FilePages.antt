@@ -27,7 +27,7 @@ use Rattle.linux_perf_data.specs.declared.in_memory.InMemoryRecords.{InMemoryRec
 use Rattle.linux_perf_data.specs.declared.in_memory.position.RecordPosition.{RecordPosition}
 use Rattle.linux_perf_data.specs.declared.perf_file.PerfFile.{PerfFile}
 use Rattle.linux_perf_data.specs.declared.records.iter.Stage.TheVariants.{Running}
-use Rattle.perfdata_arrays.proofs.PageLemmas.{at_next, eof_status, extends, own_next, remain_of_iter}
+use Rattle.perfdata_arrays.proofs.PageLemmas.{at_next, eof_status, extends, next_position, own_next, remain_of_iter}
 use Rattle.perfdata_arrays.specs.Pages.{IsPage, layout_end_status, layout_error_status}
 use Rattle.perfdata_arrays.specs.Status.{error_status, io_kind_status}
 use Rattle.perfdata_arrays.specs.Walk.{WalkEnds, walk_status}
@@ -116,7 +116,9 @@ module _ (bytes : List ℕ) (from : RecordPosition) (reader : InMemoryReader) (p
       first_record_at = refl;
       extends_remaining = λ rest end remain. extends bytes header_of file from it at streaming now_file records streamed.1 rest end remain;
       ends = ends;
+      next_position = next_position bytes header_of file from it at streaming now_file records streamed.1;
       next_fits = fits_of memory_state it streaming file now_file records at.offset_fits streamed.1;
+      next_round_fits = streaming.rounds_fit;
     }
 
     with_own_buffer : {A : Type 0} (new : InMemoryRecords) (file' : PerfFile) (r : Result A Error) → now.iter.stage ≡ Running → WalkEnds now.iter now_file r new.iter file' → WalkEnds streaming now_file r new.iter file'
