@@ -13,5 +13,6 @@ pub mod FeatureSetsLemmas
 pub mod AttrsLemmas
 pub mod BuildIdsLemmas
 pub mod MetaPairsLemmas
+pub mod MetadataLemmas
 pub mod SymbolTablesLemmas
 pub mod JitDebugLemmas

@@ -13,33 +13,34 @@ use Rattle.perfdata_sections.specs.declared.error.Error.TheVariants.{Memory}
 use Rattle.linux_perf_data.specs.declared.in_memory.InMemoryReader.{InMemoryReader}
 use Rattle.linux_perf_data.specs.declared.in_memory.InMemoryRecords.{InMemoryRecords}
 use Rattle.linux_perf_data.specs.declared.perf_file.PerfFile.{PerfFile}
-use Rattle.linux_perf_data.specs.Iter.{HasRemainingRecords, iter_source_state, section_size_of}
+use Rattle.linux_perf_data.specs.Iter.{ConsumesMetadata, HasRemainingRecords, ReturnsError, iter_source_state, section_size_of}
 use Rattle.linux_perf_data.specs.Descriptions.{described_attributes}
 use Rattle.linux_perf_data.specs.InMemory.{memory_state, MemoryIter}
 use Rattle.linux_perf_data.specs.InMemoryReading.{ParsesPipeInMemory, first_record_offset_of, input_of}
-use Rattle.linux_perf_data.specs.LateMetadata.{AccumulatesMetadata, SamePerfFile}
+use Rattle.linux_perf_data.specs.LateMetadata.{AccumulatesMetadata, HasValidMetadata, SamePerfFile}
 use Rattle.linux_perf_data.specs.FeatureNumbers.{event_desc}
 use Rattle.linux_perf_data.specs.Names.{NamedByEventDesc}
 use Rattle.linux_perf_data.specs.PerfFile.{attributes_of_file, feature_data_in_file, descriptions_of_file}
-use Rattle.linux_perf_data.specs.Layout.{RecordView, LayoutEnd, ends_complete, ends_with_error, LayoutError, RemainingRecords, attributes_in_records}
+use Rattle.linux_perf_data.specs.Layout.{RecordView, LayoutEnd, ends_complete, ends_with_error, LayoutError, RemainingRecords, ConsistsOfMarkers, IsRecord, attributes_in_records, record_type_of}
 use Rattle.linux_perf_data.specs.OpenedPipe.{KeepsPendingHeader, PipeParsed, PipeParseError}
 use Rattle.linux_perf_data.specs.RecordFraming.{IsErrorFor}
 use Rattle.linux_perf_data.specs.PipeOpening.{EndsMetadata, IsPipeError}
 use Rattle.linux_perf_data.specs.PipeReading.{BeginsPipe, HoldsAllMetadata, IsCompletePipe, HoldsForPipe}
-use Rattle.linux_perf_data.specs.Reading.{AreFirstRecords, ReturnsRecords}
+use Rattle.linux_perf_data.specs.Reading.{AreFirstRecords, ReturnsRecords, end_after}
 use Rattle.linux_perf_data.proofs.PipeReadings.{begins, ends_there, error_there, first_there, holds_all, opening_prefix, own_pipe, pipe_up_to_end, whole_there}
-use Rattle.linux_perf_data.proofs.FileReadings.{after_prefix_is, first_of, holds_of, none_of, source_error_none, stops_of, whole_of}
+use Rattle.linux_perf_data.proofs.FileReadings.{after_prefix_is, consumed_of, first_of, holds_of, none_of, offset_of, read_so_far_of, runs_of, source_error_none, stops_of, whole_of}
 use Rattle.perfdata_arrays.specs.Overwrites.{with_prefix_from}
 use Rattle.perfdata_arrays.specs.Status.{error_status}
 use Rattle.linux_perf_data.specs.RecordEntries.{HasBodiesAt}
-use Rattle.perfdata_arrays.specs.Records.{EndsWithStatus, IsPipeWithRecords, ReadsPipeRecords}
+use Rattle.perfdata_arrays.specs.Records.{EndsWithStatus, FollowedByMetadata, IsPipeWithRecords, ReadsPipeRecords}
 use Rattle.perfdata_arrays.specs.Walk.{WalkEnds, WalksRecords, walk_status}
 use Rattle.perfdata_arrays.specs.declared.status.Status.{Status}
 use Rattle.perfdata_arrays.specs.declared.status.Status.TheVariants.{Success}
 use Rattle.linux_perf_data.specs.declared.in_memory.entries.RecordEntry.{RecordEntry}
 use Rattle.perfdata_arrays.specs.declared.records.RecordsResult.{RecordsResult}
 use Rattle.perfdata_arrays.specs.declared.records.WalkResult.{WalkResult}
-use Rattle.perfdata_arrays.proofs.WalkLemmas.{length-prefix, prefix-split, streams_records, writes_at}
+use Rattle.perfdata_arrays.proofs.MetadataLemmas.{complete_metadata}
+use Rattle.perfdata_arrays.proofs.WalkLemmas.{NeedsMetadata, length-prefix, prefix-split, streams_records, writes_at}
 
 module _ (bytes : List ℕ) where
   -- an error in opening a pipe is an error of its bytes
@@ -114,7 +115,7 @@ module _ (bytes : List ℕ) (reader : InMemoryReader) (parsed : ParsesPipeInMemo
     pub rest : List ℕ
     pub opening : BeginsPipe it.endian metadata_records bytes rest
     pub after_opening : EndsMetadata it.endian rest
-    pub end_is : EndsWithStatus (RemainingRecords it.endian rest None 0 0 (attributes_in_records it.endian None metadata_records)) records status
+    pub end_is : EndsWithStatus (RemainingRecords it.endian rest None 0 0 (attributes_in_records it.endian None metadata_records)) (FollowedByMetadata it.endian rest) records status
     pub first_record_at : (records ≡ []) ⊎ (first_record_offset_of reader.records ≡ length bytes - length rest)
     pub holds : HoldsAllMetadata it.endian metadata_records records file'
 
@@ -153,40 +154,42 @@ module _ (bytes : List ℕ) (reader : InMemoryReader) (parsed : ParsesPipeInMemo
         let eight = k.exact_len in
         omega (arith, ap length same, length-drop (first + it.offset) (input_of reader.records), ap length parsed.1, start, long, eight)
 
-    pipe_ends_after : (records : List RecordView) (status : Status) (file' : PerfFile) → HoldsForPipe it.endian o.raw_records bytes (λ C. EndsWithStatus C records status) → HoldsAllMetadata it.endian o.raw_records records file' → PipeEnds records status file'
+    -- the metadata record for which memory ran out
+    metadata_follows : (now new : MemoryIter) (now_file file' : PerfFile) (records : List RecordView) (e : Error) → ReturnsRecords memory_state it file records now now_file → ReturnsError memory_state now now_file e new file' → e ≡ Memory → ConsumesMetadata memory_state now new
+        → FollowedByMetadata it.endian rest_after records
+    metadata_follows now new now_file file' records e all failed is m =
+        let before_it = consumed_of memory_state it now file now_file records all in
+        let same_endian = (read_so_far_of memory_state it now file now_file records all).same_input.same_endian in
+        let at : now.offset ≡ end_after 0 records = offset_of memory_state it now file now_file records all ∙ ap (λ n. end_after n records) o.offset in
+        let long : length before_it.prefix ≡ end_after 0 records = (let all_bytes = before_it.long in let start = o.offset in omega (arith, all_bytes, start, at)) in
+        let remains : (iter_source_state memory_state now).bytes ≡ Some (drop (end_after 0 records) rest_after) =
+        after_prefix_is (iter_source_state memory_state it).bytes (iter_source_state memory_state now).bytes before_it.prefix rest_after before_it.consumed.bytes rest_remains ∙ ap (λ n. Some (drop n rest_after)) long in
+        let unread = prefix-split (iter_source_state memory_state new).bytes (drop (end_after 0 records) rest_after) (m.markers ++ m.raw_record) (sym remains ∙ m.consumes.bytes) in
+        record {
+          markers = m.markers;
+          valid_markers = subst (λ n. ConsistsOfMarkers it.endian None n m.markers) at
+              (subst (λ b. ConsistsOfMarkers it.endian b now.offset m.markers) m.in_pipe (subst (λ order. ConsistsOfMarkers order (section_size_of memory_state now) now.offset m.markers) same_endian m.valid_markers));
+          raw_record = m.raw_record;
+          is_record = subst (λ order. IsRecord order m.raw_record) same_endian m.is_record;
+          valid_metadata = subst (λ order. HasValidMetadata order (record_type_of order m.raw_record) (drop 8 m.raw_record)) same_endian
+              (complete_metadata now new now_file (drop (end_after 0 records) rest_after) e remains (failed.if_running (runs_of memory_state it now file now_file records k.stage_running all)) is m);
+          rest = unread.0;
+          split = unread.1 ∙ append_assoc m.markers m.raw_record unread.0;
+        }
+
+    pipe_ends_after : (records : List RecordView) (status : Status) (file' : PerfFile) → EndsWithStatus (RemainingRecords it.endian rest_after None 0 0 (attributes_in_records it.endian None o.raw_records)) (FollowedByMetadata it.endian rest_after) records status
+        → HoldsAllMetadata it.endian o.raw_records records file' → PipeEnds records status file'
     pipe_ends_after records status file' ends holds = record {
       metadata_records = o.raw_records;
       rest = rest_after;
       opening = pipe_begins;
       after_opening = ends_there memory_state old file it o k rest_after rest_remains;
-      end_is = at_rest (λ C. EndsWithStatus C records status) ends;
+      end_is = ends;
       first_record_at = inr first_is_after;
       holds = holds;
     }
 
   -- ---- any opening
-
-  complete_status : (metadata_records : List (List ℕ)) (records : List RecordView) → IsCompletePipe it.endian metadata_records records bytes → HoldsForPipe it.endian metadata_records bytes (λ C. EndsWithStatus C records Success)
-  complete_status metadata_records records (rest, opening, ends, remaining) = (rest, opening, ends, inl (refl, remaining))
-
-  error_status_is : (metadata_records : List (List ℕ)) (records : List RecordView) (e : Error) → HoldsForPipe it.endian metadata_records bytes (λ C. AreFirstRecords C records) → (e ≢ Memory → HoldsForPipe it.endian metadata_records bytes (λ C. (f : LayoutError) × C records (ends_with_error f) × IsErrorFor f e))
-      → HoldsForPipe it.endian metadata_records bytes (λ C. EndsWithStatus C records (error_status e))
-  error_status_is metadata_records records e (rest, opening, ends, first_remaining) cause = (
-    rest,
-    opening,
-    ends,
-    inr (
-      first_remaining,
-      (
-        e,
-        refl,
-        λ other.
-            let f = cause other in
-            let same : f.0 ≡ rest = opening_is_unique it.endian metadata_records bytes f.0 rest f.1 opening in
-            subst (λ l. (g : LayoutError) × RemainingRecords it.endian l None 0 0 (attributes_in_records it.endian None metadata_records) records (ends_with_error g) × IsErrorFor g e) same f.3,
-      ),
-    ),
-  )
 
   -- the pipe without a record after its opening
   no_record_ends : (records : List RecordView) (file' : PerfFile) (metadata_records : List (List ℕ)) → records ≡ [] → IsCompletePipe it.endian metadata_records records bytes → HoldsAllMetadata it.endian metadata_records records file' → PipeEnds records Success file'
@@ -194,8 +197,8 @@ module _ (bytes : List ℕ) (reader : InMemoryReader) (parsed : ParsesPipeInMemo
       record { metadata_records = metadata_records; rest = rest; opening = opening; after_opening = ends; end_is = inl (refl, remaining); first_record_at = inl none; holds = holds }
 
   module _ (now new : MemoryIter) (now_file file' : PerfFile) (records : List RecordView) (all : ReturnsRecords memory_state it file records now now_file) where
-    pub pipe_ends : {A : Type 0} (end : Result A Error) → WalkEnds now now_file end new file' → PipeEnds records (walk_status end) file'
-    pipe_ends (Ok _) at = elim (pipe_up_to_end memory_state old bytes file now_file file' it now new records refl o all at) [
+    pub pipe_ends : {A : Type 0} (end : Result A Error) → WalkEnds now now_file end new file' → NeedsMetadata now end new → PipeEnds records (walk_status end) file'
+    pipe_ends (Ok _) at memory = elim (pipe_up_to_end memory_state old bytes file now_file file' it now new records refl o all at) [
       | inl end ↦ elim o.end_of_opening [
         | inl k ↦
             let whole : HasRemainingRecords memory_state it (attributes_of_file file) records ends_complete =
@@ -203,13 +206,13 @@ module _ (bytes : List ℕ) (reader : InMemoryReader) (parsed : ParsesPipeInMemo
               | inl is ↦ is (attributes_of_file file) o.represents
               | inr paused ↦ (let p = paused.1 in absurd (p.not_steady (k.consumes.steady refl).steady))
             ] in
-            pipe_ends_after k records Success file' (complete_status o.raw_records records (whole_there memory_state old file it o k records whole))
+            pipe_ends_after k records Success file' (inl (refl, at_rest k (λ C. C records ends_complete) (whole_there memory_state old file it o k records whole)))
             (holds_all memory_state old file it o records file' (subst (AccumulatesMetadata it.endian (section_size_of memory_state it) records file) (sym at.file_unchanged) (holds_of memory_state it now file now_file records all)))
         | inr e ↦ no_record_ends records file' end.raw_records (none_of memory_state it now file now_file records e.stage_ended all).0 end.all_records end.all_metadata
       ]
       | inr paused ↦ absurd (paused.1.not_steady refl)
     ]
-    pipe_ends (Err e) failed_opening = elim o.end_of_opening [
+    pipe_ends (Err e) failed_opening memory = elim o.end_of_opening [
       | inl k ↦
           let start : it.offset < 2 ^ 64 = (let z = o.offset in omega (arith, z)) in
           let remaining = first_there memory_state old file it o k records (first_of memory_state it now file now_file records start all) in
@@ -217,7 +220,9 @@ module _ (bytes : List ℕ) (reader : InMemoryReader) (parsed : ParsesPipeInMemo
             | inl ends ↦ error_there memory_state old file it o k records e ends
             | inr owes ↦ absurd (source_error_none it.endian (section_size_of memory_state it) (iter_source_state memory_state it) (iter_source_state memory_state new) e (k.consumes.steady refl).steady owes)
           ] in
-          pipe_ends_after k records (error_status e) file' (error_status_is o.raw_records records e remaining cause)
+          let first_records = at_rest k (λ C. AreFirstRecords C records) remaining in
+          pipe_ends_after k records (error_status e) file'
+          (inr (first_records, (e, refl, λ is. metadata_follows k now new now_file file' records e all failed_opening is (memory is), λ other. at_rest k (λ C. (f : LayoutError) × C records (ends_with_error f) × IsErrorFor f e) (cause other))))
           (file_matches-same it.endian o.raw_records records now_file file' (holds_all memory_state old file it o records now_file (holds_of memory_state it now file now_file records all)) failed_opening.same_file)
       | inr ends ↦ (let none = none_of memory_state it now file now_file records ends.stage_ended all in absurd (failed_opening.not_ended (ap (λ i. i.stage) none.1 ∙ ends.stage_ended)))
     ]
@@ -227,8 +232,8 @@ module _ (bytes : List ℕ) (reader : InMemoryReader) (parsed : ParsesPipeInMemo
   module _ (start : ℕ) (entries entries' : List RecordEntry) (walked : WalkResult) (new : InMemoryRecords) (file' : PerfFile) (w : WalksRecords reader.records file start entries walked new file' entries') where
     pub walk_ends : PipeEnds w.records (walk_status walked.end) file'
     walk_ends =
-        let s = streams_records reader.records w.input_at_end new file w.file_at_end file' w.records walked.end w.returned w.ends in
-        pipe_ends s.iter_at_end new.iter s.file_at_end file' w.records s.returned walked.end s.ends
+        let s = streams_records reader.records w.input_at_end new file w.file_at_end file' w.records walked.end w.returned w.ends w.memory in
+        pipe_ends s.iter_at_end new.iter s.file_at_end file' w.records s.returned walked.end s.ends s.memory
 
     -- the bytes are that pipe
     abbrev pub is_pipe_with_records : (status : Status) → status ≡ walk_status walked.end → IsPipeWithRecords bytes w.records file' status
@@ -238,7 +243,7 @@ module _ (bytes : List ℕ) (reader : InMemoryReader) (parsed : ParsesPipeInMemo
       rest = walk_ends.rest;
       has_opening = walk_ends.opening;
       after_opening = walk_ends.after_opening;
-      ends = subst (EndsWithStatus (RemainingRecords it.endian walk_ends.rest None 0 0 (attributes_in_records it.endian None walk_ends.metadata_records)) w.records) (sym is) walk_ends.end_is;
+      ends = subst (EndsWithStatus (RemainingRecords it.endian walk_ends.rest None 0 0 (attributes_in_records it.endian None walk_ends.metadata_records)) (FollowedByMetadata it.endian walk_ends.rest) w.records) (sym is) walk_ends.end_is;
       file_matches = walk_ends.holds;
     }
 

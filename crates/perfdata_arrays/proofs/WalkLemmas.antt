@@ -6,6 +6,7 @@ use Rattle.std.proofs.Math.Seq.{drop-nil}
 use Rattle.std.specs.declared.alloc.Global.{Global}
 use Rattle.perfdata_base.specs.Source.{prepend}
 use Rattle.perfdata_sections.specs.declared.error.Error.{Error}
+use Rattle.perfdata_sections.specs.declared.error.Error.TheVariants.{Memory}
 use Rattle.perfdata_records.specs.declared.record.PerfFileRecord.{PerfFileRecord}
 use Rattle.linux_perf_data.specs.declared.in_memory.InMemoryRecords.{InMemoryRecords}
 use Rattle.linux_perf_data.specs.declared.in_memory.position.RecordPosition.{RecordPosition}
@@ -15,10 +16,10 @@ use Rattle.linux_perf_data.specs.declared.perf_file.PerfFile.{PerfFile}
 use Rattle.linux_perf_data.specs.declared.records.iter.RecordPlace.{RecordPlace}
 use Rattle.linux_perf_data.specs.declared.records.iter.Stage.TheVariants.{Running}
 use Rattle.linux_perf_data.specs.RecordViews.{record_view_of}
-use Rattle.linux_perf_data.specs.Iter.{iter_source_state, ReturnsRecord}
+use Rattle.linux_perf_data.specs.Iter.{ConsumesMetadata, iter_source_state, ReturnsRecord}
 use Rattle.linux_perf_data.specs.Reading.{ReturnsRecords}
 use Rattle.linux_perf_data.specs.InMemory.{memory_state, MemoryIter, with_buffer}
-use Rattle.linux_perf_data.specs.InMemoryReading.{KeepsInput, ReturnsRecordInMemory, ReturnsRecordsInMemory, input_of, first_record_offset_of}
+use Rattle.linux_perf_data.specs.InMemoryReading.{KeepsInput, NeedsMemoryForMetadataOnly, ReturnsRecordInMemory, ReturnsRecordsInMemory, input_of, first_record_offset_of}
 use Rattle.linux_perf_data.specs.Layout.{RecordView}
 use Rattle.linux_perf_data.proofs.EntryLemmas.{body-returned, has_bodies-snoc}
 use Rattle.linux_perf_data.proofs.InMemoryReadings.{one_call_more, same_records, same_end, same_error}
@@ -174,12 +175,18 @@ full_page old now file now_file array entries count next so_far position full =
 
 -- ---- the streaming iterator
 
+-- memory runs out only for a whole metadata record of a pipe
+abbrev pub NeedsMetadata : {A : Type 0} → MemoryIter → Result A Error → MemoryIter → Type 0
+NeedsMetadata now (Ok _) new = Unit {0}
+NeedsMetadata now (Err e) new = e ≡ Memory → ConsumesMetadata memory_state now new
+
 -- a streaming iterator returns the same records, and then the same end
 pub record StreamsRecords {A : Type 0} (it : MemoryIter) (file : PerfFile) (records : List RecordView) (end : Result A Error) (new : MemoryIter) (file' : PerfFile) : Type 0 where
   pub iter_at_end : MemoryIter
   pub file_at_end : PerfFile
   pub returned : ReturnsRecords memory_state it file records iter_at_end file_at_end
   pub ends : WalkEnds iter_at_end file_at_end end new file'
+  pub memory : NeedsMetadata iter_at_end end new
 
 runs_after : (old now : InMemoryRecords) (file file' : PerfFile) (h : RecordView) (hs : List RecordView) → ReturnsRecordsInMemory old file (h ∷ hs) now file' → now.iter.stage ≡ Running
 runs_after old now file file' h [] (next, (next_file, (place, (r, step, is)), (same, same_file))) = ap (λ i. i.iter.stage) same ∙ step.returns.stage_running
@@ -189,8 +196,25 @@ ends_with_buffer : {A : Type 0} (now new : InMemoryRecords) (file file' : PerfFi
 ends_with_buffer now new file file' buffer (Ok _) runs ended = same_end now new file file' buffer runs ended
 ends_with_buffer now new file file' buffer (Err e) runs failed = same_error now new file file' e buffer runs failed
 
-pub streams_records : {A : Type 0} (old now new : InMemoryRecords) (file now_file file' : PerfFile) (records : List RecordView) (end : Result A Error) → ReturnsRecordsInMemory old file records now now_file → WalkEnds now.iter now_file end new.iter file' → StreamsRecords old.iter file records end new.iter file'
-streams_records old now new file now_file file' [] end (same, same_file) ends = record { iter_at_end = now.iter; file_at_end = now_file; returned = (ap (λ i. i.iter) same, same_file); ends = ends }
-streams_records old now new file now_file file' (h ∷ hs) end all ends =
+metadata_with_buffer : {A : Type 0} (now new : InMemoryRecords) (buffer : Vec ℕ Global) (end : Result A Error) → NeedsMemoryForMetadataOnly now end new → NeedsMetadata (with_buffer now.iter buffer) end new.iter
+metadata_with_buffer now new buffer (Ok _) memory = tt
+metadata_with_buffer now new buffer (Err e) memory = λ is.
+    (let m = memory is in
+    record { in_pipe = m.in_pipe; markers = m.markers; valid_markers = m.valid_markers; raw_record = m.raw_record; is_record = m.is_record; metadata_type = m.metadata_type; consumes = m.consumes })
+
+metadata_of_iter : {A : Type 0} (now new : InMemoryRecords) (end : Result A Error) → NeedsMemoryForMetadataOnly now end new → NeedsMetadata now.iter end new.iter
+metadata_of_iter now new (Ok _) memory = tt
+metadata_of_iter now new (Err e) memory = memory
+
+pub streams_records : {A : Type 0} (old now new : InMemoryRecords) (file now_file file' : PerfFile) (records : List RecordView) (end : Result A Error) → ReturnsRecordsInMemory old file records now now_file → WalkEnds now.iter now_file end new.iter file' → NeedsMemoryForMetadataOnly now end new → StreamsRecords old.iter file records end new.iter file'
+streams_records old now new file now_file file' [] end (same, same_file) ends memory =
+    record { iter_at_end = now.iter; file_at_end = now_file; returned = (ap (λ i. i.iter) same, same_file); ends = ends; memory = metadata_of_iter now new end memory }
+streams_records old now new file now_file file' (h ∷ hs) end all ends memory =
     let from = same_records old now file now_file (h ∷ hs) all in
-    record { iter_at_end = with_buffer now.iter from.0; file_at_end = now_file; returned = from.1; ends = ends_with_buffer now new now_file file' from.0 end (runs_after old now file now_file h hs all) ends }
+    record {
+      iter_at_end = with_buffer now.iter from.0;
+      file_at_end = now_file;
+      returned = from.1;
+      ends = ends_with_buffer now new now_file file' from.0 end (runs_after old now file now_file h hs all) ends;
+      memory = metadata_with_buffer now new from.0 end memory;
+    }

@@ -5,7 +5,7 @@ use Rattle.linux_perf_data.specs.declared.in_memory.InMemoryRecords.{InMemoryRec
 use Rattle.linux_perf_data.specs.declared.perf_file.PerfFile.{PerfFile}
 use Rattle.linux_perf_data.specs.Iter.{ReturnsEnd, ReturnsError}
 use Rattle.linux_perf_data.specs.InMemory.{memory_state, MemoryIter}
-use Rattle.linux_perf_data.specs.InMemoryReading.{KeepsInput, ReturnsRecordsInMemory, input_of, first_record_offset_of}
+use Rattle.linux_perf_data.specs.InMemoryReading.{KeepsInput, NeedsMemoryForMetadataOnly, ReturnsRecordsInMemory, input_of, first_record_offset_of}
 use Rattle.linux_perf_data.specs.Layout.{RecordView}
 use Rattle.perfdata_arrays.specs.Overwrites.{with_prefix_from}
 use Rattle.perfdata_arrays.specs.Status.{error_status}
@@ -47,3 +47,4 @@ pub record WalksRecords (old : InMemoryRecords) (file : PerfFile) (start : ℕ) 
   pub written : after ≡ with_prefix_from start (record_entries_at (first_record_offset_of old) records) before
   pub body_bytes_at : HasBodiesAt (input_of old) (first_record_offset_of old) records
   pub ends : WalkEnds input_at_end.iter file_at_end walked.end new.iter file'
+  pub memory : NeedsMemoryForMetadataOnly input_at_end walked.end new

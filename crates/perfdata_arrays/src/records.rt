@@ -192,7 +192,7 @@ pub fn file_records(
 /// A pipe is read in one call, because late metadata determine what the records after them belong to.
 ///
 /// A truncated record ends a pipe without an error. The errors are those of `InMemoryReader::parse_pipe` and
-/// of `InMemoryRecords::next_record`.
+/// of `InMemoryRecords::next_record`. After the opening, memory runs out only for the metadata in a record.
 pub fn pipe_records(
     alloc: Global,
     bytes: &[u8],

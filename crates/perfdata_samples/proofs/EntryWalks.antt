@@ -7,7 +7,7 @@ use Rattle.perfdata_sections.specs.declared.error.Error.{Error}
 use Rattle.linux_perf_data.proofs.InMemoryReadings.{one_call_more}
 use Rattle.linux_perf_data.specs.InMemory.{memory_state}
 use Rattle.linux_perf_data.specs.InMemoryPositions.{position_of}
-use Rattle.linux_perf_data.specs.InMemoryReading.{KeepsInput, ReturnsRecordInMemory, ReturnsRecordsInMemory, first_record_offset_of}
+use Rattle.linux_perf_data.specs.InMemoryReading.{KeepsInput, NeedsMemoryForMetadataOnly, ReturnsRecordInMemory, ReturnsRecordsInMemory, first_record_offset_of}
 use Rattle.linux_perf_data.specs.Iter.{section_size_of}
 use Rattle.linux_perf_data.specs.Layout.{RecordView, attributes_in_record, attributes_in_views}
 use Rattle.linux_perf_data.specs.PerfFile.{attributes_of_file, endian_of_file}
@@ -135,9 +135,9 @@ module _ {E : Type 0} (IsOf : EntryRelation E) where
 
   -- a walk to the end
   pub walks_all_entries : (start now new : InMemoryRecords) (file now_file file' : PerfFile) (entries : List E) (count : ℕ) (entries' : List E) (end : Result (Unit {0}) Error)
-      → EntriesSoFar start file entries count now now_file entries' → attributes_of_file file' ≡ attributes_of_file now_file → WalkEnds now.iter now_file end new.iter file'
+      → EntriesSoFar start file entries count now now_file entries' → attributes_of_file file' ≡ attributes_of_file now_file → WalkEnds now.iter now_file end new.iter file' → NeedsMemoryForMetadataOnly now end new
       → WalksAllEntries IsOf start file entries (record { count = count; end = end }) new file' entries'
-  walks_all_entries start now new file now_file file' entries count entries' end so_far same ends = record {
+  walks_all_entries start now new file now_file file' entries count entries' end so_far same ends memory = record {
     records = so_far.records;
     input_at_end = now;
     file_at_end = now_file;
@@ -148,4 +148,5 @@ module _ {E : Type 0} (IsOf : EntryRelation E) where
     count_is = so_far.count_is;
     written = so_far.written;
     ends = ends;
+    memory = memory;
   }

@@ -7,7 +7,7 @@ use Rattle.perfdata_records.specs.declared.record.PerfFileRecord.{PerfFileRecord
 use Rattle.linux_perf_data.proofs.EntryLemmas.{body-returned, has_bodies-snoc, length-with_prefix}
 use Rattle.linux_perf_data.proofs.InMemoryReadings.{one_call_more}
 use Rattle.linux_perf_data.specs.InMemory.{memory_state}
-use Rattle.linux_perf_data.specs.InMemoryReading.{KeepsInput, ReturnsRecordInMemory, ReturnsRecordsInMemory, first_record_offset_of, input_of}
+use Rattle.linux_perf_data.specs.InMemoryReading.{KeepsInput, NeedsMemoryForMetadataOnly, ReturnsRecordInMemory, ReturnsRecordsInMemory, first_record_offset_of, input_of}
 use Rattle.linux_perf_data.specs.Iter.{section_size_of}
 use Rattle.linux_perf_data.specs.Layout.{RecordView, SectionSize, attributes_in_record, attributes_in_views}
 use Rattle.linux_perf_data.specs.PerfFile.{attributes_of_file, endian_of_file}
@@ -212,9 +212,9 @@ walks_samples start now new file now_file file' samples frames count used sample
 -- ---- a walk to the end
 
 pub walks_all_samples : (start now new : InMemoryRecords) (file now_file file' : PerfFile) (samples : List Sample) (frames : List FrameEntry) (count used : ℕ) (samples' : List Sample) (frames' : List FrameEntry) (end : Result (Unit {0}) Error)
-    → SamplesSoFar start file true samples frames count used now now_file samples' frames' → attributes_of_file file' ≡ attributes_of_file now_file → WalkEnds now.iter now_file end new.iter file'
+    → SamplesSoFar start file true samples frames count used now now_file samples' frames' → attributes_of_file file' ≡ attributes_of_file now_file → WalkEnds now.iter now_file end new.iter file' → NeedsMemoryForMetadataOnly now end new
     → WalksAllSamples start file samples frames (record { count = count; frames_count = used; end = end }) new file' samples' frames'
-walks_all_samples start now new file now_file file' samples frames count used samples' frames' end so_far same ends = record {
+walks_all_samples start now new file now_file file' samples frames count used samples' frames' end so_far same ends memory = record {
   records = so_far.records;
   input_at_end = now;
   file_at_end = now_file;
@@ -229,4 +229,5 @@ walks_all_samples start now new file now_file file' samples frames count used sa
   frames_count_is = so_far.used_is;
   frames_written = so_far.frames_written;
   ends = ends;
+  memory = memory;
 }

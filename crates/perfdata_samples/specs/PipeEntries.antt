@@ -1,6 +1,6 @@
 -- The entries of a pipe's records of one kind.
 use Rattle.std.specs.Prelude.{◌≡◌, ◌⊎◌, ℕ, ◌+◌, ◌++◌, List, [], length, None}
-use Rattle.linux_perf_data.specs.InMemoryReading.{ReturnsRecordsInMemory, first_record_offset_of}
+use Rattle.linux_perf_data.specs.InMemoryReading.{NeedsMemoryForMetadataOnly, ReturnsRecordsInMemory, first_record_offset_of}
 use Rattle.linux_perf_data.specs.Layout.{RecordView, attributes_in_records, attributes_in_views}
 use Rattle.linux_perf_data.specs.PerfFile.{attributes_of_file, endian_of_file}
 use Rattle.linux_perf_data.specs.PipeOpening.{IsPipeError}
@@ -27,6 +27,7 @@ pub record WalksAllEntries {E : Type 0} (IsOf : EntryRelation E) (old : InMemory
   pub count_is : walked.count ≡ length own
   pub written : entries' ≡ with_prefix own entries
   pub ends : WalkEnds input_at_end.iter file_at_end walked.end new.iter file'
+  pub memory : NeedsMemoryForMetadataOnly input_at_end walked.end new
 
 -- The entries are those of the records after the opening of a pipe. The attributes of each are those of the opening and of the records
 -- up to it. The first record is at an offset.

@@ -2,7 +2,7 @@
 use Rattle.std.specs.Prelude.{◌≡◌, ◌⊎◌, ℕ, ◌++◌, true, List, [], length, None}
 use Rattle.perfdata_base.specs.declared.raw.Endianness.{Endianness}
 use Rattle.linux_perf_data.specs.Attribute.{Attribute}
-use Rattle.linux_perf_data.specs.InMemoryReading.{ReturnsRecordsInMemory, first_record_offset_of, input_of}
+use Rattle.linux_perf_data.specs.InMemoryReading.{NeedsMemoryForMetadataOnly, ReturnsRecordsInMemory, first_record_offset_of, input_of}
 use Rattle.linux_perf_data.specs.Layout.{RecordView, attributes_in_records, attributes_in_views}
 use Rattle.linux_perf_data.specs.PerfFile.{attributes_of_file, endian_of_file}
 use Rattle.linux_perf_data.specs.PipeOpening.{IsPipeError}
@@ -52,6 +52,7 @@ pub record WalksAllSamples (old : InMemoryRecords) (file : PerfFile) (samples : 
   pub frames_count_is : walked.frames_count ≡ length own_frames
   pub frames_written : frames' ≡ with_prefix own_frames frames
   pub ends : WalkEnds input_at_end.iter file_at_end walked.end new.iter file'
+  pub memory : NeedsMemoryForMetadataOnly input_at_end walked.end new
 
 -- The samples are those of the records after the opening of a pipe. The attributes of each are those of the opening and of the records
 -- up to it.

@@ -40,13 +40,13 @@ pub returns-in-Ok-None : goal.returns-in-Ok-None
 returns-in-Ok-None c =
     let so_far = read_more c.args.input.now c.records.input c.read_more_entries-count.new.input c.args.file.now c.records.file c.args.start c.records.count c.read_more_entries-count.result c.args.entries.now c.records.entries c.read_more_entries-count.new.entries c.records.invariant.so_far c.read_more_entries-count.ensures in
     let ended = rw (c.in-Ok-None.is ∙ ap Ok c.in-Ok-None.field-0-is) at c.next_record.ensures.returns_next in
-    record { records = so_far.records; input_at_end = c.read_more_entries-count.new.input; file_at_end = c.records.file; returned = so_far.returned; count = so_far.count_is; written = so_far.written; body_bytes_at = so_far.body_bytes_at; ends = ended }
+    record { records = so_far.records; input_at_end = c.read_more_entries-count.new.input; file_at_end = c.records.file; returned = so_far.returned; count = so_far.count_is; written = so_far.written; body_bytes_at = so_far.body_bytes_at; ends = ended; memory = tt }
 
 pub returns-in-Err : goal.returns-in-Err
 returns-in-Err c =
     let so_far = read_more c.args.input.now c.records.input c.read_more_entries-count.new.input c.args.file.now c.records.file c.args.start c.records.count c.read_more_entries-count.result c.args.entries.now c.records.entries c.read_more_entries-count.new.entries c.records.invariant.so_far c.read_more_entries-count.ensures in
     let failed = rw c.in-Err.is at c.next_record.ensures.returns_next in
-    record { records = so_far.records; input_at_end = c.read_more_entries-count.new.input; file_at_end = c.records.file; returned = so_far.returned; count = so_far.count_is; written = so_far.written; body_bytes_at = so_far.body_bytes_at; ends = failed }
+    record { records = so_far.records; input_at_end = c.read_more_entries-count.new.input; file_at_end = c.records.file; returned = so_far.returned; count = so_far.count_is; written = so_far.written; body_bytes_at = so_far.body_bytes_at; ends = failed; memory = rw c.in-Err.is at c.next_record.ensures.memory_for_metadata_only }
 
 pub overflow_add-count : goal.overflow_add-count
 overflow_add-count c =

@@ -43,9 +43,9 @@ records-preserved c =
 pub returns-in-Ok-None : goal.returns-in-Ok-None
 returns-in-Ok-None c =
     let ended = rw (c.in-Ok-None.is ∙ ap Ok c.in-Ok-None.field-0-is) at c.next_record.ensures.returns_next in
-    walks_all_entries AreCountersOf c.args.input.now c.records.input c.next_record.new.self c.args.file.now c.records.file c.next_record.new.perf_file c.args.counters.now c.records.count c.records.counters (Ok tt) c.records.invariant.so_far (ap attributes_of_file ended.file_unchanged) ended
+    walks_all_entries AreCountersOf c.args.input.now c.records.input c.next_record.new.self c.args.file.now c.records.file c.next_record.new.perf_file c.args.counters.now c.records.count c.records.counters (Ok tt) c.records.invariant.so_far (ap attributes_of_file ended.file_unchanged) ended tt
 
 pub returns-in-Err : goal.returns-in-Err
 returns-in-Err c =
     let failed = rw c.in-Err.is at c.next_record.ensures.returns_next in
-    walks_all_entries AreCountersOf c.args.input.now c.records.input c.next_record.new.self c.args.file.now c.records.file c.next_record.new.perf_file c.args.counters.now c.records.count c.records.counters (Err c.in-Err.error) c.records.invariant.so_far (ap described_attributes failed.same_file.descriptions) failed
+    walks_all_entries AreCountersOf c.args.input.now c.records.input c.next_record.new.self c.args.file.now c.records.file c.next_record.new.perf_file c.args.counters.now c.records.count c.records.counters (Err c.in-Err.error) c.records.invariant.so_far (ap described_attributes failed.same_file.descriptions) failed (rw c.in-Err.is at c.next_record.ensures.memory_for_metadata_only)
