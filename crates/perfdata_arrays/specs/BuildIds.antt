@@ -50,9 +50,10 @@ module _ (endian : Endianness) where
     pub id_bytes : HasBytesAt section (offset + 12) entry.build_id
     pub path_bytes : HasBytesAt section (offset + 36) entry.path
 
-  -- The entry is written; or the section has no complete entry at the offset, or memory ran out, and the old value is unchanged.
+  -- The entry is written; or the section has no complete entry at the offset, or it has one and memory ran out, and the old value is
+  -- unchanged.
   abbrev pub ReadsBuildId : List ℕ → ℕ → BuildId → Status → BuildId → Type 0
   ReadsBuildId section offset old status new =
       ((status ≡ Success) × HasBuildIdAt section offset new)
       ⊎ (((status ≡ Truncated) × IsTruncatedBuildIdEntry (number_in endian) (drop offset section) × (new ≡ old))
-      ⊎ ((status ≡ OutOfMemory) × (new ≡ old)))
+      ⊎ ((status ≡ OutOfMemory) × (¬ IsTruncatedBuildIdEntry (number_in endian) (drop offset section)) × (new ≡ old)))

@@ -1,7 +1,9 @@
-use Rattle.std.proofs.Common.{rules, arith, ◌≡◌, ℕ, ◌+◌, ◌-◌, ◌∙◌, ◌++◌, List, length, vec_len, drop, refl, sym, ap, inl, w32, length-append, length-drop}
+use Rattle.std.proofs.Common.{rules, arith, ◌≡◌, ℕ, ◌+◌, ◌-◌, ◌∙◌, ◌++◌, List, length, vec_len, drop, refl, sym, ap, subst, inl, inr, Err, w32, length-append, length-drop}
 use Rattle.std.proofs.lemmas.Int.{to_z-of_z}
-use Rattle.perfdata_records.specs.BuildIdEvent.{build_id_entry_of}
+use Rattle.perfdata_base.specs.Endian.{number_in}
+use Rattle.perfdata_records.specs.BuildIdEvent.{IsTruncatedBuildIdEntry, build_id_entry_of}
 use Rattle.perfdata_records.specs.DsoKey.{key_of}
+use Rattle.linux_perf_data.proofs.BuildIdUniqueness.{not_truncated}
 use Rattle.perfdata_arrays.specs.BuildIds.{dso_kind_number}
 use Rattle.perfdata_arrays.proofs.BuildIdsLemmas.{has_build_id_at}
 use Rattle.perfdata_arrays.proofs.OverwriteLemmas.{take-drop-length}
@@ -34,3 +36,16 @@ returns c =
         dso_kind = key i;
       }),
     )
+
+-- the entry itself has no memory
+pub returns-in-Err-Memory : goal.returns-in-Err-Memory
+returns-in-Err-Memory c =
+    let failed = rw (c.in-Err-Memory.is ∙ ap Err c.in-Err-Memory.field-0-is) at c.read_from_in.ensures in
+    inr (inr (refl, subst (λ l. ¬ IsTruncatedBuildIdEntry (number_in c.args.endian) l) (take-drop-length c.args.offset c.args.section.now) failed.0, refl))
+
+-- the strings of its key have no memory
+pub returns-in-Err : goal.returns-in-Err
+returns-in-Err c =
+    let parsed = c.in-Ok.ensures in
+    let split = sym (take-drop-length c.args.offset c.args.section.now) ∙ parsed.1 in
+    inr (inr (refl, not_truncated c.args.endian (drop c.args.offset c.args.section.now) parsed.0 c.read_from_in.new.bytes.now (build_id_entry_of c.in-Ok.entry) split parsed.2, refl))
