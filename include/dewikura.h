@@ -908,7 +908,8 @@ DEWIKURA_NODISCARD static inline dewikura_status dewikura_read_pipe_counters(con
 }
 
 // Sorts records by time. Records without a time come first, and records with one time keep their order; the times 0 and 2^64 - 1 count as
-// none. Returns DEWIKURA_OK, or DEWIKURA_OUT_OF_MEMORY if a temporary array can't be allocated: the records are then unchanged.
+// none. Returns DEWIKURA_OK, or DEWIKURA_OUT_OF_MEMORY if a temporary array can't be allocated, which up to 20 records don't need: the
+// records are then unchanged.
 DEWIKURA_NODISCARD static inline dewikura_status dewikura_sort_records(struct dewikura_record *records, size_t count)
 {
     struct dewikura_record no_record;

@@ -1,5 +1,5 @@
 -- Entries of records in order of time.
-use Rattle.std.specs.Prelude.{◌≡◌, ◌⊎◌, ℕ, ◌^◌, ◌-◌, ◌==◌, ◌||◌, List, if◌then◌else◌}
+use Rattle.std.specs.Prelude.{◌≡◌, ◌⊎◌, ℕ, ◌^◌, ◌-◌, ◌<◌, ◌==◌, ◌||◌, List, length, if◌then◌else◌}
 use Rattle.std.specs.Ordering.{nat_cmp}
 use Rattle.std.specs.List.Sorted.{IsPermutation, IsNonDecreasingBy, IsStableByKey}
 use Rattle.linux_perf_data.specs.declared.in_memory.entries.RecordEntry.{RecordEntry}
@@ -16,6 +16,6 @@ pub record SortedByTime (before after : List RecordEntry) : Type 0 where
   pub ascending : IsNonDecreasingBy time_or_zero after
   pub stable : IsStableByKey time_or_zero nat_cmp before after
 
--- The entries are sorted, or an allocation failed and they are unchanged.
+-- The entries are sorted, or an allocation failed and they are unchanged. Up to 20 entries are sorted without an allocation.
 abbrev pub SortsByTime : List RecordEntry → Status → List RecordEntry → Type 0
-SortsByTime before status after = ((status ≡ Success) × SortedByTime before after) ⊎ ((status ≡ OutOfMemory) × (after ≡ before))
+SortsByTime before status after = ((status ≡ Success) × SortedByTime before after) ⊎ ((status ≡ OutOfMemory) × (20 < length before) × (after ≡ before))

@@ -23,8 +23,8 @@ fn sort_time(entry: &RecordEntry) -> u64
 ///
 /// # Errors
 ///
-/// Returns `Status::OutOfMemory` if the allocation of a temporary array fails. The records are then
-/// unchanged. Every other result is `Status::Success`.
+/// Returns `Status::OutOfMemory` if the allocation of a temporary array fails, which up to 20 records don't
+/// need. The records are then unchanged. Every other result is `Status::Success`.
 pub fn sort_records(alloc: Global, entries: &mut [RecordEntry]) -> Status
     ensures { SortsByTime entries.old result entries.new }
 {
