@@ -60,8 +60,8 @@ fn dso_kind(key: &Option<DsoKey>) -> u32
 
 /// Parses the entry at byte `offset` of a BUILD_ID section into `out`.
 ///
-/// Returns `Truncated` if the section has no complete entry at `offset`, and otherwise `OutOfMemory` if memory
-/// runs out. On an error `out` is unchanged.
+/// Returns `Truncated` if the section has no complete entry at `offset`, and otherwise `OutOfMemory` if
+/// memory runs out. On an error `out` is unchanged.
 pub fn build_id_at(
     alloc: Global,
     endian: Endianness,

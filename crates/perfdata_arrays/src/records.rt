@@ -155,8 +155,8 @@ pub(crate) fn walk_page(
 /// that follow. If `count` is smaller and the status is `Success`, the file has no more records.
 ///
 /// The errors are those of `InMemoryReader::parse_file` and of `InMemoryRecords::next_record`. If the file
-/// doesn't open, `count` is 0 and the position is unchanged. After an error of a record, a call with the moved
-/// position returns the same status, and `count` is 0.
+/// doesn't open, `count` is 0 and the position is unchanged. After an error of a record, a call with the
+/// moved position returns the same status, and `count` is 0.
 pub fn file_records(
     alloc: Global,
     bytes: &[u8],

@@ -22,7 +22,9 @@ exact bytes page = record {
   first_record_at = page.first_record_at;
   extends_remaining = page.extends_remaining;
   ends = inl (refl, refl);
+  next_position = page.next_position;
   next_fits = page.next_fits;
+  next_round_fits = page.next_round_fits;
 }
 
 -- the records of two pages from one position on are prefixes of one list
