@@ -13,8 +13,8 @@ use Rattle.std.proofs.lemmas.List.Sorted.{IsPermutation-refl, IsPermutation-map,
 use Rattle.perfdata_order.specs.Order.{IsAtMost, Ascends, greatest_with, SortsEntries}
 use Rattle.perfdata_order.specs.Slots.{value_at}
 use Rattle.perfdata_order.specs.declared.sorter.Sorter.{Sorter}
-use Rattle.perfdata_order.specs.Sorter.{available_of, Inserted, TakesNext, TestsAvailable, TestsEmpty}
-use Rattle.perfdata_order.specs.Entries.{with_value, entries_by, uses_of, values_in, IsPlaced}
+use Rattle.perfdata_order.specs.Sorter.{available_of, AddsFewSlots, slots_in, Inserted, TakesNext, TestsAvailable, TestsEmpty}
+use Rattle.perfdata_order.specs.Entries.{with_value, entries_by, uses_of, values_in, IsPlaced, HaveKeys}
 
 -- ---- slots
 
@@ -53,7 +53,7 @@ unused_take slot n es none = let le = sum_by-take-le (λ x. use_of slot x) es n 
 unused_drop : {K : Type 0} (slot n : ℕ) (es : List (K × ℕ)) → uses_of slot es ≡ 0 → uses_of slot (drop n es) ≡ 0
 unused_drop slot n es none = let sum = sum_by-take-drop (λ x. use_of slot x) es n in omega (arith, none, sum)
 
-at_most_one : {V : Type 0} (o : Option V) → values_in o ≤ 1
+pub at_most_one : {V : Type 0} (o : Option V) → values_in o ≤ 1
 at_most_one None = omega arith
 at_most_one (Some v) = omega arith
 
@@ -72,6 +72,9 @@ module _ {K V : Type 0} where
   pub placed_permutation : (values : ℕ → Option V) (es fs : List (K × ℕ)) → IsPermutation es fs → IsPlaced values es → IsPlaced values fs
   placed_permutation values es fs same placed slot =
       subst (λ n. n ≤ values_in (values slot)) (sym (sum_by-IsPermutation (λ x. use_of slot x) es fs same)) (placed slot)
+
+  pub have_permutation : (values : ℕ → Option V) (es fs : List (K × ℕ)) → IsPermutation es fs → HaveKeys values es → HaveKeys values fs
+  have_permutation values es fs same keys slot = subst (λ n. values_in (values slot) ≤ n) (sym (sum_by-IsPermutation (λ x. use_of slot x) es fs same)) (keys slot)
 
   -- What is in a slot that none of the entries has makes no difference.
   pub same_entries : (values values' : ℕ → Option V) (slot : ℕ) (es : List (K × ℕ)) → ((other : ℕ) → other ≢ slot → values' other ≡ values other) → uses_of slot es ≡ 0
@@ -222,13 +225,38 @@ module _ {K V : Type 0} where
       → ((other : ℕ) → other ≢ e.1 → values' other ≡ values other) → IsPlaced values' es
   placed_removed values values' e es placed others at = left_at values values' e es at (same_or_other e.1 at) placed others
 
+  -- ---- each value has a key
+
+  have_at : (values values' : ℕ → Option V) (key : K) (slot : ℕ) (es : List (K × ℕ)) (at : ℕ) → (slot ≡ at) ⊎ (slot ≢ at) → HaveKeys values es
+      → ((other : ℕ) → other ≢ slot → values' other ≡ values other) → values_in (values' at) ≤ uses_of at (es ++ (key, slot) ∷ [])
+  have_at values values' key slot es at (inl same) keys others =
+      let more = sum_by_push (λ x. use_of at x) es (key, slot) in let one = use_same slot at same in let small = at_most_one (values' at) in omega (arith, more, one, small)
+  have_at values values' key slot es at (inr other) keys others =
+      let more = sum_by_push (λ x. use_of at x) es (key, slot) in let kept = ap values_in (others at (λ same. other (sym same))) in let before = keys at in omega (arith, more, kept, before)
+
+  pub have_inserted : (values values' : ℕ → Option V) (key : K) (slot : ℕ) (es : List (K × ℕ)) → HaveKeys values es → ((other : ℕ) → other ≢ slot → values' other ≡ values other) → HaveKeys values' (es ++ (key, slot) ∷ [])
+  have_inserted values values' key slot es keys others at = have_at values values' key slot es at (same_or_other slot at) keys others
+
+  have_rest : (values values' : ℕ → Option V) (e : K × ℕ) (es : List (K × ℕ)) (at : ℕ) → (e.1 ≡ at) ⊎ (e.1 ≢ at) → HaveKeys values (e ∷ es) → values' e.1 ≡ None
+      → ((other : ℕ) → other ≢ e.1 → values' other ≡ values other) → values_in (values' at) ≤ uses_of at es
+  have_rest values values' e es at (inl same) keys vacant others = let none = ap values_in (subst (λ n. values' n ≡ None) same vacant) in omega (arith, none)
+  have_rest values values' e es at (inr other) keys vacant others =
+      let kept = ap values_in (others at (λ same. other (sym same))) in
+      let before = keys at in
+      let more = uses_more at e es in
+      let none = use_other e.1 at other in
+      omega (arith, kept, before, more, none)
+
+  pub have_removed : (values values' : ℕ → Option V) (e : K × ℕ) (es : List (K × ℕ)) → HaveKeys values (e ∷ es) → values' e.1 ≡ None → ((other : ℕ) → other ≢ e.1 → values' other ≡ values other) → HaveKeys values' es
+  have_removed values values' e es keys vacant others at = have_rest values values' e es at (same_or_other e.1 at) keys vacant others
+
   -- ---- the calls of a sorter
 
   module _ (cmp : K → K → Ordering) where
     pub inserted_slot : (old new : Sorter K V) (key : K) (slot : ℕ) (value : V) → new.order.items ≡ old.order.items ++ (key, slot) ∷ [] → value_at old.values slot ≡ None → value_at new.values slot ≡ Some value
         → ((other : ℕ) → other ≢ slot → value_at new.values other ≡ value_at old.values other) → new.available ≡ old.available → old.available ≤ length old.order.items
-        → new.limit ≡ old.limit → new.greatest ≡ Some (greatest_with cmp old.greatest key) → Inserted cmp old key value new
-    inserted_slot old new key slot value more vacant is others same in_range limit greatest =
+        → new.limit ≡ old.limit → new.greatest ≡ Some (greatest_with cmp old.greatest key) → AddsFewSlots old new → Inserted cmp old key value new
+    inserted_slot old new key slot value more vacant is others same in_range limit greatest few =
         let es = old.order.items in
         let unused = vacant_unused (value_at old.values) slot es old.placed vacant in
         record {
@@ -240,6 +268,7 @@ module _ {K V : Type 0} where
               ∙ entries_inserted (value_at old.values) (value_at new.values) key slot value (drop old.available es) (unused_drop slot old.available es unused) is others;
           limit = limit;
           greatest = greatest;
+          slots = few;
         }
 
   first_value : (key : K) (o : Option V) (value : V) (xs ys : List (K × V)) → o ≡ Some value → xs ≡ ys → cons_option (with_value key o) xs ≡ (key, value) ∷ ys
@@ -247,9 +276,9 @@ module _ {K V : Type 0} where
 
   taken : (old new : Sorter K V) (key : K) (slot n : ℕ) (o : Option V) (rest : List (K × ℕ)) → 1 ≤ values_in o → old.order.items ≡ (key, slot) ∷ rest → new.order.items ≡ rest
       → old.available ≡ suc n → new.available ≡ n → uses_of slot rest ≡ 0 → value_at old.values slot ≡ o → ((other : ℕ) → other ≢ slot → value_at new.values other ≡ value_at old.values other)
-      → new.limit ≡ old.limit → new.greatest ≡ old.greatest → TakesNext old o new
-  taken old new key slot n None rest one first left more less unused is others limit greatest = absurd (omega (arith, one))
-  taken old new key slot n (Some value) rest one first left more less unused is others limit greatest = (
+      → new.limit ≡ old.limit → new.greatest ≡ old.greatest → slots_in new ≡ slots_in old → TakesNext old o new
+  taken old new key slot n None rest one first left more less unused is others limit greatest slots = absurd (omega (arith, one))
+  taken old new key slot n (Some value) rest one first left more less unused is others limit greatest slots = (
     key,
     record {
       available = ap (λ m. entries_by (value_at old.values) (take m old.order.items)) more ∙ ap (λ xs. entries_by (value_at old.values) (take (suc n) xs)) first
@@ -261,16 +290,17 @@ module _ {K V : Type 0} where
           ∙ sym (ap (λ m. entries_by (value_at old.values) (drop m old.order.items)) more ∙ ap (λ xs. entries_by (value_at old.values) (drop (suc n) xs)) first);
       limit = limit;
       greatest = greatest;
+      slots = slots;
     },
   )
 
   pub takes_slot : (old new : Sorter K V) (key : K) (slot n : ℕ) (o : Option V) (rest : List (K × ℕ)) → old.order.items ≡ (key, slot) ∷ rest → new.order.items ≡ rest
       → old.available ≡ suc n → new.available ≡ n → o ≡ value_at old.values slot → ((other : ℕ) → other ≢ slot → value_at new.values other ≡ value_at old.values other)
-      → new.limit ≡ old.limit → new.greatest ≡ old.greatest → TakesNext old o new
-  takes_slot old new key slot n o rest first left more less is others limit greatest =
+      → new.limit ≡ old.limit → new.greatest ≡ old.greatest → slots_in new ≡ slots_in old → TakesNext old o new
+  takes_slot old new key slot n o rest first left more less is others limit greatest slots =
       let placed = subst (λ xs. IsPlaced (value_at old.values) xs) first old.placed in
       taken old new key slot n o rest (subst (λ o. 1 ≤ values_in o) (sym is) (first_has_value (value_at old.values) (key, slot) rest placed)) first left more less
-      (first_apart (value_at old.values) (key, slot) rest placed) (sym is) others limit greatest
+      (first_apart (value_at old.values) (key, slot) rest placed) (sym is) others limit greatest slots
 
   -- All but half of the entries are left, if so many are skipped.
   pub half_left : (values : ℕ → Option V) (es : List (K × ℕ)) (n : ℕ) (old : List (K × V)) → IsPlaced values es → length (entries_by values es) ≡ length old

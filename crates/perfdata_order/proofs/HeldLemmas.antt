@@ -1,5 +1,5 @@
 -- Held records with their bodies and their parse infos, as each call changes them.
-use Rattle.std.proofs.Common.{◌≡◌, ℕ, ◌+◌, ◌-◌, ◌<◌, ◌≤◌, List, [], ◌∷◌, ◌++◌, length, get_or, take, drop, All, Result, Ok, Err, refl, sym, ap, ◌∙◌, subst, append-nil, length-append, arith}
+use Rattle.std.proofs.Common.{◌≡◌, ℕ, ◌+◌, ◌<◌, ◌≤◌, List, [], ◌∷◌, ◌++◌, length, get_or, take, drop, All, Result, Ok, Err, refl, sym, ap, ◌∙◌, subst, append-nil, length-append, inl, inr, arith}
 use Rattle.std.specs.Prelude.{◌==◌, if◌then◌else◌}
 use Rattle.std.specs.Ordering.{nat_cmp}
 use Rattle.std.specs.declared.alloc.AllocError.{AllocError}
@@ -15,10 +15,11 @@ use Rattle.perfdata_order.specs.declared.held_record.HeldWriter.{HeldWriter}
 use Rattle.perfdata_order.specs.declared.held_record.HeldWriter.TheVariants as held_writer
 use Rattle.perfdata_order.specs.declared.held_record.HeldRecord.{HeldRecord}
 use Rattle.perfdata_order.specs.declared.sorter.Sorter.{Sorter}
-use Rattle.perfdata_order.specs.Bodies.{bytes_at, held_at, KeepsBodies, IsPrefix, BodyAppended, ReleasesBody}
+use Rattle.perfdata_order.specs.Bodies.{bytes_at, held_at, block_count, EachIsHeld, AddsBlockIfFull, KeepsBodies, IsPrefix, BodyAppended, ReleasesBody}
 use Rattle.perfdata_order.specs.ParseInfos.{KeepsFound}
 use Rattle.perfdata_order.specs.HeldRecord.{IsKnown, IsStored, IsCounted, count_in}
-use Rattle.perfdata_order.specs.Sorter.{held_of, IsUnchanged, EndsRound, EndsAllRounds, ReleasesHalf}
+use Rattle.perfdata_order.specs.Sorter.{held_of, slots_in, IsUnchanged, EndsRound, EndsAllRounds, ReleasesHalf}
+use Rattle.perfdata_order.proofs.Counting.{all_counted}
 use Rattle.perfdata_order.proofs.Entries.{use_same}
 
 abbrev Held : Type 0
@@ -51,7 +52,7 @@ pub stored_permuted : (bodies : Bodies) (infos : ParseInfos) (es fs : List Held)
 stored_permuted bodies infos es fs same all = All-permutation (λ e. IsStored bodies infos e.1) es fs same all
 
 pub counted_permuted : (bodies : Bodies) (es fs : List Held) → IsPermutation es fs → IsCounted bodies es → IsCounted bodies fs
-counted_permuted bodies es fs same counted block = subst (λ n. n ≤ held_at bodies block) (sym (sum_by-IsPermutation (λ e. use_in block e) es fs same)) (counted block)
+counted_permuted bodies es fs same counted block = subst (λ n. n ≡ held_at bodies block) (sym (sum_by-IsPermutation (λ e. use_in block e) es fs same)) (counted block)
 
 -- ---- counts
 
@@ -71,10 +72,7 @@ each_counted at (e ∷ es) counted =
     (each_counted at es (λ block. let all = counted block in let rest = count_more block e es in omega (arith, all, rest)))
 
 pub counted_kept : (old new : Bodies) (es : List Held) → KeepsBodies old new → IsCounted old es → IsCounted new es
-counted_kept old new es kept counted block = subst (λ n. count_in block es ≤ n) (sym (kept block).0) (counted block)
-
-pub counted_appended : (old new : Bodies) (body : List ℕ) (appended : HeldBody) (es : List Held) → BodyAppended old body appended new → IsCounted old es → IsCounted new es
-counted_appended old new body appended es done counted block = let before = counted block in let more = done.held block in omega (arith, before, more)
+counted_kept old new es kept counted block = subst (λ n. count_in block es ≡ n) (sym (kept block).0) (counted block)
 
 pub counted_inserted : (old new : Bodies) (body : List ℕ) (key : ℕ) (held : HeldRecord) (es fs : List Held) → BodyAppended old body held.body new → fs ≡ es ++ (key, held) ∷ [] → IsCounted old es → IsCounted new fs
 counted_inserted old new body key held es fs done more counted block =
@@ -97,6 +95,29 @@ counted_undone old middle new body appended es done released counted block =
     let more = done.held block in
     let less = (released block).0 in
     omega (arith, before, more, less)
+
+-- ---- blocks
+
+counted_blocks : (bodies : Bodies) (es : List Held) → IsCounted bodies es → EachIsHeld bodies → block_count bodies ≤ length es
+counted_blocks bodies es counted held =
+    all_counted (λ e. e.1.body.range.block) es (block_count bodies) (λ block below. let is = counted block in let some = held block below in omega (arith, is, some))
+
+-- A block is added only if there are at most as many as slots.
+pub few_blocks_after : (old new : Bodies) (len : ℕ) (es : List Held) (slots : ℕ) → IsCounted old es → length es ≤ slots → AddsBlockIfFull old len new → block_count old ≤ slots + 1 → block_count new ≤ slots + 1
+few_blocks_after old new len es slots counted within (inl same) few = omega (arith, same, few)
+few_blocks_after old new len es slots counted within (inr (more, (held, full))) few = let all = counted_blocks old es counted held in omega (arith, more, all, within)
+
+pub round_slots : (s t : Sorter ℕ HeldRecord) (result : Result (Unit {0}) AllocError) → EndsRound nat_cmp s result t → slots_in s ≤ slots_in t
+round_slots s t (Ok done) ended = let same = ended.slots in omega (arith, same)
+round_slots s t (Err e) same = same.slots.kept
+
+pub end_slots : (s t : Sorter ℕ HeldRecord) (result : Result (Unit {0}) AllocError) → EndsAllRounds nat_cmp s result t → slots_in s ≤ slots_in t
+end_slots s t (Ok done) ended = let same = ended.slots in omega (arith, same)
+end_slots s t (Err e) same = same.slots.kept
+
+pub half_slots : (s t : Sorter ℕ HeldRecord) (result : Result (Unit {0}) AllocError) → ReleasesHalf nat_cmp s result t → slots_in s ≤ slots_in t
+half_slots s t (Ok done) released = let same = released.slots in omega (arith, same)
+half_slots s t (Err e) same = same.slots.kept
 
 -- ---- bodies and parse infos
 
@@ -130,7 +151,7 @@ pub stored_appended : (old new : Bodies) (infos infos' : ParseInfos) (es : List 
     → IsCounted old es → AllStored old infos es → AllStored new infos' es
 stored_appended old new infos infos' es more kept counted all =
     both (λ e. 0 < held_at old e.1.body.range.block) (λ e. IsStored old infos e.1) (λ e. IsStored new infos' e.1)
-    (λ e some is. stored_on old new infos infos' e.1 (more e.1.body.range.block some) kept is) es (each_counted (λ block. held_at old block) es counted) all
+    (λ e some is. stored_on old new infos infos' e.1 (more e.1.body.range.block some) kept is) es (each_counted (λ block. held_at old block) es (λ block. let is = counted block in omega (arith, is))) all
 
 pub stored_kept : (old new : Bodies) (infos infos' : ParseInfos) (es : List Held) → KeepsBodies old new → KeepsFound infos infos' → IsCounted old es → AllStored old infos es → AllStored new infos' es
 stored_kept old new infos infos' es kept found counted all =

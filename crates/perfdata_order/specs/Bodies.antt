@@ -1,49 +1,18 @@
 -- The bodies of held records: the bytes of each block, and how many of its bodies are held.
-use Rattle.std.specs.Prelude.{◌≡◌, ℕ, ◌+◌, ◌-◌, ◌^◌, ◌<◌, ◌≤◌, ◌==◌, Bool, true, false, List, [], ◌++◌, length, map, take, drop, Result, Ok, Err, slice_index_or, if◌then◌else◌}
+use Rattle.std.specs.Prelude.{◌≡◌, ℕ, ◌+◌, ◌-◌, ◌^◌, ◌<◌, ◌≤◌, ◌==◌, ◌⊎◌, Bool, true, false, List, ◌++◌, length, take, drop, Result, Ok, Err, if◌then◌else◌}
 use Rattle.std.specs.declared.alloc.AllocError.{AllocError}
-use Rattle.perfdata_order.specs.declared.bodies.Block.{Block}
-use Rattle.std.specs.declared.snapshot.Snapshot.{Snapshot}
-use Rattle.std.specs.Prelude.{Vec}
-use Rattle.std.specs.declared.alloc.Global.{Global}
 use Rattle.perfdata_order.specs.declared.bodies.BodyRange.{BodyRange}
 use Rattle.perfdata_order.specs.declared.bodies.HeldBody.{HeldBody}
 use Rattle.perfdata_order.specs.declared.bodies.Bodies.{Bodies}
-
--- ---- a block
-
-pub record Appended (old : Block) (body : List ℕ) (at_end : ℕ) (shown : Snapshot (Vec ℕ Global)) (new : Block) : Type 0 where
-  pub bytes : new.bytes.items ≡ old.bytes.items ++ body
-  pub shows : shown.value.items ≡ old.bytes.items ++ body
-  pub held : new.held ≡ old.held + 1
-  pub ends : at_end ≡ length old.bytes.items + length body
-
-abbrev pub AppendsTo : Block → List ℕ → Result (ℕ × Snapshot (Vec ℕ Global)) AllocError → Block → Type 0
-AppendsTo old body (Ok found) new = Appended old body found.0 found.1 new
-AppendsTo old body (Err e) new = (new.bytes.items ≡ old.bytes.items) × (new.held ≡ old.held)
-
--- The bytes of a block without held bodies make no difference.
-abbrev pub IsCleared : Block → Bool → Block → Type 0
-IsCleared old true new = (old.held ≡ 0) × (new.held ≡ 0)
-IsCleared old false new = new ≡ old
-
-abbrev pub ReleasesFrom : Block → ℕ → Block → Type 0
-ReleasesFrom old left new = (new.bytes.items ≡ old.bytes.items) × ((new.held ≡ old.held - 1) × (left ≡ new.held))
-
--- ---- all blocks
-
-abbrev pub bytes_in : Block → List ℕ
-bytes_in b = b.bytes.items
-
-abbrev pub held_in : Block → ℕ
-held_in b = b.held
+use Rattle.perfdata_order.specs.Blocks.{bytes_by, held_by, KeepsHeld, ReleasesHeld, vacancy_in}
 
 -- The bytes of a block.
 abbrev pub bytes_at : Bodies → ℕ → List ℕ
-bytes_at s block = slice_index_or (map (λ b. bytes_in b) s.blocks.items) block []
+bytes_at s block = bytes_by s.blocks.items block
 
 -- How many bodies in a block are held.
 abbrev pub held_at : Bodies → ℕ → ℕ
-held_at s block = slice_index_or (map (λ b. held_in b) s.blocks.items) block 0
+held_at s block = held_by s.blocks.items block
 
 abbrev pub body_at : Bodies → BodyRange → List ℕ
 body_at s range = drop range.start (take range.end (bytes_at s range.block))
@@ -61,11 +30,63 @@ CanAppend s = (s.current < length s.blocks.items) × (held_at s s.current < 2 ^ 
 
 -- The same bodies are held.
 abbrev pub KeepsBodies : Bodies → Bodies → Type 0
-KeepsBodies old new = (block : ℕ) → (held_at new block ≡ held_at old block) × (0 < held_at old block → bytes_at new block ≡ bytes_at old block)
+KeepsBodies old new = KeepsHeld old.blocks.items new.blocks.items
+
+-- The number of blocks.
+abbrev pub block_count : Bodies → ℕ
+block_count s = length s.blocks.items
+
+-- A body is held in each block.
+abbrev pub EachIsHeld : Bodies → Type 0
+EachIsHeld s = (block : ℕ) → block < block_count s → 0 < held_at s block
+
+-- A body of this length doesn't fit in the current block, or there is none.
+abbrev pub IsCurrentFull : Bodies → ℕ → Type 0
+IsCurrentFull s len = (block_count s ≤ s.current) ⊎ ((2 ^ 64 - 1 ≤ held_at s s.current) ⊎ ((0 < length (bytes_at s s.current)) × (4096 < length (bytes_at s s.current) + len)))
+
+abbrev pub TestsCurrent : Bodies → ℕ → Bool → Type 0
+TestsCurrent s len true = CanAppend s
+TestsCurrent s len false = IsCurrentFull s len
+
+-- A body is held in the current block, if there is one.
+abbrev pub IsCurrentHeld : Bodies → Type 0
+IsCurrentHeld s = vacancy_in s.blocks.items s.current ≡ 0
+
+-- No block is added.
+pub record Reused (old new : Bodies) : Type 0 where
+  pub kept : KeepsBodies old new
+  pub can_append : CanAppend new
+  pub same_blocks : block_count new ≡ block_count old
+
+pub record SameBlocks (old new : Bodies) : Type 0 where
+  pub blocks : new.blocks.items ≡ old.blocks.items
+  pub current : new.current ≡ old.current
+
+abbrev pub ReusesCurrent : Bodies → Bool → Bodies → Type 0
+ReusesCurrent old true new = Reused old new
+ReusesCurrent old false new = SameBlocks old new × IsCurrentHeld new
+
+abbrev pub ReusesSpare : Bodies → Bool → Bodies → Type 0
+ReusesSpare old true new = Reused old new
+ReusesSpare old false new = SameBlocks old new × EachIsHeld new
+
+-- One block is added, which is then the current one.
+pub record BlockAdded (old new : Bodies) : Type 0 where
+  pub kept : KeepsBodies old new
+  pub can_append : CanAppend new
+  pub one_more : block_count new ≡ block_count old + 1
+
+abbrev pub AddsBlock : Bodies → Result (Unit {0}) AllocError → Bodies → Type 0
+AddsBlock old (Ok done) new = BlockAdded old new
+AddsBlock old (Err e) new = KeepsBodies old new × (block_count new ≡ block_count old)
 
 abbrev pub MovesOn : Bodies → Result (Unit {0}) AllocError → Bodies → Type 0
-MovesOn old (Ok done) new = KeepsBodies old new × CanAppend new
-MovesOn old (Err e) new = KeepsBodies old new
+MovesOn old (Ok done) new = Reused old new ⊎ (EachIsHeld old × BlockAdded old new)
+MovesOn old (Err e) new = KeepsBodies old new × (block_count new ≡ block_count old)
+
+-- A block is added only if a body is held in each, and the new body doesn't fit in the current one.
+abbrev pub AddsBlockIfFull : Bodies → ℕ → Bodies → Type 0
+AddsBlockIfFull old len new = (block_count new ≡ block_count old) ⊎ ((block_count new ≡ block_count old + 1) × (EachIsHeld old × IsCurrentFull old len))
 
 abbrev pub IsPrefix : List ℕ → List ℕ → Type 0
 IsPrefix xs ys = (more : List ℕ) × (ys ≡ xs ++ more)
@@ -84,4 +105,4 @@ AppendsBody old body (Err e) new = KeepsBodies old new
 
 -- One body fewer is held in this block. The bytes stay.
 abbrev pub ReleasesBody : Bodies → ℕ → Bodies → Type 0
-ReleasesBody old block new = (other : ℕ) → (held_at new other ≡ held_at old other - (if block == other then 1 else 0)) × (bytes_at new other ≡ bytes_at old other)
+ReleasesBody old block new = ReleasesHeld old.blocks.items block new.blocks.items

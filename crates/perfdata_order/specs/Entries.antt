@@ -22,3 +22,7 @@ values_in (Some value) = 1
 -- Each key has a slot with a value, and no other key has that slot.
 abbrev pub IsPlaced : {K V : Type 0} → (ℕ → Option V) → List (K × ℕ) → Type 0
 IsPlaced value_at order = (slot : ℕ) → uses_of slot order ≤ values_in (value_at slot)
+
+-- Each value is that of a key.
+abbrev pub HaveKeys : {K V : Type 0} → (ℕ → Option V) → List (K × ℕ) → Type 0
+HaveKeys value_at order = (slot : ℕ) → values_in (value_at slot) ≤ uses_of slot order

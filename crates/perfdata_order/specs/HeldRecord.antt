@@ -81,9 +81,9 @@ IsStored bodies infos held = (body_at bodies held.body.range ≡ body_in held.bo
 abbrev pub count_in : ℕ → List (ℕ × HeldRecord) → ℕ
 count_in block held = sum_by (λ e. if e.1.body.range.block == block then 1 else 0) held
 
--- Each of the records is counted in the block of its body.
+-- The records with their bodies in a block are those that are held in it.
 abbrev pub IsCounted : Bodies → List (ℕ × HeldRecord) → Type 0
-IsCounted bodies held = (block : ℕ) → count_in block held ≤ held_at bodies block
+IsCounted bodies held = (block : ℕ) → count_in block held ≡ held_at bodies block
 
 abbrev pub HoldsWriter : ParseInfos → Writer → Result HeldWriter AllocError → ParseInfos → Type 0
 HoldsWriter old writer (Ok held) new = (writer_of held ≡ writer) × (IsKnown new held × KeepsFound old new)

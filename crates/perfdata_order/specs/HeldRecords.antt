@@ -6,9 +6,13 @@ use Rattle.perfdata_order.specs.declared.bodies.BodyRange.{BodyRange}
 use Rattle.perfdata_order.specs.declared.held_record.RecordInfo.{RecordInfo}
 use Rattle.perfdata_order.specs.declared.held_record.HeldRecord.{HeldRecord}
 use Rattle.perfdata_order.specs.declared.held_records.HeldRecords.{HeldRecords}
-use Rattle.perfdata_order.specs.Bodies.{body_at}
+use Rattle.perfdata_order.specs.Bodies.{body_at, block_count}
 use Rattle.perfdata_order.specs.HeldRecord.{view_with, held_view}
 use Rattle.perfdata_order.specs.Sorter.{available_of, IsUnchanged, Inserted, Returned}
+
+-- The number of blocks for bodies.
+abbrev pub blocks_in : HeldRecords → ℕ
+blocks_in s = block_count s.bodies
 
 -- The body in this range.
 abbrev pub body_of : HeldRecords → BodyRange → List ℕ

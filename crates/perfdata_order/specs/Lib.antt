@@ -6,7 +6,9 @@ pub mod SorterLaws
 pub mod InMemoryOrder
 pub mod Times
 pub mod LayoutRecords
+pub mod Blocks
 pub mod Bodies
+pub mod ParseInfoKeys
 pub mod ParseInfos
 pub mod HeldRecord
 pub mod HeldRecords

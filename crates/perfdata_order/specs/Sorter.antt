@@ -1,12 +1,16 @@
 -- A sorter: the entries that are available, those that are not yet, and the greatest keys. What each call does to them.
-use Rattle.std.specs.Prelude.{◌≡◌, ◌+◌, ◌<◌, ◌≤◌, Bool, true, false, List, [], ◌∷◌, ◌++◌, length, take, drop, Option, None, Some, Result, Ok, Err, All}
+use Rattle.std.specs.Prelude.{◌≡◌, ℕ, ◌+◌, ◌/◌, ◌<◌, ◌≤◌, max, Bool, true, false, List, [], ◌∷◌, ◌++◌, length, take, drop, Option, None, Some, Result, Ok, Err, All}
 use Rattle.std.specs.declared.cmp.Ordering.{Ordering}
 use Rattle.std.specs.declared.alloc.AllocFailed.{AllocFailed}
 use Rattle.std.specs.declared.alloc.AllocError.{AllocError}
 use Rattle.perfdata_order.specs.declared.sorter.Sorter.{Sorter}
-use Rattle.perfdata_order.specs.Slots.{value_at}
+use Rattle.perfdata_order.specs.Slots.{value_at, slot_count}
 use Rattle.perfdata_order.specs.Order.{Ascends, is_within, greatest_with, SortsEntries}
 use Rattle.perfdata_order.specs.Entries.{entries_by}
+
+-- As many slots as this number of values, a third more, and one.
+abbrev pub slots_for : ℕ → ℕ
+slots_for values = values + values / 3 + 1
 
 module _ {K V : Type 0} where
   -- All entries that the sorter contains.
@@ -29,17 +33,29 @@ module _ {K V : Type 0} where
   abbrev pub greatest_of : Sorter K V → Option K
   greatest_of s = s.greatest
 
+  -- The number of slots for values, vacant ones among them.
+  abbrev pub slots_in : Sorter K V → ℕ
+  slots_in s = slot_count s.values
+
+  -- Slots are added only if too few are vacant for the values that are held, and none is removed.
+  pub record AddsFewSlots (old new : Sorter K V) : Type 0 where
+    pub kept : slots_in old ≤ slots_in new
+    pub few : slots_in new ≤ max (slots_in old) (slots_for (length (held_of old)))
+
   pub record IsNew (s : Sorter K V) : Type 0 where
     pub empty : held_of s ≡ []
     pub limit : limit_of s ≡ None
     pub greatest : greatest_of s ≡ None
+    pub slots : slots_in s ≡ 0
 
+  -- The entries are the same. A failed call may have added a slot.
   pub record IsUnchanged (old new : Sorter K V) : Type 0 where
     pub available : available_of new ≡ available_of old
     pub pending : pending_of new ≡ pending_of old
     pub held : held_of new ≡ held_of old
     pub limit : limit_of new ≡ limit_of old
     pub greatest : greatest_of new ≡ greatest_of old
+    pub slots : AddsFewSlots old new
 
   abbrev pub TestsAvailable : Sorter K V → Bool → Type 0
   TestsAvailable s true = 0 < length (available_of s)
@@ -55,6 +71,7 @@ module _ {K V : Type 0} where
     pub pending : pending_of new ≡ pending_of old
     pub limit : limit_of new ≡ limit_of old
     pub greatest : greatest_of new ≡ greatest_of old
+    pub slots : slots_in new ≡ slots_in old
 
   abbrev pub TakesNext : Sorter K V → Option V → Sorter K V → Type 0
   TakesNext old None new = (available_of old ≡ []) × IsUnchanged old new
@@ -67,6 +84,7 @@ module _ {K V : Type 0} where
       pub pending : pending_of new ≡ pending_of old ++ (key, value) ∷ []
       pub limit : limit_of new ≡ limit_of old
       pub greatest : greatest_of new ≡ Some (greatest_with cmp (greatest_of old) key)
+      pub slots : AddsFewSlots old new
 
     abbrev pub InsertsEntry : Sorter K V → K → V → Result (Unit {0}) (AllocFailed (K × V)) → Sorter K V → Type 0
     InsertsEntry old key value (Ok done) new = Inserted old key value new
@@ -78,6 +96,7 @@ module _ {K V : Type 0} where
       pub ascends : Ascends cmp new.order.items
       pub limit : limit_of new ≡ limit_of old
       pub greatest : greatest_of new ≡ greatest_of old
+      pub slots : slots_in new ≡ slots_in old
 
     abbrev pub SortsHeld : Sorter K V → Result (Unit {0}) AllocError → Sorter K V → Type 0
     SortsHeld old (Ok done) new = HeldSorted old new
@@ -90,6 +109,7 @@ module _ {K V : Type 0} where
       pub pending : All (λ e. is_within cmp (limit_of old) e ≡ false) (pending_of new)
       pub limit : limit_of new ≡ greatest_of old
       pub greatest : greatest_of new ≡ greatest_of old
+      pub slots : slots_in new ≡ slots_in old
 
     abbrev pub EndsRound : Sorter K V → Result (Unit {0}) AllocError → Sorter K V → Type 0
     EndsRound old (Ok done) new = RoundEnded old new
@@ -101,6 +121,7 @@ module _ {K V : Type 0} where
       pub pending : pending_of new ≡ []
       pub limit : limit_of new ≡ greatest_of old
       pub greatest : greatest_of new ≡ greatest_of old
+      pub slots : slots_in new ≡ slots_in old
 
     abbrev pub EndsAllRounds : Sorter K V → Result (Unit {0}) AllocError → Sorter K V → Type 0
     EndsAllRounds old (Ok done) new = AllRoundsEnded old new
@@ -112,6 +133,7 @@ module _ {K V : Type 0} where
       pub half : (length (pending_of new) + length (pending_of new) ≤ length (held_of old)) × (length (held_of old) ≤ length (pending_of new) + length (pending_of new) + 1)
       pub limit : limit_of new ≡ limit_of old
       pub greatest : greatest_of new ≡ greatest_of old
+      pub slots : slots_in new ≡ slots_in old
 
     abbrev pub ReleasesHalf : Sorter K V → Result (Unit {0}) AllocError → Sorter K V → Type 0
     ReleasesHalf old (Ok done) new = HalfReleased old new

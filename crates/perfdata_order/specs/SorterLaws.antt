@@ -1,11 +1,11 @@
 -- Laws of the calls of a sorter, from a new one on.
-use Rattle.std.specs.Prelude.{◌≡◌, ℕ, ◌+◌, ◌≤◌, List, [], ◌∷◌, ◌++◌, map, filter, All}
+use Rattle.std.specs.Prelude.{◌≡◌, ℕ, ◌+◌, ◌-◌, ◌≤◌, max, List, [], ◌∷◌, ◌++◌, map, filter, All}
 use Rattle.std.specs.declared.cmp.Ordering.{Ordering}
 use Rattle.std.specs.Ordering.{is_lt}
 use Rattle.std.specs.List.Sorted.{IsPermutation, ties}
 use Rattle.perfdata_order.specs.declared.sorter.Sorter.{Sorter}
 use Rattle.perfdata_order.specs.Order.{IsAtMost, Ascends}
-use Rattle.perfdata_order.specs.Sorter.{held_of, IsNew, IsUnchanged, Returned, Inserted, RoundEnded, AllRoundsEnded, HalfReleased}
+use Rattle.perfdata_order.specs.Sorter.{held_of, slots_in, slots_for, IsNew, IsUnchanged, Returned, Inserted, RoundEnded, AllRoundsEnded, HalfReleased}
 
 -- The effect of a call. `keeps` is a call that failed, or that found no value available.
 pub data Call (K V : Type 0) : Type 0 where
@@ -58,6 +58,16 @@ module _ {K V : Type 0} where
   releases_in (returns k v ∷ calls) = releases_in calls
   releases_in (keeps ∷ calls) = releases_in calls
 
+  -- The most entries that the sorter contains at once, if it contains this many at first.
+  abbrev pub most_held : ℕ → List (Call K V) → ℕ
+  most_held held [] = held
+  most_held held (inserts k v ∷ calls) = max held (most_held (held + 1) calls)
+  most_held held (ends_round ∷ calls) = most_held held calls
+  most_held held (ends_all ∷ calls) = most_held held calls
+  most_held held (releases ∷ calls) = most_held held calls
+  most_held held (returns k v ∷ calls) = max held (most_held (held - 1) calls)
+  most_held held (keeps ∷ calls) = most_held held calls
+
   -- Consecutive calls that return these entries.
   abbrev pub returns_each : List (K × V) → List (Call K V)
   returns_each entries = map (λ (e : K × V). returns e.0 e.1) entries
@@ -100,3 +110,8 @@ RunsAscend {K} V cmp = (first middle last : Sorter K V) (calls : List (Call K V)
 abbrev pub AscendsUnderRule : {K : Type 0} (V : Type 0) → (K → K → Ordering) → Type 0
 AscendsUnderRule {K} V cmp = (first last : Sorter K V) (calls : List (Call K V)) → IsNew first → MakesCalls cmp calls first last →
     releases_in calls ≡ 0 → KeepsRoundRule cmp (inserted_in_rounds 0 calls) → Ascends cmp (returned_by calls)
+
+-- The number of slots is at most that of the most entries held at once, a third more, and one.
+abbrev pub HasFewSlots : {K : Type 0} (V : Type 0) → (K → K → Ordering) → Type 0
+HasFewSlots {K} V cmp = (first last : Sorter K V) (calls : List (Call K V)) → IsNew first → MakesCalls cmp calls first last →
+    slots_in last ≤ slots_for (most_held 0 calls)

@@ -12,11 +12,11 @@ use Rattle.perfdata_order.specs.declared.held_record.HeldRecord.{HeldRecord}
 use Rattle.perfdata_order.specs.declared.streaming.OrderedRecords.{OrderedRecords}
 use Rattle.perfdata_order.specs.HeldRecord.{held_view, held_size}
 use Rattle.perfdata_order.specs.Order.{Ascends}
-use Rattle.perfdata_order.specs.Sorter.{held_of, pending_of}
-use Rattle.perfdata_order.specs.SorterLaws.{Call, MakesCalls, returned_by, releases_in, KeepsRoundRule}
+use Rattle.perfdata_order.specs.Sorter.{held_of, pending_of, slots_for}
+use Rattle.perfdata_order.specs.SorterLaws.{Call, MakesCalls, most_held, returned_by, releases_in, KeepsRoundRule}
 use Rattle.perfdata_order.specs.Times.{key_of_time}
 use Rattle.perfdata_order.specs.LayoutRecords.{AreLayoutRecords}
-use Rattle.perfdata_order.specs.StreamingOrder.{Unplaced, unplaced_of, round_of, early_of, Step, TakesSteps, returned_in, IsNewOrder}
+use Rattle.perfdata_order.specs.StreamingOrder.{Unplaced, unplaced_of, round_of, early_of, blocks_of, Step, TakesSteps, returned_in, IsNewOrder}
 use Rattle.perfdata_order.specs.StreamingOrder.Unplaced.{nothing, waiting, ending, failing, failed}
 use Rattle.perfdata_order.specs.StreamingOrder.Step.{reads, passes, reads_end, reads_error, sorts, reports}
 
@@ -105,3 +105,8 @@ module _ {R : Type 0} (state : R → State) where
   TimesAscendUnderPerfRule = (records : PerfRecordIter R) (budget : ℕ) (first last : OrderedRecords R) (file file' : PerfFile) (steps : List Step) →
       IsNewOrder records budget first → TakesSteps state steps first file last file' → early_of last ≡ 0 → AreLayoutRecords (read_in steps) → KeepsRoundRule nat_cmp (timed_of (read_in steps)) →
       Ascends nat_cmp (returned_by (calls_in steps))
+
+  -- The number of blocks for bodies is at most that of the most records in the sorter at once, a third more, and two.
+  abbrev pub HasFewBlocks : Type 0
+  HasFewBlocks = (records : PerfRecordIter R) (budget : ℕ) (first last : OrderedRecords R) (file file' : PerfFile) (steps : List Step) →
+      IsNewOrder records budget first → TakesSteps state steps first file last file' → blocks_of last ≤ slots_for (most_held 0 (calls_in steps)) + 1

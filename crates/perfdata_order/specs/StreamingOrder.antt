@@ -20,7 +20,7 @@ use Rattle.perfdata_order.specs.declared.streaming.BodyBuffer.{BodyBuffer}
 use Rattle.perfdata_order.specs.declared.streaming.BodyBuffer.TheVariants.{Read, Sorted}
 use Rattle.perfdata_order.specs.declared.streaming.OrderedRecords.{OrderedRecords}
 use Rattle.perfdata_order.specs.HeldRecord.{view_with, held_view, held_size}
-use Rattle.perfdata_order.specs.HeldRecords.{body_of}
+use Rattle.perfdata_order.specs.HeldRecords.{body_of, blocks_in}
 use Rattle.perfdata_order.specs.Sorter.{held_of, available_of, pending_of, IsNew, IsUnchanged, Inserted, RoundEnded, AllRoundsEnded, HalfReleased, Returned}
 use Rattle.perfdata_order.specs.Times.{key_of_time}
 use Rattle.perfdata_order.specs.SorterLaws.{Call}
@@ -122,6 +122,10 @@ module _ {R : Type 0} where
   -- The bytes that count for the records in the sorter.
   abbrev pub held_bytes_of : OrderedRecords R → ℕ
   held_bytes_of s = s.held_bytes
+
+  -- The number of blocks for the bodies of held records.
+  abbrev pub blocks_of : OrderedRecords R → ℕ
+  blocks_of s = blocks_in s.held
 
   -- How often records were returned early.
   abbrev pub early_of : OrderedRecords R → ℕ

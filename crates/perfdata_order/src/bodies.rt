@@ -1,5 +1,7 @@
 //! The bodies of held records, in blocks.
-ghost use Rattle.std.specs.Prelude.{◌≡◌, ◌^◌, ◌-◌, ◌<◌, length, IsTrue};
+ghost use Rattle.std.specs.Prelude.{◌≡◌, ◌^◌, ◌-◌, ◌<◌, ◌≤◌, length, vec_capacity};
+ghost use Rattle.std.proofs.Props.{props};
+ghost use Rattle.perfdata_order.specs.Blocks.{AreSpare};
 
 use std::alloc::{AllocError, Global};
 use std::snapshot::Snapshot;
@@ -15,11 +17,11 @@ pub(crate) struct Block {
 }
 
 impl Block {
-    ghost use Rattle.perfdata_order.specs.Bodies.{AppendsTo, IsCleared, ReleasesFrom};
+    ghost use Rattle.perfdata_order.specs.Blocks.{AppendsTo, IsCleared, ReleasesFrom, TestsCapacity};
 
     // Whether a body of this length fits. In an empty block, each body does.
     fn has_capacity(&self, len: usize) -> bool
-        ensures { IsTrue result → self.now.held < 2 ^ 64 - 1 }
+        ensures { TestsCapacity self.now len result }
     {
         let used = self.bytes.len();
         let fits = used == 0 || used <= BLOCK_CAPACITY && len <= BLOCK_CAPACITY - used;
@@ -48,12 +50,13 @@ impl Block {
         true
     }
 
-    // One body fewer is held. Returns how many are left.
-    fn release(&mut self) -> usize
+    // One body fewer is held. Returns whether it was the last one.
+    fn release(&mut self) -> bool
         ensures { ReleasesFrom self.old result self.new }
     {
+        let is_last = self.held == 1;
         self.held = self.held.saturating_sub(1);
-        self.held
+        is_last
     }
 }
 
@@ -91,14 +94,19 @@ pub(crate) struct Bodies {
     current: usize,
     // The other blocks without held bodies.
     spare: Vec<usize>,
+    ghost spare_blocks: { AreSpare blocks.items current spare.items } by { Prim.hlevel props },
+    ghost reserved: { length blocks.items ≤ vec_capacity spare },
 }
 
 impl Bodies {
-    ghost use Rattle.perfdata_order.specs.Bodies.{AppendsBody, ReleasesBody, MovesOn, KeepsBodies, HoldsNone};
-    ghost use Rattle.perfdata_order.specs.Bodies.{CanAppend, bytes_at, body_at};
+    ghost use Rattle.perfdata_order.specs.Bodies.{AppendsBody, ReleasesBody, MovesOn, HoldsNone, AddsBlock};
+    ghost use Rattle.perfdata_order.specs.Bodies.{CanAppend, bytes_at, body_at, TestsCurrent, EachIsHeld};
+    ghost use Rattle.perfdata_order.specs.Bodies.{IsCurrentHeld, ReusesCurrent, ReusesSpare};
+    ghost use Rattle.perfdata_order.specs.Bodies.{AddsBlockIfFull, block_count};
 
     pub(crate) fn new(alloc: Global) -> Bodies
-        ensures { HoldsNone result }
+        ensures none_held { HoldsNone result }
+        ensures no_block { block_count result ≡ 0 }
     {
         Bodies {
             alloc,
@@ -110,27 +118,40 @@ impl Bodies {
 
     // Whether the current block has capacity for a body of this length.
     fn has_capacity(&self, len: usize) -> bool
-        ensures { IsTrue result → CanAppend self.now }
+        ensures { TestsCurrent self.now len result }
     {
         let index = self.current;
         index < self.blocks.len() && self.blocks[index].has_capacity(len)
     }
 
-    // Clears a block, and makes it the current one, if no body in it is held. Returns whether none is.
-    fn reuse(&mut self, index: usize) -> bool
-        ensures kept { KeepsBodies self.old self.new }
-        ensures reused { IsTrue result → CanAppend self.new }
+    // Clears the current block, if no body in it is held. Returns whether none is.
+    fn reuse_current(&mut self) -> bool
+        ensures { ReusesCurrent self.old result self.new }
     {
-        if index < self.blocks.len() && self.blocks[index].clear() {
-            self.current = index;
-            return true;
+        let index = self.current;
+        index < self.blocks.len() && self.blocks[index].clear()
+    }
+
+    // Makes a spare block the current one. Returns whether there is one.
+    fn reuse_spare(&mut self) -> bool
+        requires { IsCurrentHeld self.old }
+        ensures { ReusesSpare self.old result self.new }
+    {
+        match self.spare.pop() {
+            Some(index) => {
+                // No body in a spare block is held.
+                let _cleared = self.blocks[index].clear();
+                self.current = index;
+                true
+            }
+            None => false,
         }
-        false
     }
 
     // Makes a new block the current one.
     fn add_block(&mut self) -> Result<(), AllocError>
-        ensures { MovesOn self.old result self.new }
+        requires { EachIsHeld self.old }
+        ensures { AddsBlock self.old result self.new }
     {
         let count = self.blocks.len();
         // Then `release` needs no memory.
@@ -142,17 +163,12 @@ impl Bodies {
         Ok(())
     }
 
-    // Makes an empty block the current one.
+    // Makes an empty block the current one. It is a new one only if each block has held bodies.
     fn next_block(&mut self) -> Result<(), AllocError>
         ensures { MovesOn self.old result self.new }
     {
-        if self.reuse(self.current) {
+        if self.reuse_current() || self.reuse_spare() {
             return Ok(());
-        }
-        if let Some(index) = self.spare.pop() {
-            if self.reuse(index) {
-                return Ok(());
-            }
         }
         self.add_block()
     }
@@ -160,7 +176,8 @@ impl Bodies {
     // Appends a body to the current block.
     fn append_to_current(&mut self, body: &[u8]) -> Result<HeldBody, AllocError>
         requires { CanAppend self.old }
-        ensures { AppendsBody self.old body.now result self.new }
+        ensures appends { AppendsBody self.old body.now result self.new }
+        ensures same_blocks { block_count self.new ≡ block_count self.old }
     {
         let block = self.current;
         match self.blocks[block].append(body) {
@@ -179,7 +196,8 @@ impl Bodies {
     // Copies a body, which is then held.
     #[inline(always)]
     pub(crate) fn append(&mut self, body: &[u8]) -> Result<HeldBody, AllocError>
-        ensures { AppendsBody self.old body.now result self.new }
+        ensures appends { AppendsBody self.old body.now result self.new }
+        ensures blocks { AddsBlockIfFull self.old (length body.now) self.new }
     {
         if !self.has_capacity(body.len()) {
             self.next_block()?;
@@ -189,15 +207,16 @@ impl Bodies {
 
     // One body in the block is no longer held. Its bytes stay until the next call of `append`.
     pub(crate) fn release(&mut self, block: usize)
-        ensures { ReleasesBody self.old block self.new }
+        ensures releases { ReleasesBody self.old block self.new }
+        ensures same_blocks { block_count self.new ≡ block_count self.old }
     {
         if block >= self.blocks.len() {
             return;
         }
-        let left = self.blocks[block].release();
-        if left == 0 && block != self.current {
+        let is_last = self.blocks[block].release();
+        if is_last && block != self.current {
             // `add_block` reserved the capacity.
-            let _kept = self.spare.push(block);
+            self.spare.push_reserved(block);
         }
     }
 

@@ -1,8 +1,9 @@
 //! The held records of a source: a sorter of them, and what they have in common.
-ghost use Rattle.std.specs.Prelude.{◌≡◌, All};
+ghost use Rattle.std.specs.Prelude.{◌≡◌, ◌+◌, ◌≤◌, All};
 ghost use Rattle.std.specs.Ordering.{nat_cmp};
 ghost use Rattle.std.proofs.Props.{props};
-ghost use Rattle.perfdata_order.specs.Sorter.{held_of};
+ghost use Rattle.perfdata_order.specs.Sorter.{held_of, slots_in};
+ghost use Rattle.perfdata_order.specs.Bodies.{block_count};
 ghost use Rattle.perfdata_order.specs.HeldRecord.{IsStored, IsCounted};
 
 use crate::bodies::{Bodies, BodyRange};
@@ -19,6 +20,7 @@ pub(crate) struct HeldRecords {
     parse_infos: ParseInfos,
     ghost stored: { All (λ e. IsStored bodies parse_infos e.1) (held_of sorter) } by { Prim.hlevel props },
     ghost counted: { IsCounted bodies (held_of sorter) } by { Prim.hlevel props },
+    ghost few_blocks: { block_count bodies ≤ slots_in sorter + 1 },
 }
 
 impl HeldRecords {

@@ -1,16 +1,27 @@
 //! The parse infos of held records.
 ghost use Rattle.std.specs.Prelude.{◌≡◌, Some, IsTrue};
+ghost use Rattle.std.proofs.Props.{props};
+ghost use Rattle.perfdata_order.specs.ParseInfoKeys.{key_of, AreIndexed, AreDistinct};
 
+use linux_perf_data::Endianness;
 use linux_perf_data::place::RecordParseInfo;
 use std::alloc::{AllocError, Global};
+use std::collections::BTreeMap;
 
-// The parse infos of the records so far. An attribute has one for all of its records, and most attributes
-// have the same.
+// The numbers that determine a parse info, in an order of their own.
+type ParseInfoKey = (u64, u64, Option<u64>, Option<u64>, Option<u64>, Option<u64>);
+
+// The parse infos of the records so far, each once. An attribute has one for all of its records, and most
+// attributes have the same.
 #[derive(Drop)]
 pub(crate) struct ParseInfos {
     found: Vec<RecordParseInfo>,
-    // The index of each attribute's parse info in `found`.
+    // The index of each parse info in `found`. A hostile recording has as many as attributes.
+    indices: BTreeMap<ParseInfoKey, usize>,
+    // The index of each attribute's parse info in `found`, or 0 if it isn't known.
     by_attribute: Vec<usize>,
+    ghost indexed: { AreIndexed indices found.items } by { Prim.hlevel props },
+    ghost distinct: { AreDistinct found.items } by { Prim.hlevel props },
 }
 
 // Whether all fields are equal.
@@ -24,12 +35,30 @@ fn is_same(first: &RecordParseInfo, second: &RecordParseInfo) -> bool
         && first.endian == second.endian
 }
 
+fn key_of(parse_info: &RecordParseInfo) -> ParseInfoKey
+    ensures { result ≡ key_of parse_info.now }
+{
+    let order = match parse_info.endian {
+        Endianness::LittleEndian => 0,
+        Endianness::BigEndian => 1,
+    };
+    (
+        order,
+        parse_info.sample_format.0,
+        parse_info.id_parse_info.sample_id_from_start,
+        parse_info.id_parse_info.other_id_from_end,
+        parse_info.sample_time_from_start,
+        parse_info.other_time_from_end,
+    )
+}
+
 impl ParseInfos {
-    ghost use Rattle.perfdata_order.specs.ParseInfos.{FindsIndex, found_at};
+    ghost use Rattle.perfdata_order.specs.ParseInfos.{FindsIndex, IsUnchanged, found_at};
 
     pub(crate) fn new(alloc: Global) -> ParseInfos {
         ParseInfos {
             found: Vec::new(alloc),
+            indices: BTreeMap::new(alloc),
             by_attribute: Vec::new(alloc),
         }
     }
@@ -51,20 +80,55 @@ impl ParseInfos {
         }
     }
 
-    // Adds the parse info of an attribute. Returns its index.
-    fn add(&mut self, attr_index: usize, parse_info: RecordParseInfo) -> Result<usize, AllocError>
-        ensures { FindsIndex self.old parse_info result self.new }
+    // Makes the table of attributes long enough for this one.
+    fn reserve_attribute(&mut self, attr_index: usize) -> Result<(), AllocError>
+        ensures { IsUnchanged self.old self.new }
     {
         if attr_index >= self.by_attribute.len() {
             self.by_attribute.resize(attr_index.saturating_add(1), 0)?;
         }
-        let index = self.found.len();
-        if self.found.push(parse_info).is_err() {
-            return Err(AllocError);
-        }
+        Ok(())
+    }
+
+    // Sets the index of an attribute's parse info.
+    fn set_attribute(&mut self, attr_index: usize, index: usize)
+        ensures { IsUnchanged self.old self.new }
+    {
         if attr_index < self.by_attribute.len() {
             self.by_attribute[attr_index] = index;
         }
+    }
+
+    // Returns the index of a parse info, which is added if it isn't found.
+    fn find_or_add(&mut self, parse_info: &RecordParseInfo) -> Result<usize, AllocError>
+        ensures { FindsIndex self.old parse_info.now result self.new }
+    {
+        let key = key_of(parse_info);
+        match self.indices.get(&key) {
+            Some(index) => return Ok(*index),
+            None => {}
+        }
+        let index = self.found.len();
+        self.found.reserve(1)?;
+        match self.indices.insert(key, index) {
+            Ok(_) => {}
+            Err(_) => return Err(AllocError),
+        }
+        self.found.push_reserved(*parse_info);
+        Ok(index)
+    }
+
+    // The same for an attribute whose index isn't known.
+    fn find_for_attribute(
+        &mut self,
+        attr_index: usize,
+        parse_info: &RecordParseInfo,
+    ) -> Result<usize, AllocError>
+        ensures { FindsIndex self.old parse_info.now result self.new }
+    {
+        self.reserve_attribute(attr_index)?;
+        let index = self.find_or_add(parse_info)?;
+        self.set_attribute(attr_index, index);
         Ok(index)
     }
 
@@ -84,6 +148,6 @@ impl ParseInfos {
         if self.has(index, parse_info) {
             return Ok(index);
         }
-        self.add(attr_index, *parse_info)
+        self.find_for_attribute(attr_index, parse_info)
     }
 }

@@ -1,11 +1,11 @@
 //! Values in numbered slots.
-ghost use Rattle.std.specs.Prelude.{◌≡◌, ◌<◌, None, Some, [], length, slice_set};
+ghost use Rattle.std.specs.Prelude.{◌≡◌, ◌<◌, ◌≤◌, None, Some, [], length, slice_set};
 
 use std::alloc::{AllocError, Global};
 use std::mem::replace;
 
-// Values in slots. A quarter of the slots or more may be vacant, so the next vacant one is found after few
-// others, and consecutive values are in consecutive slots.
+// Values in slots. A slot is added if more than three quarters of them are used, so the next vacant one is
+// found after few others, and consecutive values are in consecutive slots.
 #[derive(Drop)]
 pub(crate) struct Slots<V> {
     values: Vec<Option<V>>,
@@ -14,7 +14,8 @@ pub(crate) struct Slots<V> {
 }
 
 impl<V> Slots<V> {
-    ghost use Rattle.perfdata_order.specs.Slots.{value_at, slots_of, FindsVacant};
+    ghost use Rattle.perfdata_order.specs.Slots.{value_at, slots_of, FindsVacant, FindsVacantIn};
+    ghost use Rattle.perfdata_order.specs.Slots.{FindsAnyVacant};
 
     pub(crate) fn new(alloc: Global) -> Slots<V>
         ensures { slots_of result ≡ [] }
@@ -25,40 +26,47 @@ impl<V> Slots<V> {
         }
     }
 
-    // The first vacant slot from the next one on, or the number of slots if there is none.
-    fn search(&self) -> usize
-        ensures { value_at self.now result ≡ None }
+    // The first vacant slot from `start` to before `end`.
+    fn search_in(&self, start: usize, end: usize) -> Option<usize>
+        requires { end ≤ length (slots_of self.now) }
+        ensures { FindsVacantIn self.now start end result }
     {
-        let len = self.values.len();
-        let mut slot = self.next;
-        'slots: for _ in 0..len {
-            if slot >= len {
-                slot = 0;
-            }
+        'slots: for slot in start..end {
             match self.values.get(slot) {
-                Some(None) => return slot,
+                Some(None) => return Some(slot),
                 _ => {}
             }
-            slot += 1;
         }
-        len
+        None
     }
 
-    // Returns a vacant slot. If `used` slots are more than three quarters of all, it is a new one.
+    // The first vacant slot from the next one on, or else before it.
+    fn search(&self) -> Option<usize>
+        ensures { FindsAnyVacant self.now result }
+    {
+        let len = self.values.len();
+        let next = self.next.min(len);
+        match self.search_in(next, len) {
+            Some(slot) => Some(slot),
+            None => self.search_in(0, next),
+        }
+    }
+
+    // Returns a vacant slot. If `used` slots are more than three quarters of all, or none is vacant, it is a
+    // new one.
     pub(crate) fn vacant(&mut self, used: usize) -> Result<usize, AllocError>
-        ensures { FindsVacant self.old result self.new }
+        ensures { FindsVacant self.old used result self.new }
     {
         let len = self.values.len();
         if used <= len - len / 4 {
-            let slot = self.search();
-            if slot < self.values.len() {
-                return Ok(slot);
+            match self.search() {
+                Some(slot) => return Ok(slot),
+                None => {}
             }
         }
-        let slot = self.values.len();
         self.values.reserve(1)?;
         self.values.push_reserved(None);
-        Ok(slot)
+        Ok(len)
     }
 
     // Fills a vacant slot.

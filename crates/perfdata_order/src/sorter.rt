@@ -4,7 +4,7 @@ ghost use Rattle.std.specs.VecDeque.{deque_len};
 ghost use Rattle.std.proofs.Props.{props};
 ghost use Rattle.perfdata_order.specs.Slots.{value_at};
 ghost use Rattle.perfdata_order.specs.Order.{Ascends, greatest_with, is_within};
-ghost use Rattle.perfdata_order.specs.Entries.{IsPlaced};
+ghost use Rattle.perfdata_order.specs.Entries.{IsPlaced, HaveKeys};
 
 use crate::slots::Slots;
 use std::alloc::{AllocError, AllocFailed, Global};
@@ -28,6 +28,7 @@ pub struct Sorter<K, V> {
     greatest: Option<K>,
     ghost in_range: { available ≤ deque_len order },
     ghost placed: { IsPlaced (value_at values) order.items } by { Prim.hlevel props },
+    ghost have_keys: { HaveKeys (value_at values) order.items } by { Prim.hlevel props },
 }
 
 impl<K, V> Sorter<K, V> {

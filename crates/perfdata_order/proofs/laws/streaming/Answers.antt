@@ -1,4 +1,5 @@
 use Rattle.perfdata_order.proofs.StreamingSteps.{returns_each_record_once, reads_records_of_source, calls_sorter_in_turn}
+use Rattle.perfdata_order.proofs.StreamingBlocks.{has_few_blocks}
 use Rattle.perfdata_order.proofs.StreamingBudget.{counts_early, none_early_without_budget, remains_within_budget}
 use Rattle.perfdata_order.proofs.StreamingRounds.{holds_two_rounds}
 use Rattle.perfdata_order.proofs.StreamingRule.{times_ascend_under_perf_rule}
@@ -27,3 +28,6 @@ returns-clause-within_budget g c = remains_within_budget g.R.Source.state
 
 pub returns-clause-two_rounds : goal.returns-clause-two_rounds
 returns-clause-two_rounds g c = holds_two_rounds g.R.Source.state c.offsets_increase.ensures
+
+pub returns-clause-few_blocks : goal.returns-clause-few_blocks
+returns-clause-few_blocks g c = has_few_blocks g.R.Source.state

@@ -21,4 +21,5 @@ returns g c =
           (all_entries (value_at sorted.values) (λ e. is_within cmp sorted.limit e ≡ false) (λ e. is_within cmp sorted.limit e ≡ false) (λ k slot v h. within_same cmp sorted.limit k slot v false h) (drop n sorted.order.items) count.beyond);
       limit = done.greatest;
       greatest = done.greatest;
+      slots = done.slots;
     }

@@ -21,4 +21,5 @@ returns g c =
       half = half_left (value_at sorted.values) sorted.order.items count (held_of c.args.self.now) sorted.placed (length_permutation _ _ c.in_ok-sort_held.ensures.sorts.each_once) half;
       limit = c.in_ok-sort_held.ensures.limit;
       greatest = c.in_ok-sort_held.ensures.greatest;
+      slots = c.in_ok-sort_held.ensures.slots;
     }

@@ -1,0 +1,88 @@
+-- A block of bodies, and which blocks are spare.
+use Rattle.std.specs.Prelude.{◌≡◌, ◌≢◌, ℕ, ◌+◌, ◌-◌, ◌^◌, ◌<◌, ◌≤◌, ◌==◌, ◌⊎◌, Bool, true, false, List, [], ◌++◌, length, map, Result, Ok, Err, slice_index_or, if◌then◌else◌}
+use Rattle.std.specs.List.{sum_by}
+use Rattle.std.specs.declared.alloc.AllocError.{AllocError}
+use Rattle.perfdata_order.specs.declared.bodies.Block.{Block}
+use Rattle.std.specs.declared.snapshot.Snapshot.{Snapshot}
+use Rattle.std.specs.Prelude.{Vec}
+use Rattle.std.specs.declared.alloc.Global.{Global}
+
+-- ---- a block
+
+abbrev pub bytes_in : Block → List ℕ
+bytes_in b = b.bytes.items
+
+abbrev pub held_in : Block → ℕ
+held_in b = b.held
+
+-- The bytes of a block.
+abbrev pub bytes_by : List Block → ℕ → List ℕ
+bytes_by blocks block = slice_index_or (map (λ b. bytes_in b) blocks) block []
+
+-- How many bodies in a block are held.
+abbrev pub held_by : List Block → ℕ → ℕ
+held_by blocks block = slice_index_or (map (λ b. held_in b) blocks) block 0
+
+-- A body of this length fits: the block is empty, or 4,096 bytes are enough.
+pub record Fits (b : Block) (len : ℕ) : Type 0 where
+  pub countable : b.held < 2 ^ 64 - 1
+  pub in_capacity : (length b.bytes.items ≡ 0) ⊎ (length b.bytes.items + len ≤ 4096)
+
+abbrev pub FitsNot : Block → ℕ → Type 0
+FitsNot b len = (2 ^ 64 - 1 ≤ b.held) ⊎ ((0 < length b.bytes.items) × (4096 < length b.bytes.items + len))
+
+abbrev pub TestsCapacity : Block → ℕ → Bool → Type 0
+TestsCapacity b len true = Fits b len
+TestsCapacity b len false = FitsNot b len
+
+pub record Appended (old : Block) (body : List ℕ) (at_end : ℕ) (shown : Snapshot (Vec ℕ Global)) (new : Block) : Type 0 where
+  pub bytes : new.bytes.items ≡ old.bytes.items ++ body
+  pub shows : shown.value.items ≡ old.bytes.items ++ body
+  pub held : new.held ≡ old.held + 1
+  pub ends : at_end ≡ length old.bytes.items + length body
+
+abbrev pub AppendsTo : Block → List ℕ → Result (ℕ × Snapshot (Vec ℕ Global)) AllocError → Block → Type 0
+AppendsTo old body (Ok found) new = Appended old body found.0 found.1 new
+AppendsTo old body (Err e) new = (new.bytes.items ≡ old.bytes.items) × (new.held ≡ old.held)
+
+-- The bytes of a block without held bodies make no difference.
+abbrev pub IsCleared : Block → Bool → Block → Type 0
+IsCleared old true new = (old.held ≡ 0) × (new.held ≡ 0)
+IsCleared old false new = (new ≡ old) × (0 < old.held)
+
+abbrev pub WasLast : Block → Bool → Type 0
+WasLast old true = old.held ≡ 1
+WasLast old false = old.held ≢ 1
+
+pub record ReleasesFrom (old : Block) (is_last : Bool) (new : Block) : Type 0 where
+  pub bytes : new.bytes.items ≡ old.bytes.items
+  pub held : new.held ≡ old.held - 1
+  pub was_last : WasLast old is_last
+
+-- ---- all blocks
+
+-- The same bodies are held.
+abbrev pub KeepsHeld : List Block → List Block → Type 0
+KeepsHeld old new = (block : ℕ) → (held_by new block ≡ held_by old block) × (0 < held_by old block → bytes_by new block ≡ bytes_by old block)
+
+-- One body fewer is held in this block. The bytes stay.
+abbrev pub ReleasesHeld : List Block → ℕ → List Block → Type 0
+ReleasesHeld old block new = (other : ℕ) → (held_by new other ≡ held_by old other - (if block == other then 1 else 0)) × (bytes_by new other ≡ bytes_by old other)
+
+-- ---- spare blocks
+
+-- 1 if no body in the block is held.
+abbrev pub vacancy_of : Block → ℕ
+vacancy_of b = if b.held == 0 then 1 else 0
+
+-- 1 if there is such a block, and no body in it is held.
+abbrev pub vacancy_in : List Block → ℕ → ℕ
+vacancy_in blocks block = slice_index_or (map (λ b. vacancy_of b) blocks) block 0
+
+-- How often the block is in a list.
+abbrev pub times_in : List ℕ → ℕ → ℕ
+times_in spare block = sum_by (λ other. if other == block then 1 else 0) spare
+
+-- Each block without held bodies but the current one is spare, once, and no other is.
+abbrev pub AreSpare : List Block → ℕ → List ℕ → Type 0
+AreSpare blocks current spare = (block : ℕ) → times_in spare block ≡ (if block == current then 0 else vacancy_in blocks block)
