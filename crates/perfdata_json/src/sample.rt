@@ -3,6 +3,7 @@
 use crate::fields::{Address, Addresses, Bytes};
 use crate::names::context_name;
 use perfdata_base::raw::RawData;
+use perfdata_events::bits::SampleFields;
 use perfdata_events::call_chain::CallChain;
 use perfdata_events::format::EventFormat;
 use perfdata_events::read_values::{GroupValues, ReadRecord, ReadValues};
@@ -185,6 +186,26 @@ pub(crate) struct Sample<'a> {
     byte_limit: usize,
 }
 
+/// The fields from the counter values to the user stack.
+const STATE_FIELDS: u64 = SampleFields::READ.0
+    | SampleFields::CALLCHAIN.0
+    | SampleFields::RAW.0
+    | SampleFields::BRANCH_STACK.0
+    | SampleFields::REGS_USER.0
+    | SampleFields::STACK_USER.0;
+
+/// The fields from the weight on.
+const ACCESS_FIELDS: u64 = SampleFields::WEIGHT.0
+    | SampleFields::WEIGHT_STRUCT.0
+    | SampleFields::DATA_SRC.0
+    | SampleFields::TRANSACTION.0
+    | SampleFields::REGS_INTR.0
+    | SampleFields::PHYS_ADDR.0
+    | SampleFields::CGROUP.0
+    | SampleFields::DATA_PAGE_SIZE.0
+    | SampleFields::CODE_PAGE_SIZE.0
+    | SampleFields::AUX.0;
+
 /// Writes a member unless it is absent.
 fn write_optional<T: Serialize + Copy, S: Serializer>(
     out: &mut S,
@@ -292,10 +313,16 @@ impl Described for Sample<'_> {}
 
 impl Serialize for Sample<'_> {
     fn serialize<S: Serializer>(&self, out: &mut S) -> Result<(), S::Error> {
+        // Most samples have no field of one group or of both.
+        let fields = self.format.sample_format.0;
         out.begin_map(None)?;
         self.write_origin(out)?;
-        self.write_state(out)?;
-        self.write_access(out)?;
+        if fields & STATE_FIELDS != 0 {
+            self.write_state(out)?;
+        }
+        if fields & ACCESS_FIELDS != 0 {
+            self.write_access(out)?;
+        }
         out.end_map()
     }
 }
