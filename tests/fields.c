@@ -1046,6 +1046,34 @@ static void check_empty(void)
     CHECK(dewikura_read_jit_debug_info(NULL, 0, 0, NULL, NULL, 0, NULL), DEWIKURA_JIT_TRUNCATED_HEADER);
 }
 
+// Sorts records with random times, of which some are none: all are there once, ascending, and those with one time in their old order.
+static void check_sort_of(size_t count)
+{
+    struct dewikura_record *records = (struct dewikura_record *)calloc(count, sizeof *records);
+    unsigned char *seen = (unsigned char *)calloc(count, 1);
+    uint64_t state = 1, last = 0, last_offset = 0;
+    size_t i;
+    CHECK(records != NULL && seen != NULL, 1);
+    for (i = 0; i < count; i++) {
+        state = state * 6364136223846793005u + 1442695040888963407u;
+        records[i].offset = i;
+        records[i].timestamp = i % 7 == 0 ? UINT64_MAX : state >> 46;
+        records[i].has_timestamp = i % 5 != 0;
+    }
+    CHECK(dewikura_sort_records(records, count), DEWIKURA_OK);
+    for (i = 0; i < count; i++) {
+        uint64_t offset = records[i].offset;
+        uint64_t time = records[i].has_timestamp && records[i].timestamp != UINT64_MAX ? records[i].timestamp : 0;
+        CHECK(i == 0 || time > last || (time == last && offset > last_offset), 1);
+        CHECK(offset < count && !seen[offset], 1);
+        seen[offset] = 1;
+        last = time;
+        last_offset = offset;
+    }
+    free(seen);
+    free(records);
+}
+
 static void check_sort(void)
 {
     static const uint64_t times[] = {7, 0, 3, 7, UINT64_MAX}, order[] = {1, 4, 2, 0, 3};
@@ -1063,6 +1091,10 @@ static void check_sort(void)
         CHECK(records[i].timestamp, times[order[i]]);
     }
     CHECK(dewikura_sort_records(NULL, 0), DEWIKURA_OK);
+    check_sort_of(20);
+    check_sort_of(21);
+    check_sort_of(65536);
+    check_sort_of(1000000);
 }
 
 static void check_texts(void)

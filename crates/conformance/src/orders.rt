@@ -7,16 +7,21 @@ use perfdata_order::in_memory::InMemoryOrderedRecords;
 use perfdata_order::streaming::OrderedRecords;
 use std::fmt::Write;
 
-// Appends the line of a record, or how the records end. Returns whether there is a record.
+// Appends the line of a record, with its body or its body's size, or how the records end. Returns whether
+// there is a record.
 fn push_next(
     out: &mut String,
+    has_sizes: bool,
     next: Result<Option<(RecordPlace, PerfFileRecord<'_>)>, Error>,
 ) -> CaseResult<bool> {
     match next {
         Ok(Some((place, record))) => {
             let kind = (record.attr_index(), record.record_type().0, record.misc());
             let (offset, round, time) = (place.offset, place.round, place.timestamp);
-            push_line(out, &(offset, round, time, kind, record.body()))?;
+            match has_sizes {
+                true => push_line(out, &(offset, round, time, kind, record.body().len()))?,
+                false => push_line(out, &(offset, round, time, kind, record.body()))?,
+            }
             return Ok(true);
         }
         Ok(None) => out.push_str("end\n")?,
@@ -28,12 +33,12 @@ fn push_next(
 // Appends the lines of all records, how they end, and the result of the next call, each with the number of
 // records that were returned early.
 macro_rules! push_all {
-    ($out:expr, $opened:expr, $records:ident => $early:expr) => {
+    ($out:expr, $has_sizes:expr, $opened:expr, $records:ident => $early:expr) => {
         match $opened {
             Ok((mut file, mut $records)) => {
                 let mut is_ended = false;
                 for _ in 0..u64::MAX {
-                    let is_record = push_next($out, $records.next_record(&mut file))?;
+                    let is_record = push_next($out, $has_sizes, $records.next_record(&mut file))?;
                     if !is_record && $early != 0 {
                         writeln!($out, "early {}", $early)?;
                     }
@@ -76,12 +81,14 @@ fn open_in_memory<'a>(call: &Call<'a>) -> Opened<InMemoryOrderedRecords<'a>> {
 /// source has steps or there is a budget.
 pub fn push_ordered(call: &Call<'_>, out: &mut String) -> CaseResult {
     let budget = call.case.number("budget")?.unwrap_or(0);
-    push_all!(out, open(call, call.input.script(call.alloc)?, budget), records => records.early());
+    let has_sizes = call.case.has("sizes");
+    let script = call.input.script(call.alloc)?;
+    push_all!(out, has_sizes, open(call, script, budget), records => records.early());
     if budget != 0 || !call.input.steps.is_empty() {
         return Ok(());
     }
     let mut in_memory = String::new(call.alloc);
-    push_all!(&mut in_memory, open_in_memory(call), records => 0u64);
+    push_all!(&mut in_memory, has_sizes, open_in_memory(call), records => 0u64);
     let first = out.clone()?;
     push_other(out, &first, "in memory", &in_memory)
 }
