@@ -226,6 +226,20 @@ static void check_file(void)
     CHECK(is_present, 0);
 }
 
+// Starts a file with one attribute and a data section of this size, in bytes. The attribute and the place of its ids, 152 bytes, follow.
+static void start_file(uint64_t data_size)
+{
+    size = 0;
+    put_text("PERFILE2", 8);
+    put(104, 8);
+    put(152, 8); // the size of an entry of the attribute section
+    put(104, 8);
+    put(152, 8);
+    put(256, 8); // the data section
+    put(data_size, 8);
+    put(0, 48);
+}
+
 // A file with one attribute, whose samples have all words and a call chain: a complete sample, one whose call chain is truncated, and one
 // whose words are.
 static void check_samples(void)
@@ -237,15 +251,7 @@ static void check_samples(void)
     struct dewikura_frame frames[4];
     uint64_t count = 0, frames_count = 0;
     int i;
-    size = 0;
-    put_text("PERFILE2", 8);
-    put(104, 8);
-    put(152, 8); // the size of an entry of the attribute section
-    put(104, 8);
-    put(152, 8);
-    put(256, 8); // the data section
-    put(8 + 128 + 96 + 24, 8);
-    put(0, 48);
+    start_file(8 + 128 + 96 + 24);
     put_attr(0x1101, words | DEWIKURA_SAMPLE_CALLCHAIN);
     put(0, 16);
     CHECK(size, 256);
@@ -344,15 +350,7 @@ static void check_tasks(void)
     struct dewikura_task tasks[4];
     uint64_t count = 0;
     int i;
-    size = 0;
-    put_text("PERFILE2", 8);
-    put(104, 8);
-    put(152, 8); // the size of an entry of the attribute section
-    put(104, 8);
-    put(152, 8);
-    put(256, 8); // the data section
-    put(40 + 48 + 32 + 48 + 24, 8);
-    put(0, 48);
+    start_file(40 + 48 + 32 + 48 + 24);
     put_attr(0x1101, DEWIKURA_SAMPLE_TIME | DEWIKURA_SAMPLE_IDENTIFIER);
     put(0, 16);
     put_header(DEWIKURA_RECORD_COMM, 0x2000, 40); // PERF_RECORD_MISC_COMM_EXEC
@@ -418,15 +416,7 @@ static void check_mappings(void)
     struct dewikura_mapping mappings[4];
     uint64_t count = 0;
     int i, is_build_id;
-    size = 0;
-    put_text("PERFILE2", 8);
-    put(104, 8);
-    put(152, 8); // the size of an entry of the attribute section
-    put(104, 8);
-    put(152, 8);
-    put(256, 8); // the data section
-    put(2 * 96 + 64 + 80, 8);
-    put(0, 48);
+    start_file(2 * 96 + 64 + 80);
     put_attr(0x1101, DEWIKURA_SAMPLE_TIME | DEWIKURA_SAMPLE_IDENTIFIER);
     put(0, 16);
     for (is_build_id = 0; is_build_id < 2; is_build_id++) {
@@ -540,15 +530,7 @@ static void check_counters(void)
     struct dewikura_cursor cursor = {0, 0};
     struct dewikura_counter counters[4];
     uint64_t count = 0;
-    size = 0;
-    put_text("PERFILE2", 8);
-    put(104, 8);
-    put(152, 8); // the size of an entry of the attribute section
-    put(104, 8);
-    put(152, 8);
-    put(256, 8); // the data section
-    put(88 + 72 + 40, 8);
-    put(0, 48);
+    start_file(88 + 72 + 40);
     put_attr_of_counters(0x1101, DEWIKURA_SAMPLE_READ | DEWIKURA_SAMPLE_IDENTIFIER,
         DEWIKURA_READ_GROUP | DEWIKURA_READ_TOTAL_TIME_ENABLED | DEWIKURA_READ_TOTAL_TIME_RUNNING | DEWIKURA_READ_ID | DEWIKURA_READ_LOST);
     put(0, 16);
