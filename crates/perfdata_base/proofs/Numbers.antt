@@ -54,3 +54,7 @@ first_drop_prefix number first n k xs ys h =
     let truncated = drop-append-le k xs ys (omega arith) in
     let long_enough : n ≤ length (drop k xs) = omega (arith, length-drop k xs) in
     ap (number n) truncated ∙ first n (drop k xs) ys long_enough
+
+-- the numbers in a byte order that is known at compile time are those in the same order at run time
+pub same_number : (number : ℕ → List ℕ → ℕ) (endian own : Endianness) → endian ≡ own → ((n : ℕ) (xs : List ℕ) → number n xs ≡ number_in own n xs) → number_in endian ≡ number
+same_number number endian own is reads_by = λ i n xs. (ap (λ o. number_in o n xs) is ∙ sym (reads_by n xs)) i

@@ -1,5 +1,5 @@
 -- The header of a perf.data file as its bytes describe it (`perf_file_header`).
-use Rattle.std.specs.Prelude.{◌≡◌, ℕ, ◌+◌, ◌-◌, ◌^◌, ◌<◌, ◌≤◌, ◌==◌, ◌⊎◌, List, [], ◌∷◌, length, take, drop, slice_index, max, if◌then◌else◌, Option, pos, Result, Ok, Err}
+use Rattle.std.specs.Prelude.{◌≡◌, ◌≢◌, ℕ, ◌+◌, ◌-◌, ◌^◌, ◌<◌, ◌≤◌, ◌==◌, ◌⊎◌, List, [], ◌∷◌, length, take, drop, slice_index, max, if◌then◌else◌, codes, Option, pos, Result, Ok, Err}
 use Rattle.std.specs.IoError.{error_kind}
 use Rattle.std.specs.declared.io.Error.{Error}
 use Rattle.std.specs.declared.io.ErrorKind.TheVariants.{InvalidInput}
@@ -10,6 +10,15 @@ use Rattle.perfdata_base.specs.Section.{section_entry_of}
 use Rattle.perfdata_base.specs.declared.raw.Endianness.{Endianness}
 use Rattle.perfdata_base.specs.declared.raw.Endianness.TheVariants.{LittleEndian, BigEndian}
 use Rattle.perfdata_base.specs.declared.header.PerfHeader.{PerfHeader}
+
+-- the magic of a file or pipe in this byte order
+abbrev pub magic_of : Endianness → List ℕ
+magic_of LittleEndian = codes "PERFILE2"
+magic_of BigEndian = codes "2ELIFREP"
+
+-- the magic of no byte order
+abbrev pub IsUnknownMagic : List ℕ → Type 0
+IsUnknownMagic bytes = (endian : Endianness) → bytes ≢ magic_of endian
 
 -- the byte order of a file, by the first byte of its magic: little-endian if it is `P`
 abbrev pub endian_by_first_byte : List ℕ → Endianness

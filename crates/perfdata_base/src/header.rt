@@ -1,15 +1,16 @@
 //! The header of a perf.data file.
-ghost use Rattle.std.specs.Prelude.{◌≡◌, length};
+ghost use Rattle.std.specs.Prelude.{◌≡◌, ◌≤◌, IfNone, IfSome, length};
 ghost use Rattle.std.specs.IoError.{error_kind};
 ghost use Rattle.std.specs.declared.io.ErrorKind.TheVariants.{InvalidInput};
 ghost use Rattle.perfdata_base.specs.Source.{State, PausesOnlyOnError};
-ghost use Rattle.perfdata_base.specs.Header.{file_header_in, file_header_of, ParsesFileHeader, SkipsExtra};
+ghost use Rattle.perfdata_base.specs.Header.{file_header_of, ParsesFileHeader, SkipsExtra};
+ghost use Rattle.perfdata_base.specs.Header.{IsUnknownMagic, endian_by_first_byte, magic_of};
 
+use crate::endian::read_u64;
 use crate::features::FeatureSet;
-use crate::raw::FileOrder;
+use crate::raw::Endianness;
 use crate::section::{PerfFileSection, section_entry_of};
 use crate::source::{PlacedSource, read_exact};
-use byteorder::{BigEndian, LittleEndian};
 use std::io::{Error, ErrorKind, Result, SeekFrom};
 
 mod pipe;
@@ -38,25 +39,36 @@ pub struct PerfHeader {
 /// The number of header bytes that are parsed.
 const KNOWN_SIZE: usize = 104;
 
-fn parse_fields<T: FileOrder>(bytes: &[u8]) -> PerfHeader
-    requires { length bytes.now ≡ 104 }
-    ensures { result ≡ file_header_in T.number_of bytes.now }
+/// The magic of a little-endian file or pipe.
+const LITTLE_MAGIC: [u8; 8] = *b"PERFILE2";
+
+/// The magic of a big-endian file or pipe.
+const BIG_MAGIC: [u8; 8] = *b"2ELIFREP";
+
+/// Returns the byte order of a perf.data file or pipe with this magic, or `None` if it is the magic of
+/// neither.
+pub fn endian_of_magic(magic: &[u8; 8]) -> Option<Endianness>
+    ensures some { IfSome result (λ endian. magic.now ≡ magic_of endian) }
+    ensures none { IfNone result (IsUnknownMagic magic.now) }
 {
-    let mut magic = [0u8; 8];
-    magic.copy_from_slice(&bytes[..8]);
-    PerfHeader {
-        magic,
-        header_size: T::read_u64(&bytes[8..]),
-        attr_size: T::read_u64(&bytes[16..]),
-        attr_section: section_entry_of::<T>(&bytes[24..]),
-        data_section: section_entry_of::<T>(&bytes[40..]),
-        event_types_section: section_entry_of::<T>(&bytes[56..]),
-        features: FeatureSet([
-            T::read_u64(&bytes[72..]),
-            T::read_u64(&bytes[80..]),
-            T::read_u64(&bytes[88..]),
-            T::read_u64(&bytes[96..]),
-        ]),
+    if *magic == LITTLE_MAGIC {
+        Some(Endianness::LittleEndian)
+    } else if *magic == BIG_MAGIC {
+        Some(Endianness::BigEndian)
+    } else {
+        None
+    }
+}
+
+// The byte order by the first byte of a header, which is that of a valid magic.
+fn endian_by_first_byte(bytes: &[u8]) -> Endianness
+    requires { 1 ≤ length bytes.now }
+    ensures { result ≡ endian_by_first_byte bytes.now }
+{
+    if bytes[0] == LITTLE_MAGIC[0] {
+        Endianness::LittleEndian
+    } else {
+        Endianness::BigEndian
     }
 }
 
@@ -65,10 +77,22 @@ fn parse_header(bytes: &[u8]) -> PerfHeader
     requires { length bytes.now ≡ 104 }
     ensures { result ≡ file_header_of bytes.now }
 {
-    if bytes[0] == b'P' {
-        parse_fields::<LittleEndian>(bytes)
-    } else {
-        parse_fields::<BigEndian>(bytes)
+    let endian = endian_by_first_byte(bytes);
+    let mut magic = [0u8; 8];
+    magic.copy_from_slice(&bytes[..8]);
+    PerfHeader {
+        magic,
+        header_size: read_u64(endian, &bytes[8..]),
+        attr_size: read_u64(endian, &bytes[16..]),
+        attr_section: section_entry_of(endian, &bytes[24..]),
+        data_section: section_entry_of(endian, &bytes[40..]),
+        event_types_section: section_entry_of(endian, &bytes[56..]),
+        features: FeatureSet([
+            read_u64(endian, &bytes[72..]),
+            read_u64(endian, &bytes[80..]),
+            read_u64(endian, &bytes[88..]),
+            read_u64(endian, &bytes[96..]),
+        ]),
     }
 }
 

@@ -1,7 +1,7 @@
 //! Bytes in one slice or in two, and byte orders.
 ghost use Rattle.std.specs.Prelude.{◌≡◌, ◌+◌, ◌<◌, ◌≤◌, ◌++◌, ◌==◌, ◌⊎◌, ℕ, List, length, take, drop};
 ghost use Rattle.std.specs.Prelude.{slice_index, slice_range, refl, IfErr, IfNone, IfOk, IfSome, IsOkAnd};
-ghost use Rattle.std.specs.Prelude.{OnErr, OnOk};
+ghost use Rattle.std.specs.Prelude.{OnErr, OnOk, vec_capacity, vec_len};
 ghost use Rattle.std.specs.Cow.{cow_slice_items, IsBorrowedSlice, IsOwnedSlice};
 ghost use Rattle.std.specs.Int.{w32, cast_signed};
 ghost use Rattle.std.specs.Str.{bytes_eq};
@@ -68,13 +68,6 @@ pub enum RawData<'a> {
     Split(&'a [u8], &'a [u8]),
 }
 
-// The sum fits, because no byte slice is longer than half of the address space.
-fn total_len(first: &[u8], second: &[u8]) -> usize
-    ensures { result ≡ length first.now + length second.now }
-{
-    first.len() + second.len()
-}
-
 // Whether two slices contain the same bytes as two others. The first pair splits no later than the second.
 fn equal_bytes(first: &[u8], second: &[u8], other_first: &[u8], other_second: &[u8]) -> bool
     requires { length first.now ≤ length other_first.now }
@@ -97,10 +90,10 @@ impl<'a> From<&'a [u8]> for RawData<'a> {
 }
 
 impl<'a> RawData<'a> {
-    // The bytes of two slices. An empty slice is omitted.
-    fn join(first: &'a [u8], second: &'a [u8]) -> RawData<'a>
+    /// Returns the bytes of two slices. If one of them is empty, they are in one slice.
+    pub fn join(first: &'a [u8], second: &'a [u8]) -> RawData<'a>
         ensures bytes { bytes_of result ≡ first.now ++ second.now }
-        ensures single { length second.now ≡ 0 → IsSingle result }
+        ensures single { (length first.now ≡ 0) ⊎ (length second.now ≡ 0) → IsSingle result }
     {
         if first.is_empty() {
             RawData::Single(second)
@@ -174,7 +167,7 @@ impl<'a> RawData<'a> {
         ensures { result ≡ length (bytes_of self.now) }
     {
         let (first, second) = self.as_slices();
-        total_len(first, second)
+        first.len() + second.len()
     }
 
     /// Returns whether there are no bytes.
@@ -342,13 +335,27 @@ impl<'a> RawData<'a> {
     {
         match *self {
             RawData::Single(bytes) => Ok(CowSlice::Borrowed(bytes)),
-            RawData::Split(first, second) => {
-                let mut all = Vec::with_capacity(alloc, total_len(first, second))?;
-                all.extend_from_slice(first)?;
-                all.extend_from_slice(second)?;
+            RawData::Split(_, _) => {
+                let mut all = Vec::with_capacity(alloc, self.len())?;
+                self.append_to(&mut all)?;
                 Ok(CowSlice::Owned(all))
             }
         }
+    }
+
+    /// Appends the bytes to a buffer.
+    ///
+    /// If the buffer's capacity is too small and there is no memory for a larger one, it fails with
+    /// `AllocError`, and the bytes of the buffer stay the same.
+    pub fn append_to(&self, buffer: &mut Vec<u8>) -> Result<(), AllocError>
+        ensures appends { OnOk result (buffer.new.items ≡ buffer.old.items ++ bytes_of self.now) }
+        ensures full { OnErr result (vec_capacity buffer.old < vec_len buffer.old + length (bytes_of self.now)) }
+        ensures unchanged { OnErr result (buffer.new.items ≡ buffer.old.items) }
+    {
+        let (first, second) = self.as_slices();
+        buffer.try_reserve(first.len() + second.len())?;
+        buffer.extend_from_slice(first)?;
+        buffer.extend_from_slice(second)
     }
 }
 

@@ -1,9 +1,11 @@
 //! The entry that describes a section.
 ghost use Rattle.std.specs.Prelude.{◌≡◌, ◌≤◌, length};
+ghost use Rattle.perfdata_base.specs.Endian.{number_in};
 ghost use Rattle.perfdata_base.specs.Source.{State, PausesOnlyOnError};
 ghost use Rattle.perfdata_base.specs.Section.{section_entry_of, ParsesSectionEntry};
 
-use crate::raw::FileOrder;
+use crate::endian::read_u64;
+use crate::raw::{Endianness, FileOrder};
 use crate::source::{Source, read_exact};
 use std::io::Result;
 
@@ -17,13 +19,13 @@ pub struct PerfFileSection {
 }
 
 // The entry at the start of `bytes`.
-pub(crate) fn section_entry_of<T: FileOrder>(bytes: &[u8]) -> PerfFileSection
+pub(crate) fn section_entry_of(endian: Endianness, bytes: &[u8]) -> PerfFileSection
     requires { 16 ≤ length bytes.now }
-    ensures { result ≡ section_entry_of T.number_of bytes.now }
+    ensures { result ≡ section_entry_of (number_in endian) bytes.now }
 {
     PerfFileSection {
-        offset: T::read_u64(bytes),
-        size: T::read_u64(&bytes[8..]),
+        offset: read_u64(endian, bytes),
+        size: read_u64(endian, &bytes[8..]),
     }
 }
 
@@ -41,7 +43,7 @@ impl PerfFileSection {
     {
         let mut bytes = [0u8; 16];
         read_exact(source, &mut bytes)?;
-        Ok(section_entry_of::<T>(&bytes))
+        Ok(section_entry_of(T::ENDIAN, &bytes))
     }
 
     /// Parses a section entry from a source, as `parse_from` does.

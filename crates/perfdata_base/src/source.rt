@@ -422,6 +422,7 @@ pub trait PlacedSource: Source {
 
 impl PlacedSource for Cursor<Vec<u8>> {
     fn seek_to(&mut self, to: SeekFrom) -> Result<u64> {
+        // For the prover.
         let _at = self.position();
         Seek::seek(self, to)
     }
@@ -431,6 +432,7 @@ impl PlacedSource for Cursor<Vec<u8>> {
 
 impl PlacedSource for Cursor<&[u8]> {
     fn seek_to(&mut self, to: SeekFrom) -> Result<u64> {
+        // For the prover.
         let _at = self.position();
         Seek::seek(self, to)
     }

@@ -5,7 +5,7 @@ ghost use Rattle.perfdata_base.specs.PipeHeader.{pipe_header_of, ParsesPipeHeade
 ghost use Rattle.perfdata_base.specs.PipeHeader.{PausesOnlyInExtra};
 
 use crate::endian::read_u64;
-use crate::raw::Endianness;
+use crate::header::endian_by_first_byte;
 use crate::source::{Source, read_exact, skip_up_to};
 use std::io::Result;
 
@@ -28,14 +28,9 @@ fn parse_header(bytes: &[u8]) -> PerfPipeHeader
 {
     let mut magic = [0u8; 8];
     magic.copy_from_slice(&bytes[..8]);
-    let order = if bytes[0] == b'P' {
-        Endianness::LittleEndian
-    } else {
-        Endianness::BigEndian
-    };
     PerfPipeHeader {
         magic,
-        size: read_u64(order, &bytes[8..]),
+        size: read_u64(endian_by_first_byte(bytes), &bytes[8..]),
     }
 }
 
