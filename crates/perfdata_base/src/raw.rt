@@ -349,7 +349,8 @@ impl<'a> RawData<'a> {
     /// `AllocError`, and the bytes of the buffer stay the same.
     pub fn append_to(&self, buffer: &mut Vec<u8>) -> Result<(), AllocError>
         ensures appends { OnOk result (buffer.new.items ≡ buffer.old.items ++ bytes_of self.now) }
-        ensures full { OnErr result (vec_capacity buffer.old < vec_len buffer.old + length (bytes_of self.now)) }
+        ensures full { OnErr result (vec_capacity buffer.old
+            < vec_len buffer.old + length (bytes_of self.now)) }
         ensures unchanged { OnErr result (buffer.new.items ≡ buffer.old.items) }
     {
         let (first, second) = self.as_slices();

@@ -1,5 +1,5 @@
 -- What the calls of a jitdump reader consume from the start of the unread bytes.
-use Rattle.std.proofs.Common.{◌≡◌, ℕ, ◌+◌, ◌-◌, ◌^◌, ◌<◌, ◌≤◌, inl, inr, List, ◌++◌, length, take, drop, slice_range, slice_index, refl, sym, ap, ap₂, ◌∙◌, subst, arith, append_assoc, length-append, None, Some, false}
+use Rattle.std.proofs.Common.{◌≡◌, ℕ, ◌+◌, ◌-◌, ◌^◌, ◌<◌, ◌≤◌, inl, inr, List, ◌++◌, length, take, drop, slice_range, sym, ap, ap₂, ◌∙◌, subst, arith, append_assoc, length-append, None, Some, false}
 use Rattle.std.proofs.lemmas.List.{length-take-le, take-append-drop, drop-take}
 use Rattle.std.proofs.Math.Seq.{drop-append_seam}
 use Rattle.std.specs.declared.io.Error.{Error}

@@ -9,7 +9,7 @@ ghost use Rattle.perfdata_jit.specs.JitHeader.{IsTruncatedAfterMagic, IsJitHeade
 ghost use Rattle.perfdata_jit.specs.JitHeader.{header_after_magic, jit_magic_of};
 
 use crate::error::JitDumpError;
-use byteorder::{BigEndian, LittleEndian};
+use perfdata_base::endian::{read_u32, read_u64};
 use perfdata_base::raw::{Endianness, FileOrder, RawData};
 use std::io;
 
@@ -56,18 +56,18 @@ pub fn endian_of_magic(magic: &[u8; 4]) -> Option<Endianness>
 }
 
 // The header with this magic and these 36 bytes after it.
-fn parse_fields<O: FileOrder>(magic: [u8; 4], rest: &[u8]) -> JitDumpHeader
+fn parse_fields(endian: Endianness, magic: [u8; 4], rest: &[u8]) -> JitDumpHeader
     requires { length rest.now ≡ 36 }
-    ensures { result ≡ header_after_magic O.number_of magic rest.now }
+    ensures { result ≡ header_after_magic (number_in endian) magic rest.now }
 {
     JitDumpHeader {
         magic,
-        version: O::read_u32(rest),
-        total_size: O::read_u32(&rest[4..]),
-        elf_machine_arch: O::read_u32(&rest[8..]),
-        pid: O::read_u32(&rest[16..]),
-        timestamp: O::read_u64(&rest[20..]),
-        flags: O::read_u64(&rest[28..]),
+        version: read_u32(endian, rest),
+        total_size: read_u32(endian, &rest[4..]),
+        elf_machine_arch: read_u32(endian, &rest[8..]),
+        pid: read_u32(endian, &rest[16..]),
+        timestamp: read_u64(endian, &rest[20..]),
+        flags: read_u64(endian, &rest[28..]),
     }
 }
 
@@ -82,12 +82,13 @@ fn parse_after_magic_in(
     ensures error { IfErr result (λ error. IsTruncatedAfterMagic (number_in endian)
         (bytes_of rest.entry) error) }
 {
-    match endian {
-        Endianness::LittleEndian => {
-            JitDumpHeader::parse_after_magic::<LittleEndian>(magic, rest)
-        }
-        Endianness::BigEndian => JitDumpHeader::parse_after_magic::<BigEndian>(magic, rest),
-    }
+    let mut after = rest;
+    let mut fixed = [0u8; SIZE_AFTER_MAGIC];
+    after.read_exact(&mut fixed)?;
+    let header = parse_fields(endian, magic, &fixed);
+    let mut whole = rest;
+    whole.skip(header.total_size.saturating_sub(4) as usize)?;
+    Ok(header)
 }
 
 impl JitDumpHeader {
@@ -151,12 +152,6 @@ impl JitDumpHeader {
         ensures error { IfErr result (λ error. IsTruncatedAfterMagic O.number_of
             (bytes_of bytes.entry) error) }
     {
-        let mut rest = bytes;
-        let mut fixed = [0u8; SIZE_AFTER_MAGIC];
-        rest.read_exact(&mut fixed)?;
-        let header = parse_fields::<O>(magic, &fixed);
-        let mut whole = bytes;
-        whole.skip(header.total_size.saturating_sub(4) as usize)?;
-        Ok(header)
+        parse_after_magic_in(O::ENDIAN, magic, bytes)
     }
 }

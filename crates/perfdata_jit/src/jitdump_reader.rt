@@ -58,7 +58,7 @@ pub struct JitDumpReader<R> {
     offset: u64,
 }
 
-// Copies a record header.
+// Copies a record header. For the prover, which knows the copy's length.
 fn copy_header(bytes: &[u8; JitDumpRecordHeader::SIZE]) -> [u8; JitDumpRecordHeader::SIZE]
     ensures same { result ≡ bytes.now }
     ensures long { length result ≡ 16 }

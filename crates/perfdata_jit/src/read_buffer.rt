@@ -35,20 +35,6 @@ pub(crate) struct Span {
     ring_front: usize,
 }
 
-// The bytes of two slices. An empty slice is omitted.
-fn join<'a>(first: &'a [u8], second: &'a [u8]) -> RawData<'a>
-    ensures bytes { bytes_of result ≡ first.now ++ second.now }
-    ensures single { (length first.now ≡ 0) ⊎ (length second.now ≡ 0) → IsSingle result }
-{
-    if first.is_empty() {
-        RawData::Single(second)
-    } else if second.is_empty() {
-        RawData::Single(first)
-    } else {
-        RawData::Split(first, second)
-    }
-}
-
 impl ReadBuffer {
     ghost use Rattle.perfdata_jit.specs.contracts.read_buffer.ReadBuffer.{the_row};
     ghost use Rattle.perfdata_jit.specs.ReadBuffer.{ConsumesPrefix, IsContiguous, IsSpanSingle, IsSpanWithin};
@@ -159,7 +145,6 @@ impl ReadBuffer {
         if buffered_len == self.ring.size() {
             return self.spill_ring();
         }
-        let _overflow = self.overflow.len();
         Ok(())
     }
 
@@ -214,9 +199,9 @@ impl ReadBuffer {
     {
         let main = self.ring.range(span.ring_start, span.ring_end);
         if span.ring_front > 0 {
-            join(main, self.ring.range(0, span.ring_front))
+            RawData::join(main, self.ring.range(0, span.ring_front))
         } else {
-            join(&self.overflow[span.overflow_from..span.overflow_to], main)
+            RawData::join(&self.overflow[span.overflow_from..span.overflow_to], main)
         }
     }
 

@@ -12,7 +12,7 @@ ghost use Rattle.perfdata_jit.specs.JitRecords.{IsLoadError, IsUnwindingError, I
 ghost use Rattle.perfdata_jit.specs.JitRecords.{IsDebugEntriesError, ReadsDebugEntries, move_of};
 
 use crate::record::JitDumpRecordHeader;
-use byteorder::{BigEndian, LittleEndian};
+use perfdata_base::endian::{read_u32, read_u64};
 use perfdata_base::raw::{Endianness, FileOrder, RawData};
 use perfdata_base::source::unexpected_eof;
 use std::alloc::Global;
@@ -117,17 +117,6 @@ impl<'a> JitCodeLoadRecord<'a> {
         ensures value { IfOk result (λ load. IsLoad (number_in endian) (bytes_of bytes.entry) load) }
         ensures error { IfErr result (λ error. IsLoadError (number_in endian) (bytes_of bytes.entry) error) }
     {
-        match endian {
-            Endianness::LittleEndian => JitCodeLoadRecord::parse_impl::<LittleEndian>(bytes),
-            Endianness::BigEndian => JitCodeLoadRecord::parse_impl::<BigEndian>(bytes),
-        }
-    }
-
-    /// Parses a body as `parse` does, in the byte order `O`.
-    pub fn parse_impl<O: FileOrder>(bytes: RawData<'a>) -> Result<JitCodeLoadRecord<'a>>
-        ensures value { IfOk result (λ load. IsLoad O.number_of (bytes_of bytes.entry) load) }
-        ensures error { IfErr result (λ error. IsLoadError O.number_of (bytes_of bytes.entry) error) }
-    {
         let mut rest = bytes;
         let mut fixed = [0u8; LOAD_FIXED_SIZE];
         rest.read_exact(&mut fixed)?;
@@ -135,17 +124,25 @@ impl<'a> JitCodeLoadRecord<'a> {
             Some(name) => name,
             None => return Err(unexpected_eof()),
         };
-        let code_size = O::read_u64(&fixed[24..]);
+        let code_size = read_u64(endian, &fixed[24..]);
         let code_bytes = rest.split_off_prefix(code_size as usize)?;
         Ok(JitCodeLoadRecord {
-            pid: O::read_u32(&fixed),
-            tid: O::read_u32(&fixed[4..]),
-            vma: O::read_u64(&fixed[8..]),
-            code_addr: O::read_u64(&fixed[16..]),
-            code_index: O::read_u64(&fixed[32..]),
+            pid: read_u32(endian, &fixed),
+            tid: read_u32(endian, &fixed[4..]),
+            vma: read_u64(endian, &fixed[8..]),
+            code_addr: read_u64(endian, &fixed[16..]),
+            code_index: read_u64(endian, &fixed[32..]),
             function_name,
             code_bytes,
         })
+    }
+
+    /// Parses a body as `parse` does, in the byte order `O`.
+    pub fn parse_impl<O: FileOrder>(bytes: RawData<'a>) -> Result<JitCodeLoadRecord<'a>>
+        ensures value { IfOk result (λ load. IsLoad O.number_of (bytes_of bytes.entry) load) }
+        ensures error { IfErr result (λ error. IsLoadError O.number_of (bytes_of bytes.entry) error) }
+    {
+        JitCodeLoadRecord::parse(O::ENDIAN, bytes)
     }
 
     /// Returns the offset of the code from the start of the record header, in bytes. It depends on the length
@@ -174,10 +171,18 @@ impl JitCodeMoveRecord {
         ensures value { IfOk result (λ moved. moved ≡ move_of (number_in endian) (bytes_of bytes.entry)) }
         ensures error { IfErr result (λ error. EndsBefore 48 (bytes_of bytes.entry) error) }
     {
-        match endian {
-            Endianness::LittleEndian => JitCodeMoveRecord::parse_impl::<LittleEndian>(bytes),
-            Endianness::BigEndian => JitCodeMoveRecord::parse_impl::<BigEndian>(bytes),
-        }
+        let mut rest = bytes;
+        let mut body = [0u8; MOVE_SIZE];
+        rest.read_exact(&mut body)?;
+        Ok(JitCodeMoveRecord {
+            pid: read_u32(endian, &body),
+            tid: read_u32(endian, &body[4..]),
+            vma: read_u64(endian, &body[8..]),
+            old_code_addr: read_u64(endian, &body[16..]),
+            new_code_addr: read_u64(endian, &body[24..]),
+            code_size: read_u64(endian, &body[32..]),
+            code_index: read_u64(endian, &body[40..]),
+        })
     }
 
     /// Parses a body as `parse` does, in the byte order `O`.
@@ -186,24 +191,13 @@ impl JitCodeMoveRecord {
         ensures value { IfOk result (λ moved. moved ≡ move_of O.number_of (bytes_of bytes.entry)) }
         ensures error { IfErr result (λ error. EndsBefore 48 (bytes_of bytes.entry) error) }
     {
-        let mut rest = bytes;
-        let mut body = [0u8; MOVE_SIZE];
-        rest.read_exact(&mut body)?;
-        Ok(JitCodeMoveRecord {
-            pid: O::read_u32(&body),
-            tid: O::read_u32(&body[4..]),
-            vma: O::read_u64(&body[8..]),
-            old_code_addr: O::read_u64(&body[16..]),
-            new_code_addr: O::read_u64(&body[24..]),
-            code_size: O::read_u64(&body[32..]),
-            code_index: O::read_u64(&body[40..]),
-        })
+        JitCodeMoveRecord::parse(O::ENDIAN, bytes)
     }
 }
 
 // Parses the entry at the start of the bytes and removes it from them.
-fn read_entry<'a, O: FileOrder>(bytes: &mut RawData<'a>) -> Result<JitCodeDebugInfoEntry<'a>>
-    ensures value { IfOk result (λ entry. IsDebugEntry O.number_of (bytes_of bytes.old) entry
+fn read_entry<'a>(endian: Endianness, bytes: &mut RawData<'a>) -> Result<JitCodeDebugInfoEntry<'a>>
+    ensures value { IfOk result (λ entry. IsDebugEntry (number_in endian) (bytes_of bytes.old) entry
         (bytes_of bytes.new)) }
     ensures error { IfErr result (λ error. (error_kind error ≡ UnexpectedEof)
         × IsTruncatedDebugEntry (bytes_of bytes.old)) }
@@ -215,27 +209,29 @@ fn read_entry<'a, O: FileOrder>(bytes: &mut RawData<'a>) -> Result<JitCodeDebugI
         None => return Err(unexpected_eof()),
     };
     Ok(JitCodeDebugInfoEntry {
-        code_addr: O::read_u64(&fixed),
-        line: O::read_u32(&fixed[8..]),
-        column: O::read_u32(&fixed[12..]),
+        code_addr: read_u64(endian, &fixed),
+        line: read_u32(endian, &fixed[8..]),
+        column: read_u32(endian, &fixed[12..]),
         file_path,
     })
 }
 
 // Parses `count` entries at the start of the bytes and removes them. The count comes from the file, and no
 // memory is reserved for it in advance.
-fn read_entries<'a, O: FileOrder>(
+fn read_entries<'a>(
     alloc: Global,
+    endian: Endianness,
     count: u64,
     bytes: &mut RawData<'a>,
 ) -> Result<Vec<JitCodeDebugInfoEntry<'a>>>
-    ensures value { IfOk result (λ entries. ReadsDebugEntries O.number_of count
+    ensures value { IfOk result (λ entries. ReadsDebugEntries (number_in endian) count
         (bytes_of bytes.old) entries.items (bytes_of bytes.new)) }
-    ensures error { IfErr result (λ error. IsDebugEntriesError O.number_of count (bytes_of bytes.old) error) }
+    ensures error { IfErr result (λ error. IsDebugEntriesError (number_in endian) count
+        (bytes_of bytes.old) error) }
 {
     let mut entries = Vec::new(alloc);
     'entries: for _index in 0..count {
-        let entry = read_entry::<O>(bytes)?;
+        let entry = read_entry(endian, bytes)?;
         entries.push(entry)?;
     }
     Ok(entries)
@@ -258,12 +254,14 @@ impl<'a> JitCodeDebugInfoRecord<'a> {
         ensures error { IfErr result (λ error. IsDebugInfoError (number_in endian)
             (bytes_of bytes.entry) error) }
     {
-        match endian {
-            Endianness::LittleEndian => {
-                JitCodeDebugInfoRecord::parse_impl::<LittleEndian>(alloc, bytes)
-            }
-            Endianness::BigEndian => JitCodeDebugInfoRecord::parse_impl::<BigEndian>(alloc, bytes),
-        }
+        let mut rest = bytes;
+        let mut fixed = [0u8; DEBUG_INFO_FIXED_SIZE];
+        rest.read_exact(&mut fixed)?;
+        let entries = read_entries(alloc, endian, read_u64(endian, &fixed[8..]), &mut rest)?;
+        Ok(JitCodeDebugInfoRecord {
+            code_addr: read_u64(endian, &fixed),
+            entries,
+        })
     }
 
     /// Parses a body as `parse` does, in the byte order `O`.
@@ -274,14 +272,7 @@ impl<'a> JitCodeDebugInfoRecord<'a> {
         ensures value { IfOk result (λ info. IsDebugInfo O.number_of (bytes_of bytes.entry) info) }
         ensures error { IfErr result (λ error. IsDebugInfoError O.number_of (bytes_of bytes.entry) error) }
     {
-        let mut rest = bytes;
-        let mut fixed = [0u8; DEBUG_INFO_FIXED_SIZE];
-        rest.read_exact(&mut fixed)?;
-        let entries = read_entries::<O>(alloc, O::read_u64(&fixed[8..]), &mut rest)?;
-        Ok(JitCodeDebugInfoRecord {
-            code_addr: O::read_u64(&fixed),
-            entries,
-        })
+        JitCodeDebugInfoRecord::parse(alloc, O::ENDIAN, bytes)
     }
 
     /// Returns the last entry with the greatest address that is not above `addr`, or `None` if all addresses
@@ -314,12 +305,16 @@ impl<'a> JitCodeUnwindingInfoRecord<'a> {
         ensures error { IfErr result (λ error. IsUnwindingError (number_in endian)
             (bytes_of bytes.entry) error) }
     {
-        match endian {
-            Endianness::LittleEndian => {
-                JitCodeUnwindingInfoRecord::parse_impl::<LittleEndian>(bytes)
-            }
-            Endianness::BigEndian => JitCodeUnwindingInfoRecord::parse_impl::<BigEndian>(bytes),
-        }
+        let mut rest = bytes;
+        let mut fixed = [0u8; UNWINDING_FIXED_SIZE];
+        rest.read_exact(&mut fixed)?;
+        let mut unwinding = rest.split_off_prefix(read_u64(endian, &fixed) as usize)?;
+        let eh_frame_hdr = unwinding.split_off_prefix(read_u64(endian, &fixed[8..]) as usize)?;
+        Ok(JitCodeUnwindingInfoRecord {
+            mapped_size: read_u64(endian, &fixed[16..]),
+            eh_frame_hdr,
+            eh_frame: unwinding,
+        })
     }
 
     /// Parses a body as `parse` does, in the byte order `O`.
@@ -327,15 +322,6 @@ impl<'a> JitCodeUnwindingInfoRecord<'a> {
         ensures value { IfOk result (λ unwinding. IsUnwinding O.number_of (bytes_of bytes.entry) unwinding) }
         ensures error { IfErr result (λ error. IsUnwindingError O.number_of (bytes_of bytes.entry) error) }
     {
-        let mut rest = bytes;
-        let mut fixed = [0u8; UNWINDING_FIXED_SIZE];
-        rest.read_exact(&mut fixed)?;
-        let mut unwinding = rest.split_off_prefix(O::read_u64(&fixed) as usize)?;
-        let eh_frame_hdr = unwinding.split_off_prefix(O::read_u64(&fixed[8..]) as usize)?;
-        Ok(JitCodeUnwindingInfoRecord {
-            mapped_size: O::read_u64(&fixed[16..]),
-            eh_frame_hdr,
-            eh_frame: unwinding,
-        })
+        JitCodeUnwindingInfoRecord::parse(O::ENDIAN, bytes)
     }
 }

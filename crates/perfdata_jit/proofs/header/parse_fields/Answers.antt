@@ -2,7 +2,7 @@ use Rattle.std.proofs.lemmas.List.{take_rest}
 use Rattle.perfdata_jit.proofs.header.parse_fields.Goals as goal
 
 pub returns : goal.returns
-returns g c =
+returns c =
     let size = rw take_rest at c.read_u32-2.ensures in
     let machine = rw take_rest at c.read_u32-3.ensures in
     let process = rw take_rest at c.read_u32-4.ensures in

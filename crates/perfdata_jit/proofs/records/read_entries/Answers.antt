@@ -1,13 +1,14 @@
 use Rattle.std.proofs.Common.{arith, inr, ◌+◌, ◌++◌, ◌∷◌, [], length, length-append, sym, ap, ◌∙◌, subst}
 use Rattle.std.proofs.lemmas.Result.{err_from_is_err_and}
+use Rattle.perfdata_base.specs.Endian.{number_in}
 use Rattle.perfdata_base.specs.Raw.{bytes_of}
 use Rattle.perfdata_jit.specs.JitRecords.{AreDebugEntries}
 use Rattle.perfdata_jit.proofs.Entries.{entries_more}
 use Rattle.perfdata_jit.proofs.records.read_entries.Goals as goal
 
 pub entries-preserved : goal.entries-preserved
-entries-preserved g c =
-    let number = g.O.ByteOrder.number_of in
+entries-preserved c =
+    let number = number_in c.args.endian in
     let before = c.entries.invariant in
     let pushed = c.in_ok-push.ensures.items in
     let rest = bytes_of c.read_entry.new.bytes in
@@ -18,8 +19,8 @@ entries-preserved g c =
     }
 
 pub returns-in_err-push-clause-error : goal.returns-in_err-push-clause-error
-returns-in_err-push-clause-error g c =
-    let number = g.O.ByteOrder.number_of in
+returns-in_err-push-clause-error c =
+    let number = number_in c.args.endian in
     let before = c.entries.invariant in
     let long = length-append c.entries.entries.items (c.in_ok-entry.entry ∷ []) in
     let count = before.exact_len in

@@ -1,12 +1,14 @@
 use Rattle.std.proofs.Common.{arith, sym, ◌∙◌}
+use Rattle.perfdata_base.specs.Endian.{number_in}
 use Rattle.perfdata_base.specs.Raw.{bytes_of}
+use Rattle.perfdata_base.proofs.Numbers.{in_reads_first}
 use Rattle.perfdata_jit.proofs.Fields.{number_at, number_within}
 use Rattle.perfdata_jit.proofs.records.read_entry.Goals as goal
 
 pub returns-clause-value : goal.returns-clause-value
-returns-clause-value g c =
-    let number = g.O.ByteOrder.number_of in
-    let first = g.met.O.ByteOrder.reads_first in
+returns-clause-value c =
+    let number = number_in c.args.endian in
+    let first = in_reads_first c.args.endian in
     let xs = bytes_of c.args.bytes.now in
     let fixed = c.read_exact.new.buf in
     let is = c.in_ok-read_exact.ensures.read in

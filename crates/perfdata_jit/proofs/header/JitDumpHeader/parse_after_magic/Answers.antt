@@ -1,16 +1,12 @@
-use Rattle.std.proofs.Common.{arith}
-use Rattle.std.proofs.lemmas.Result.{err_from_is_err_and}
+use Rattle.std.proofs.Common.{subst}
+use Rattle.std.specs.Prelude.{IfErr, IfOk}
 use Rattle.perfdata_base.specs.Raw.{bytes_of}
-use Rattle.perfdata_jit.proofs.JitHeaders.{header_whole, header_truncated}
+use Rattle.perfdata_base.proofs.Numbers.{same_number}
+use Rattle.perfdata_jit.specs.JitHeader.{IsHeaderAfterMagic, IsTruncatedAfterMagic}
 use Rattle.perfdata_jit.proofs.header.JitDumpHeader.parse_after_magic.Goals as goal
 
 pub returns-clause-value : goal.returns-clause-value
-returns-clause-value g c =
-    header_whole g.O.ByteOrder.number_of g.met.O.ByteOrder.reads_first c.args.magic (bytes_of c.args.bytes) c.read_exact.new.buf c.parse_fields-header.result
-    c.in_ok-read_exact.ensures.rest.enough c.in_ok-read_exact.ensures.read c.parse_fields-header.ensures (omega (arith, c.saturating_sub.ensures, c.in_ok-skip.ensures.rest.enough))
+returns-clause-value g c = subst (λ number. IfOk c.parse_after_magic_in.result (λ header. IsHeaderAfterMagic number c.args.magic (bytes_of c.args.bytes) header)) (same_number g.O.ByteOrder.number_of c.ENDIAN.result _ c.ENDIAN.ensures g.met.O.FileOrder.reads_by) c.parse_after_magic_in.ensures.value
 
-pub returns-in_err-skip-clause-error : goal.returns-in_err-skip-clause-error
-returns-in_err-skip-clause-error g c =
-    let p = err_from_is_err_and c.from_residual-in_err-skip.result c.from_residual-in_err-skip.ensures.1 in
-    rw (p.1, p.2) (header_truncated g.O.ByteOrder.number_of g.met.O.ByteOrder.reads_first c.args.magic (bytes_of c.args.bytes) c.read_exact.new.buf c.parse_fields-header.result
-    c.in_ok-read_exact.ensures.rest.enough c.in_ok-read_exact.ensures.read c.parse_fields-header.ensures _ (omega (arith, c.saturating_sub.ensures, c.in_err-skip.ensures.too_short.too_few)) c.in_err-skip.ensures.too_short.kind)
+pub returns-clause-error : goal.returns-clause-error
+returns-clause-error g c = subst (λ number. IfErr c.parse_after_magic_in.result (λ error. IsTruncatedAfterMagic number (bytes_of c.args.bytes) error)) (same_number g.O.ByteOrder.number_of c.ENDIAN.result _ c.ENDIAN.ensures g.met.O.FileOrder.reads_by) c.parse_after_magic_in.ensures.error

@@ -1,21 +1,9 @@
-use Rattle.std.proofs.Common.{arith, ◌∙◌}
+use Rattle.std.proofs.Common.{◌≡◌, subst}
+use Rattle.std.specs.Prelude.{IfOk}
 use Rattle.perfdata_base.specs.Raw.{bytes_of}
-use Rattle.perfdata_jit.proofs.Fields.{number_at, number_within}
+use Rattle.perfdata_base.proofs.Numbers.{same_number}
+use Rattle.perfdata_jit.specs.JitRecords.{move_of}
 use Rattle.perfdata_jit.proofs.records.JitCodeMoveRecord.parse_impl.Goals as goal
 
 pub returns-clause-value : goal.returns-clause-value
-returns-clause-value g c =
-    let number = g.O.ByteOrder.number_of in
-    let first = g.met.O.ByteOrder.reads_first in
-    let xs = bytes_of c.args.bytes in
-    let fixed = c.read_exact.new.buf in
-    let is = c.in_ok-read_exact.ensures.read in
-    let long = c.in_ok-read_exact.ensures.rest.enough in
-    let process = c.read_u32.ensures ∙ number_at number first 4 0 48 xs fixed is long (omega arith) in
-    let thread = c.read_u32-2.ensures ∙ number_within number first 4 4 44 48 xs fixed is long (omega arith) (omega arith) in
-    let mapping = c.read_u64.ensures ∙ number_within number first 8 8 40 48 xs fixed is long (omega arith) (omega arith) in
-    let old = c.read_u64-2.ensures ∙ number_within number first 8 16 32 48 xs fixed is long (omega arith) (omega arith) in
-    let new = c.read_u64-3.ensures ∙ number_within number first 8 24 24 48 xs fixed is long (omega arith) (omega arith) in
-    let size = c.read_u64-4.ensures ∙ number_within number first 8 32 16 48 xs fixed is long (omega arith) (omega arith) in
-    let index = c.read_u64-5.ensures ∙ number_within number first 8 40 8 48 xs fixed is long (omega arith) (omega arith) in
-    λ i. record { pid = process i; tid = thread i; vma = mapping i; old_code_addr = old i; new_code_addr = new i; code_size = size i; code_index = index i }
+returns-clause-value g c = subst (λ number. IfOk c.parse.result (λ moved. moved ≡ move_of number (bytes_of c.args.bytes))) (same_number g.O.ByteOrder.number_of c.ENDIAN.result _ c.ENDIAN.ensures g.met.O.FileOrder.reads_by) c.parse.ensures.value

@@ -1,4 +1,4 @@
-use Rattle.std.proofs.Common.{◌-◌, slice_range, arith, refl}
+use Rattle.std.proofs.Common.{◌-◌, slice_range, arith}
 use Rattle.perfdata_jit.proofs.BufferRanges.{main_drops, both_consumed, both_dropped, length_range}
 use Rattle.perfdata_jit.proofs.Contiguous.{ring_main_left, ring_prefix_left, ring_single}
 use Rattle.perfdata_jit.proofs.ring.Ring.advance.Goals as goal
