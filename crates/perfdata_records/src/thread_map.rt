@@ -7,7 +7,7 @@ ghost use Rattle.perfdata_base.specs.Endian.{number_in};
 ghost use Rattle.perfdata_sections.specs.HeaderString.{before_nul};
 ghost use Rattle.perfdata_records.specs.Thread.{thread_at, thread_of};
 
-use byteorder::{BigEndian, LittleEndian};
+use perfdata_base::endian::read_u64;
 use perfdata_base::raw::{Endianness, FileOrder, RawData};
 use std::alloc::AllocError;
 use std::io::{Error, ErrorKind, Result};
@@ -118,10 +118,9 @@ fn read_u64_in(endian: Endianness, bytes: &mut RawData<'_>) -> Result<u64>
     ensures rest { OnOk result (DropsPrefix 8 bytes.old bytes.new) }
     ensures too_short { IfErr result (λ error. EndsBefore 8 (bytes_of bytes.old) error) }
 {
-    match endian {
-        Endianness::LittleEndian => bytes.read_u64::<LittleEndian>(),
-        Endianness::BigEndian => bytes.read_u64::<BigEndian>(),
-    }
+    let mut number = [0u8; 8];
+    bytes.read_exact(&mut number)?;
+    Ok(read_u64(endian, &number))
 }
 
 // Returns the bytes before the first NUL, or all bytes if there is none.

@@ -8,4 +8,3 @@ pub mod Entries
 pub mod Events
 pub mod EventPrefixes
 pub mod EventErrors
-pub mod FileOrders
