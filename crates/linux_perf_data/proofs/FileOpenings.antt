@@ -7,7 +7,7 @@ use Rattle.std.proofs.Math.Seq.{take-append_seam}
 use Rattle.perfdata_base.specs.Source.{State, Position, RemainsFromPosition, AfterSeek, SourceFailed, ReadExactError, at_offset, all_bytes_of, remaining_from, prepend}
 use Rattle.perfdata_base.specs.Section.{EndFitsU64}
 use Rattle.perfdata_base.proofs.ReadErrors.{after_seek_more, failed_after_seek, paused_after_seek, none_or_paused, all_read}
-use Rattle.perfdata_base.specs.Header.{file_header_of, BeginsWithFileHeader, FileHeaderParsed, ExtraSkipError, FileHeaderParseError}
+use Rattle.perfdata_base.specs.Header.{file_header_of, BeginsWithFileHeader, FileHeaderParsed, ExtraSkipError, FileHeaderParseError, magic_of}
 use Rattle.perfdata_base.specs.declared.raw.Endianness.{Endianness}
 use Rattle.perfdata_base.specs.declared.header.PerfHeader.{PerfHeader}
 use Rattle.linux_perf_data.specs.Attribute.{Inconsistency, AreInconsistent, AreConsistent}
@@ -24,7 +24,7 @@ use Rattle.perfdata_base.specs.declared.features.Feature.{Feature}
 use Rattle.perfdata_sections.specs.Error.{IsIoError}
 use Rattle.linux_perf_data.specs.FeatureData.{ReadsFeatures, SectionsTruncated, SourceErrorInBytes, feature_data_of}
 use Rattle.linux_perf_data.specs.declared.file.opening.FileOpening.{FileOpening}
-use Rattle.linux_perf_data.specs.FileOpening.{table_offset, HoldsSections, section_data, attribute_sources_of, DescribesAttributes, IsAttributesError, OpenAfterHeaderError, IsErrorAfterHeader, SourceErrorInOpening, HasHeader, IsFileError, FileOpenError, FileOpened, OpenedFileAt, OpenedAfterHeader, OpensAfterHeader, OpensPerfFile, magic_of}
+use Rattle.linux_perf_data.specs.FileOpening.{table_offset, HoldsSections, section_data, attribute_sources_of, DescribesAttributes, IsAttributesError, OpenAfterHeaderError, IsErrorAfterHeader, SourceErrorInOpening, HasHeader, IsFileError, FileOpenError, FileOpened, OpenedFileAt, OpenedAfterHeader, OpensAfterHeader, OpensPerfFile}
 use Rattle.linux_perf_data.specs.FeatureNumbers.{event_desc, simpleperf_meta_info}
 use Rattle.linux_perf_data.specs.NamedErrors.{IsFileOpeningError}
 use Rattle.linux_perf_data.proofs.NamedErrors.{file_bytes, file_inconsistency, file_io}

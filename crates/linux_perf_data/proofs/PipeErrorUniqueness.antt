@@ -13,7 +13,7 @@ use Rattle.linux_perf_data.specs.Attribute.{AreInconsistent}
 use Rattle.linux_perf_data.specs.LateMetadata.{IsMetadataError}
 use Rattle.linux_perf_data.specs.Laws.{SameCause, PipeErrorIsUnique}
 use Rattle.linux_perf_data.specs.Layout.{StartsWithRecord, attributes_in_records, record_type_of, record_size_of}
-use Rattle.linux_perf_data.specs.FileOpening.{magic_of}
+use Rattle.perfdata_base.specs.Header.{magic_of}
 use Rattle.linux_perf_data.specs.PipeOpening.{IsPipeHeader, IsMetadataRecord, EndsMetadata, IsMetadataRecordError, IsMetadataListError, IsMetadataReadError, IsErrorAfterPipeHeader}
 use Rattle.linux_perf_data.specs.Consistency.{error_of_inconsistency}
 use Rattle.linux_perf_data.proofs.RecordHeaders.{size_first_part, size_in_total_size, record_least, same_prefix}

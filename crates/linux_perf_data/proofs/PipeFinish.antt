@@ -7,7 +7,7 @@ use Rattle.std.proofs.lemmas.List.{take-append-le}
 use Rattle.perfdata_base.specs.Source.{State}
 use Rattle.perfdata_base.proofs.ConsumedLemmas.{consumed_more}
 use Rattle.perfdata_base.specs.Features.{HasFeature}
-use Rattle.perfdata_base.specs.Header.{endian_by_first_byte}
+use Rattle.perfdata_base.specs.Header.{endian_by_first_byte, magic_of}
 use Rattle.perfdata_base.specs.Endian.{number_in}
 use Rattle.perfdata_base.specs.PipeHeader.{PipeHeaderWithExtraParsed, pipe_header_of}
 use Rattle.perfdata_base.specs.declared.header.pipe.PerfPipeHeader.{PerfPipeHeader}
@@ -24,7 +24,7 @@ use Rattle.linux_perf_data.specs.Layout.{record_type_of, record_size_of}
 use Rattle.linux_perf_data.specs.NameTable.{IsNamesError}
 use Rattle.linux_perf_data.specs.FeatureNumbers.{event_desc}
 use Rattle.linux_perf_data.specs.Names.{IsReadableOrAbsent, NamedByEventDesc, IsReadableEventDesc}
-use Rattle.linux_perf_data.specs.FileOpening.{RecognizesMagic, magic_of}
+use Rattle.linux_perf_data.specs.FileOpening.{RecognizesMagic}
 use Rattle.linux_perf_data.specs.PipeOpening.{MetadataEnded, HoldsPipeMetadata, IsPipeHeader, PipeOpened, OpensPerfPipe, FailsBy, IsMetadataReadError, IsPipeError, IsMetadataListError, OpeningRead, IsErrorCauseFor}
 use Rattle.linux_perf_data.specs.PipeSteps.{OpeningFinished, FinishesOpening, OpensAfterPipeHeader, IsFinishError, CollectsMetadata, MetadataRead}
 use Rattle.linux_perf_data.specs.Consistency.{error_of_inconsistency}

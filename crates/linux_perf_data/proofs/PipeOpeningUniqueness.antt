@@ -13,7 +13,7 @@ use Rattle.perfdata_base.proofs.Numbers.{number_drop_prefix}
 use Rattle.perfdata_sections.specs.declared.error.Error.{Error}
 use Rattle.linux_perf_data.specs.LateMetadata.{IsMetadataType, IsMetadataError}
 use Rattle.linux_perf_data.specs.Layout.{attributes_in_records, record_type_of}
-use Rattle.linux_perf_data.specs.FileOpening.{magic_of}
+use Rattle.perfdata_base.specs.Header.{magic_of}
 use Rattle.linux_perf_data.specs.PipeOpening.{IsPipeHeader, IsMetadataRecord, AreMetadata, EndsMetadata, IsMetadataRecordError, IsMetadataListError, IsMetadataReadError, IsPipeError, CanOpenPipe}
 use Rattle.linux_perf_data.proofs.RecordHeaders.{record_type_prefix, size_first_part, size_in_total_size, record_least, same_prefix}
 use Rattle.linux_perf_data.proofs.EventDescNames.{error_or_readable}

@@ -1,10 +1,9 @@
 -- The metadata of a perf.data file, and the first error in opening it.
-use Rattle.std.specs.Prelude.{◌≡◌, ◌≢◌, ℕ, ◌+◌, ◌^◌, ◌<◌, ◌≤◌, ◌⊎◌, List, [], length, take, drop, codes, Option, Result, Ok, Err, Some, IfSome}
+use Rattle.std.specs.Prelude.{◌≡◌, ◌≢◌, ℕ, ◌+◌, ◌^◌, ◌<◌, ◌≤◌, ◌⊎◌, List, [], length, take, drop, Option, Result, Ok, Err, Some, IfSome}
 use Rattle.perfdata_base.specs.Source.{State, Position, AfterSeek, at_offset, all_bytes_of}
 use Rattle.perfdata_base.specs.Section.{EndFitsU64, EndOverflowsU64}
-use Rattle.perfdata_base.specs.Header.{file_header_of}
+use Rattle.perfdata_base.specs.Header.{file_header_of, magic_of}
 use Rattle.perfdata_base.specs.declared.raw.Endianness.{Endianness}
-use Rattle.perfdata_base.specs.declared.raw.Endianness.TheVariants.{LittleEndian, BigEndian}
 use Rattle.perfdata_base.specs.declared.header.PerfHeader.{PerfHeader}
 use Rattle.perfdata_sections.specs.Error.{IsUnexpectedEof, IsInvalidInput}
 use Rattle.perfdata_sections.specs.AttrFrames.{IsAttributesSourceError}
@@ -21,11 +20,6 @@ use Rattle.linux_perf_data.specs.FeatureNumbers.{simpleperf_meta_info, event_des
 use Rattle.linux_perf_data.specs.FeatureData.{HoldsAllSections, SectionsTruncated, feature_table_of, feature_data_by, feature_data_of}
 use Rattle.linux_perf_data.specs.NamedErrors.{IsFileOpeningError}
 use Rattle.linux_perf_data.specs.declared.file.opening.FileOpening.{FileOpening}
-
--- The magic value of a byte order.
-abbrev pub magic_of : Endianness → List ℕ
-magic_of LittleEndian = codes "PERFILE2"
-magic_of BigEndian = codes "2ELIFREP"
 
 abbrev pub RecognizesMagic : List ℕ → Result Endianness Error → Type 0
 RecognizesMagic magic (Ok order) = magic ≡ magic_of order

@@ -16,7 +16,8 @@ use Rattle.perfdata_sections.specs.declared.error.Error.{Error}
 use Rattle.perfdata_sections.specs.declared.error.Error.TheVariants.{UnrecognizedMagicValue}
 use Rattle.perfdata_sections.specs.declared.feature_sections.AttributeDescription.{AttributeDescription}
 use Rattle.linux_perf_data.specs.Names.{IsReadableEventDesc, NamedByEventDesc}
-use Rattle.linux_perf_data.specs.FileOpening.{magic_of, HasHeader, CanSkipExtra, IsFileError}
+use Rattle.perfdata_base.specs.Header.{magic_of}
+use Rattle.linux_perf_data.specs.FileOpening.{HasHeader, CanSkipExtra, IsFileError}
 use Rattle.linux_perf_data.specs.OpenedFile.{DescribesFile}
 use Rattle.linux_perf_data.specs.PerfFile.{descriptions_of_file, features_of_file, endian_of_file, feature_data_in_file}
 use Rattle.linux_perf_data.specs.PipeOpening.{IsPipeHeader, AreMetadata, EndsMetadata, CanOpenPipe, IsPipeError}

@@ -19,7 +19,7 @@ use Rattle.linux_perf_data.specs.LateMetadata.{IsMetadataType, IsMetadataError, 
 use Rattle.linux_perf_data.specs.Layout.{IsRecord, StartsWithRecord, HasRecordHeader, attributes_in_records, record_type_of, record_size_of}
 use Rattle.linux_perf_data.specs.FeatureNumbers.{event_desc}
 use Rattle.linux_perf_data.specs.Names.{NamedByEventDesc, IsReadableEventDesc}
-use Rattle.linux_perf_data.specs.FileOpening.{magic_of}
+use Rattle.perfdata_base.specs.Header.{magic_of}
 use Rattle.linux_perf_data.specs.Consistency.{error_of_inconsistency}
 use Rattle.linux_perf_data.specs.FeatureData.{feature_data_of}
 use Rattle.linux_perf_data.specs.declared.pipe.pipe_opening.PipeOpening.{PipeOpening}

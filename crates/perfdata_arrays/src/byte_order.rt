@@ -3,11 +3,17 @@ ghost use Rattle.std.specs.Prelude.{◌≡◌};
 ghost use Rattle.std.specs.Bool.{nat_eq};
 ghost use Rattle.std.specs.List.{starts_with};
 ghost use Rattle.perfdata_base.specs.declared.raw.Endianness.TheVariants.{BigEndian};
-ghost use Rattle.linux_perf_data.specs.FileOpening.{magic_of};
+ghost use Rattle.perfdata_base.specs.Header.{magic_of};
+
+use perfdata_base::header::endian_of_magic;
+use perfdata_base::raw::Endianness;
 
 /// Returns whether the numbers of a perf.data file or pipe are big-endian, by its magic.
 pub fn is_big_endian(bytes: &[u8]) -> bool
     ensures { result ≡ starts_with nat_eq bytes.now (magic_of BigEndian) }
 {
-    bytes.starts_with(b"2ELIFREP")
+    match bytes.first_chunk::<8>() {
+        Some(magic) => matches!(endian_of_magic(magic), Some(Endianness::BigEndian)),
+        None => false,
+    }
 }

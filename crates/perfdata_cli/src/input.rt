@@ -6,7 +6,10 @@ ghost use Rattle.perfdata_base.specs.Source.{opaque_source};
 use crate::error::InputError;
 use crate::input_bytes::{InputBytes, Unread};
 use linux_perf_data::in_memory::InMemoryReader;
+use perfdata_base::endian::read_u64;
+use perfdata_base::header::endian_of_magic;
 use perfdata_base::source::CountedBuffer;
+use perfdata_jit::header::endian_of_magic as endian_of_jitdump_magic;
 use std::alloc::Global;
 use std::fs::File;
 use std::io::{BufReader, Cursor, Input as StandardInput, Read, Result, Seek};
@@ -46,21 +49,20 @@ pub enum InputKind {
 /// Returns the header size after the magic value of a perf.data file or pipe, in the byte order of that
 /// value.
 fn header_size(start: &[u8]) -> Option<u64> {
-    let size = start.get(8..16)?.first_chunk::<8>()?;
-    match start.get(..8)? {
-        b"PERFILE2" => Some(u64::from_le_bytes(*size)),
-        b"2ELIFREP" => Some(u64::from_be_bytes(*size)),
-        _ => None,
-    }
+    let endian = endian_of_magic(start.first_chunk::<8>()?)?;
+    let size = start.get(8..16)?;
+    Some(read_u64(endian, size))
 }
 
 impl InputKind {
     /// Returns the kind of an input that starts with these 16 bytes, or `None` if it isn't known.
     pub fn of_start(start: &[u8]) -> Option<InputKind> {
-        match start.get(..4)? {
-            b"JiTD" | b"DTiJ" => Some(InputKind::Jit),
-            _ if header_size(start)? < FILE_HEADER_SIZE => Some(InputKind::Pipe),
-            _ => Some(InputKind::File),
+        if endian_of_jitdump_magic(start.first_chunk::<4>()?).is_some() {
+            Some(InputKind::Jit)
+        } else if header_size(start)? < FILE_HEADER_SIZE {
+            Some(InputKind::Pipe)
+        } else {
+            Some(InputKind::File)
         }
     }
 }

@@ -15,7 +15,7 @@ use crate::file::feature_data::{read_features, seek_to_offset};
 use byteorder::{BigEndian, LittleEndian};
 use indexmap::IndexMap;
 use perfdata_base::features::{Feature, FeatureSet};
-use perfdata_base::header::PerfHeader;
+use perfdata_base::header::{self, PerfHeader};
 use perfdata_base::raw::Endianness;
 use perfdata_base::section::PerfFileSection;
 use perfdata_base::source::PlacedSource;
@@ -23,10 +23,6 @@ use perfdata_parts::error::{Error, ReadError};
 use perfdata_parts::feature_sections::AttributeDescription;
 use perfdata_parts::simpleperf::{SimplePerfEventType, get_event_types, parse_meta_info_map};
 use std::alloc::Global;
-
-const LITTLE_MAGIC: [u8; 8] = *b"PERFILE2";
-
-const BIG_MAGIC: [u8; 8] = *b"2ELIFREP";
 
 // The metadata of a file, and the size of its data section.
 #[derive(Drop)]
@@ -42,13 +38,10 @@ pub(crate) struct FileOpening {
 pub(crate) fn endian_of_magic(magic: [u8; 8]) -> Result<Endianness, Error>
     ensures { RecognizesMagic magic result }
 {
-    if magic == LITTLE_MAGIC {
-        return Ok(Endianness::LittleEndian);
+    match header::endian_of_magic(&magic) {
+        Some(endian) => Ok(endian),
+        None => Err(Error::UnrecognizedMagicValue(magic)),
     }
-    if magic == BIG_MAGIC {
-        return Ok(Endianness::BigEndian);
-    }
-    Err(Error::UnrecognizedMagicValue(magic))
 }
 
 // The bytes of a feature's section, if `sections` contains it.
