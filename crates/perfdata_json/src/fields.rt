@@ -116,10 +116,9 @@ impl<'a> Text<'a> {
                 Ok(text) => Ok(Text::Borrowed(text)),
                 Err(_) => Ok(Text::Bytes { hex: Hex(bytes) }),
             },
-            RawData::Split(first, second) => {
+            RawData::Split(_, _) => {
                 let mut joined = Vec::new(alloc);
-                joined.extend_from_slice(first)?;
-                joined.extend_from_slice(second)?;
+                bytes.append_to(&mut joined)?;
                 match String::from_utf8(joined) {
                     Ok(text) => Ok(Text::Owned(text)),
                     Err(_) => Ok(Text::Bytes { hex: Hex(bytes) }),

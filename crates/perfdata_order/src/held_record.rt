@@ -134,12 +134,5 @@ pub(crate) fn copy_body(buffer: &mut Vec<u8>, body: RawData<'_>) -> Result<(), A
     ensures full { OnErr result (vec_capacity buffer.old < length (bytes_of body.entry)) }
     ensures not_copied { OnErr result (length buffer.new.items < length (bytes_of body.entry)) }
 {
-    match body {
-        RawData::Single(bytes) => buffer.extend_from_slice(bytes),
-        RawData::Split(first, second) => {
-            buffer.try_reserve(first.len() + second.len())?;
-            buffer.extend_from_slice(first)?;
-            buffer.extend_from_slice(second)
-        }
-    }
+    body.append_to(buffer)
 }

@@ -34,17 +34,6 @@ struct Loads {
     by_index: HashMap<u64, usize>,
 }
 
-// Appends the bytes of a name.
-fn append(names: &mut Vec<u8>, name: RawData<'_>) -> Result<(), AllocError> {
-    match name {
-        RawData::Single(bytes) => names.extend_from_slice(bytes),
-        RawData::Split(first, second) => {
-            names.extend_from_slice(first)?;
-            names.extend_from_slice(second)
-        }
-    }
-}
-
 impl Loads {
     // Adds a load of code with a name.
     fn add_load(
@@ -56,7 +45,7 @@ impl Loads {
         name: RawData<'_>,
     ) -> Result<(), AllocError> {
         let name_start = self.names.len();
-        append(&mut self.names, name)?;
+        name.append_to(&mut self.names)?;
         let symbol = Symbol {
             start,
             size,

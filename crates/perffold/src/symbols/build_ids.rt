@@ -44,7 +44,7 @@ impl BuildIds {
         entry.extend_from_slice(&[0; 4])?;
         entry.extend_from_slice(&record.misc.to_le_bytes())?;
         entry.extend_from_slice(&size.unwrap_or(u16::MAX).to_le_bytes())?;
-        entry.extend_from_slice(record.body.as_slice(alloc)?.as_ref())?;
+        record.body.append_to(&mut entry)?;
         let mut bytes = entry.as_slice();
         let event = BuildIdEvent::read_from_in(alloc, Endianness::LittleEndian, &mut bytes)?;
         self.of_paths.insert(event.file_path, event.build_id)?;
