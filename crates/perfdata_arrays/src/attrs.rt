@@ -266,9 +266,9 @@ pub fn pipe_attrs(
         Ok(reader) => reader,
         Err(error) => return no_attrs(status_of_error(&error)),
     };
-    let mut file = reader.perf_file;
+    let mut perf_file = reader.perf_file;
     let mut input = reader.records;
-    let walked = walk(&mut input, &mut file, 0, &mut []);
+    let walked = walk(&mut input, &mut perf_file, 0, &mut []);
     let status = walk_result_status(&walked.end);
-    write_attrs(file.event_attributes(), entries, names, ids, status)
+    write_attrs(perf_file.event_attributes(), entries, names, ids, status)
 }

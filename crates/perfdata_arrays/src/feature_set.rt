@@ -85,11 +85,11 @@ pub fn pipe_features(alloc: Global, bytes: &[u8]) -> FeaturesResult
         Ok(reader) => reader,
         Err(error) => return no_features(status_of_error(&error)),
     };
-    let mut file = reader.perf_file;
+    let mut perf_file = reader.perf_file;
     let mut input = reader.records;
-    let walked = walk(&mut input, &mut file, 0, &mut []);
+    let walked = walk(&mut input, &mut perf_file, 0, &mut []);
     FeaturesResult {
-        features: bits_of(file.features()),
+        features: bits_of(perf_file.features()),
         status: walk_result_status(&walked.end),
     }
 }

@@ -22,11 +22,11 @@ pub struct FeatureResult {
 }
 
 // Copies the bytes of a feature into `buf`, up to its capacity.
-fn copy_feature(file: &PerfFile, feature: u32, buf: &mut [u8], status: Status) -> FeatureResult
+fn copy_feature(perf_file: &PerfFile, feature: u32, buf: &mut [u8], status: Status) -> FeatureResult
     ensures status { result.status ≡ status }
-    ensures copied { CopiesFeature (feature_data_in_file file.now feature) buf.old result buf.new }
+    ensures copied { CopiesFeature (feature_data_in_file perf_file.now feature) buf.old result buf.new }
 {
-    match file.feature_section_data(Feature(feature)) {
+    match perf_file.feature_section_data(Feature(feature)) {
         Some(bytes) => {
             copy_prefix(buf, bytes);
             FeatureResult {
@@ -81,9 +81,9 @@ pub fn pipe_feature(alloc: Global, bytes: &[u8], feature: u32, buf: &mut [u8]) -
             };
         }
     };
-    let mut file = reader.perf_file;
+    let mut perf_file = reader.perf_file;
     let mut input = reader.records;
-    let walked = walk(&mut input, &mut file, 0, &mut []);
+    let walked = walk(&mut input, &mut perf_file, 0, &mut []);
     let status = walk_result_status(&walked.end);
-    copy_feature(&file, feature, buf, status)
+    copy_feature(&perf_file, feature, buf, status)
 }

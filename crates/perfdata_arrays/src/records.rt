@@ -32,7 +32,7 @@ pub(crate) struct WalkResult {
 // in `entries`. Returns their number.
 fn read_more_entries(
     input: &mut InMemoryRecords<'_>,
-    file: &PerfFile,
+    perf_file: &PerfFile,
     count: u64,
     start: u64,
     entries: &mut [RecordEntry],
@@ -43,24 +43,25 @@ fn read_more_entries(
         return 0;
     }
     let written = (count - start) as usize;
-    input.read_entries(file, &mut entries[written..]) as u64
+    input.read_entries(perf_file, &mut entries[written..]) as u64
 }
 
 // Reads all records and writes the entries of the records from index `start` on, up to the capacity of
 // `entries`.
 pub(crate) fn walk(
     input: &mut InMemoryRecords<'_>,
-    file: &mut PerfFile,
+    perf_file: &mut PerfFile,
     start: u64,
     entries: &mut [RecordEntry],
 ) -> WalkResult
-    ensures { WalksRecords input.old file.old start entries.old result input.new file.new entries.new }
+    ensures { WalksRecords input.old perf_file.old start entries.old result
+        input.new perf_file.new entries.new }
 {
     let first_record_offset = input.first_record_offset();
     let mut count = 0u64;
     'records: loop {
-        count += read_more_entries(input, file, count, start, entries);
-        match input.next_record(file) {
+        count += read_more_entries(input, perf_file, count, start, entries);
+        match input.next_record(perf_file) {
             Ok(Some((place, record))) => {
                 let entry = RecordEntry::new(first_record_offset, place, &record);
                 write_entry(entries, count, start, entry);
@@ -100,20 +101,20 @@ pub(crate) struct PageWalk {
 // Writes the entries of the next records, up to the capacity of `entries`.
 pub(crate) fn walk_page(
     input: &mut InMemoryRecords<'_>,
-    file: &mut PerfFile,
+    perf_file: &mut PerfFile,
     entries: &mut [RecordEntry],
 ) -> PageWalk
-    ensures { WalksPage input.old file.old entries.old result input.new file.new entries.new }
+    ensures { WalksPage input.old perf_file.old entries.old result input.new perf_file.new entries.new }
 {
     let first_record_offset = input.first_record_offset();
     let mut count = 0;
     'records: while count < entries.len() {
-        count += read_more_entries(input, file, count as u64, 0, entries) as usize;
+        count += read_more_entries(input, perf_file, count as u64, 0, entries) as usize;
         if count == entries.len() {
             break;
         }
         let next = input.position();
-        match input.next_record(file) {
+        match input.next_record(perf_file) {
             Ok(Some((place, record))) => {
                 entries[count] = RecordEntry::new(first_record_offset, place, &record);
                 count += 1;
@@ -172,9 +173,9 @@ pub fn file_records(
             return RecordsResult { count: 0, status };
         }
     };
-    let mut file = reader.perf_file;
+    let mut perf_file = reader.perf_file;
     let mut input = reader.records;
-    let walked = walk_page(&mut input, &mut file, entries);
+    let walked = walk_page(&mut input, &mut perf_file, entries);
     *position = walked.next;
     RecordsResult {
         count: walked.count,
@@ -208,9 +209,9 @@ pub fn pipe_records(
             return RecordsResult { count: 0, status };
         }
     };
-    let mut file = reader.perf_file;
+    let mut perf_file = reader.perf_file;
     let mut input = reader.records;
-    let walked = walk(&mut input, &mut file, start, entries);
+    let walked = walk(&mut input, &mut perf_file, start, entries);
     RecordsResult {
         count: walked.count,
         status: walk_result_status(&walked.end),

@@ -10,6 +10,6 @@ returns-in-Err c =
 
 pub returns : goal.returns
 returns c =
-    reads_pipe_attrs c.args.bytes.now c.in-Ok.reader c.in-Ok.ensures 0 _ c.walk-walked.new.entries c.walk-walked.result c.walk-walked.new.input c.walk-walked.new.file c.walk-walked.ensures
+    reads_pipe_attrs c.args.bytes.now c.in-Ok.reader c.in-Ok.ensures 0 _ c.walk-walked.new.entries c.walk-walked.result c.walk-walked.new.input c.walk-walked.new.perf_file c.walk-walked.ensures
     c.walk_result_status-status.result c.walk_result_status-status.ensures c.args.entries.now c.write_attrs.new.entries c.args.names.now c.args.ids.now c.write_attrs.new.names c.write_attrs.new.ids c.write_attrs.result
     (subst (λ l. WritesAttrsOrPrefix l c.walk_result_status-status.result c.args.entries.now c.args.names.now c.args.ids.now c.write_attrs.result c.write_attrs.new.entries c.write_attrs.new.names c.write_attrs.new.ids) c.event_attributes.ensures.are c.write_attrs.ensures)

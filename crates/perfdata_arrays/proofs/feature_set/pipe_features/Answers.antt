@@ -9,5 +9,5 @@ returns-in-Err c = pipe_features_error c.args.bytes.now c.no_features.result c.i
 
 pub returns : goal.returns
 returns c =
-    reads_pipe_features c.args.bytes.now c.in-Ok.reader c.in-Ok.ensures 0 _ c.walk-walked.new.entries c.walk-walked.result c.walk-walked.new.input c.walk-walked.new.file c.walk-walked.ensures
+    reads_pipe_features c.args.bytes.now c.in-Ok.reader c.in-Ok.ensures 0 _ c.walk-walked.new.entries c.walk-walked.result c.walk-walked.new.input c.walk-walked.new.perf_file c.walk-walked.ensures
     _ c.walk_result_status.ensures (subst (λ s. AreBitsOf s c.bits_of.result) c.features.ensures c.bits_of.ensures)

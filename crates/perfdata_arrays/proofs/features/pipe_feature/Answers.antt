@@ -8,5 +8,5 @@ returns-in-Err c = pipe_feature_error c.args.bytes.now c.args.feature c.args.buf
 
 pub returns : goal.returns
 returns c =
-    reads_pipe_feature c.args.bytes.now c.in-Ok.reader c.in-Ok.ensures 0 _ c.walk-walked.new.entries c.walk-walked.result c.walk-walked.new.input c.walk-walked.new.file c.walk-walked.ensures
+    reads_pipe_feature c.args.bytes.now c.in-Ok.reader c.in-Ok.ensures 0 _ c.walk-walked.new.entries c.walk-walked.result c.walk-walked.new.input c.walk-walked.new.perf_file c.walk-walked.ensures
     c.args.feature c.args.buf.now c.copy_feature.result c.copy_feature.new.buf (c.copy_feature.ensures.status ∙ c.walk_result_status-status.ensures) c.copy_feature.ensures.copied

@@ -7,4 +7,4 @@ returns-in-Err c = no_page c.args.bytes.now c.args.position.now c.args.entries.n
 
 pub returns : goal.returns
 returns c =
-    reads_file_page c.args.bytes.now c.args.position.now c.in-Ok.reader c.in-Ok.ensures c.args.entries.now c.walk_page-walked.new.entries c.walk_page-walked.result c.walk_page-walked.new.input c.walk_page-walked.new.file c.walk_page-walked.ensures _ refl c.walk_result_status.ensures
+    reads_file_page c.args.bytes.now c.args.position.now c.in-Ok.reader c.in-Ok.ensures c.args.entries.now c.walk_page-walked.new.entries c.walk_page-walked.result c.walk_page-walked.new.input c.walk_page-walked.new.perf_file c.walk_page-walked.ensures _ refl c.walk_result_status.ensures

@@ -7,4 +7,4 @@ returns-in-Err c = no_records_written c.args.bytes.now c.args.start c.args.entri
 
 pub returns : goal.returns
 returns c =
-    reads_pipe_records c.args.bytes.now c.in-Ok.reader c.in-Ok.ensures c.args.start c.args.entries.now c.walk-walked.new.entries c.walk-walked.result c.walk-walked.new.input c.walk-walked.new.file c.walk-walked.ensures _ refl c.walk_result_status.ensures
+    reads_pipe_records c.args.bytes.now c.in-Ok.reader c.in-Ok.ensures c.args.start c.args.entries.now c.walk-walked.new.entries c.walk-walked.result c.walk-walked.new.input c.walk-walked.new.perf_file c.walk-walked.ensures _ refl c.walk_result_status.ensures

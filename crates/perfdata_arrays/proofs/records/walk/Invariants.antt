@@ -4,7 +4,7 @@ use Rattle.perfdata_arrays.proofs.records.walk.Given as goal
 
 abbrev pub invariant-records : goal.invariant-records
 invariant-records l = record {
-  so_far : ReadSoFar l.initial.input l.initial.file l.fn.start l.initial.entries l.count l.input l.file l.entries;
+  so_far : ReadSoFar l.initial.input l.initial.perf_file l.fn.start l.initial.entries l.count l.input l.perf_file l.entries;
 }
 
 abbrev pub decreases-records : goal.decreases-records
