@@ -24,8 +24,6 @@ use Rattle.perfdata_events.specs.declared.sample_parts.BranchStack.{BranchStack}
 use Rattle.perfdata_events.specs.declared.sample_parts.UserStack.{UserStack}
 use Rattle.perfdata_events.specs.declared.sample_words.OriginWords.{OriginWords}
 use Rattle.perfdata_events.specs.declared.sample_words.EventWords.{EventWords}
-use Rattle.perfdata_events.specs.declared.sample.SampleStart.{SampleStart}
-use Rattle.perfdata_events.specs.declared.sample.SampleMiddle.{SampleMiddle}
 use Rattle.perfdata_events.specs.declared.sample.SampleRecord.{SampleRecord}
 
 -- The hardware index, the numbers of the entries (three each: from, to, flags), and the counters.
@@ -97,12 +95,6 @@ Start = OriginWords × (EventWords × (Option ℕ × (Option Values × Option (L
 
 abbrev pub Middle : Type 0
 Middle = Option (List ℕ) × (Option (Option ℕ × (List ℕ × Option (List ℕ))) × (Option (ℕ × List ℕ) × Option (List ℕ × Option ℕ)))
-
-abbrev pub start_of : SampleStart → Start
-start_of v = (v.origin, (v.event, (v.period, (option_map values_of v.values, option_map chain_values_of v.call_chain))))
-
-abbrev pub middle_of : SampleMiddle → Middle
-middle_of v = (option_map bytes_of v.raw, (option_map branches_of v.branch_stack, (option_map registers_of v.user_registers, option_map stack_of v.user_stack)))
 
 abbrev pub sample_of : SampleRecord → Start × (Middle × End)
 sample_of v = (

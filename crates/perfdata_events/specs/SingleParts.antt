@@ -12,8 +12,6 @@ use Rattle.perfdata_events.specs.declared.fields.registers.Registers.{Registers}
 use Rattle.perfdata_events.specs.declared.fields.sample_end.SampleEnd.{SampleEnd}
 use Rattle.perfdata_events.specs.declared.sample_parts.BranchStack.{BranchStack}
 use Rattle.perfdata_events.specs.declared.sample_parts.UserStack.{UserStack}
-use Rattle.perfdata_events.specs.declared.sample.SampleStart.{SampleStart}
-use Rattle.perfdata_events.specs.declared.sample.SampleMiddle.{SampleMiddle}
 use Rattle.perfdata_events.specs.declared.sample.SampleRecord.{SampleRecord}
 use Rattle.perfdata_events.specs.declared.mmap2.Mmap2Record.{Mmap2Record}
 use Rattle.perfdata_events.specs.declared.event.EventRecord.{EventRecord}
@@ -44,12 +42,6 @@ SingleBranches v = SingleNumbers v.entries × IfSome v.counters SingleNumbers
 
 abbrev pub SingleStack : UserStack → Type 0
 SingleStack v = IsSingle v.bytes
-
-abbrev pub SingleStart : SampleStart → Type 0
-SingleStart v = IfSome v.values SingleValuesOf × IfSome v.call_chain SingleChain
-
-abbrev pub SingleMiddle : SampleMiddle → Type 0
-SingleMiddle v = IfSome v.raw IsSingle × (IfSome v.branch_stack SingleBranches × (IfSome v.user_registers SingleRegisters × IfSome v.user_stack SingleStack))
 
 abbrev pub SingleEnd : SampleEnd → Type 0
 SingleEnd v = IfSome v.interrupt_registers SingleRegisters × IfSome v.aux_data IsSingle

@@ -120,7 +120,7 @@ pub enum EventRecord<'a> {
     Raw(RawEventRecord<'a>),
 }
 
-// The same record.
+// The same record, field by field for the prover.
 fn copy_of<'a>(raw: &RawEventRecord<'a>) -> RawEventRecord<'a>
     ensures { result ≡ raw.now }
 {

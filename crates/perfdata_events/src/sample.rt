@@ -2,7 +2,7 @@
 ghost use Rattle.std.specs.Prelude.{◌≡◌};
 ghost use Rattle.perfdata_base.specs.Raw.{bytes_of};
 ghost use Rattle.perfdata_events.specs.Single.{KeepsSingle};
-ghost use Rattle.perfdata_events.specs.SingleParts.{SingleMiddle, SingleSample, SingleStart};
+ghost use Rattle.perfdata_events.specs.SingleParts.{SingleSample};
 ghost use Rattle.perfdata_base.specs.Endian.{number_in};
 ghost use Rattle.perfdata_events.specs.Format.{Decodes};
 
@@ -75,91 +75,6 @@ pub struct SampleRecord<'a> {
     pub aux_data: Option<RawData<'a>>,
 }
 
-// The fields up to the call chain.
-#[derive(Clone, Copy)]
-struct SampleStart<'a> {
-    origin: OriginWords,
-    event: EventWords,
-    period: Option<u64>,
-    values: Option<ReadValues<'a>>,
-    call_chain: Option<CallChain<'a>>,
-}
-
-// The fields from the raw data to the user stack.
-#[derive(Clone, Copy)]
-struct SampleMiddle<'a> {
-    raw: Option<RawData<'a>>,
-    branch_stack: Option<BranchStack<'a>>,
-    user_registers: Option<Registers<'a>>,
-    user_stack: Option<UserStack<'a>>,
-}
-
-impl<'a> SampleStart<'a> {
-    ghost use Rattle.perfdata_events.specs.Sample.{sample_start, start_of};
-
-    fn parse(format: &EventFormat, fields: &mut RawData<'a>) -> Result<SampleStart<'a>>
-        ensures decodes { Decodes (sample_start (number_in format.now.endian) format.now) start_of
-            (bytes_of fields.old) result (bytes_of fields.new) }
-        ensures single { KeepsSingle SingleStart fields.old result fields.new }
-    {
-        let endian = format.endian;
-        let bits = format.sample_format;
-        let origin = OriginWords::parse(endian, bits, fields)?;
-        let event = EventWords::parse(endian, bits, fields)?;
-        let period = read_u64_if(endian, fields, bits.contains(SampleFields::PERIOD))?;
-        let values = ReadValues::parse_if(
-            endian,
-            bits.contains(SampleFields::READ),
-            format.read_format,
-            fields,
-        )?;
-        let call_chain = CallChain::parse_if(
-            endian,
-            bits.contains(SampleFields::CALLCHAIN),
-            fields,
-        )?;
-        Ok(SampleStart {
-            origin,
-            event,
-            period,
-            values,
-            call_chain,
-        })
-    }
-}
-
-impl<'a> SampleMiddle<'a> {
-    ghost use Rattle.perfdata_events.specs.Sample.{sample_middle, middle_of};
-
-    fn parse(format: &EventFormat, fields: &mut RawData<'a>) -> Result<SampleMiddle<'a>>
-        ensures decodes { Decodes (sample_middle (number_in format.now.endian) format.now) middle_of
-            (bytes_of fields.old) result (bytes_of fields.new) }
-        ensures single { KeepsSingle SingleMiddle fields.old result fields.new }
-    {
-        let endian = format.endian;
-        let bits = format.sample_format;
-        let raw = read_raw_data_if(endian, bits.contains(SampleFields::RAW), fields)?;
-        let branch_stack = BranchStack::parse_if(
-            endian,
-            bits.contains(SampleFields::BRANCH_STACK),
-            format.branch_sample_type,
-            fields,
-        )?;
-        let user_registers = Registers::parse_user(endian, bits, format.register_masks(), fields)?;
-        let user_stack = UserStack::parse_if(
-            endian,
-            bits.contains(SampleFields::STACK_USER),
-            fields,
-        )?;
-        Ok(SampleMiddle {
-            raw,
-            branch_stack,
-            user_registers,
-            user_stack,
-        })
-    }
-}
-
 impl<'a> SampleRecord<'a> {
     ghost use Rattle.std.specs.Prelude.{IfSome, IfNone, None, Some};
     ghost use Rattle.perfdata_events.specs.Sample.{sample, sample_of};
@@ -180,30 +95,35 @@ impl<'a> SampleRecord<'a> {
             (bytes_of fields.old) result (bytes_of fields.new) }
         ensures single { KeepsSingle SingleSample fields.old result fields.new }
     {
-        let start = SampleStart::parse(format, fields)?;
-        let middle = SampleMiddle::parse(format, fields)?;
-        let end = SampleEnd::parse(
-            format.endian,
-            format.sample_format,
-            format.register_masks(),
-            fields,
-        )?;
+        let endian = format.endian;
+        let bits = format.sample_format;
+        let masks = format.register_masks();
+        let origin = OriginWords::parse(endian, bits, fields)?;
+        let event = EventWords::parse(endian, bits, fields)?;
+        let period = read_u64_if(endian, fields, bits.contains(SampleFields::PERIOD))?;
+        let values = ReadValues::parse_if(format, fields)?;
+        let call_chain = CallChain::parse_if(format, fields)?;
+        let raw = read_raw_data_if(format, fields)?;
+        let branch_stack = BranchStack::parse_if(format, fields)?;
+        let user_registers = Registers::parse_user(endian, bits, masks, fields)?;
+        let user_stack = UserStack::parse_if(format, fields)?;
+        let end = SampleEnd::parse(endian, bits, masks, fields)?;
         Ok(SampleRecord {
-            identifier: start.origin.identifier,
-            ip: start.origin.ip,
-            task: start.origin.task,
-            timestamp: start.origin.timestamp,
-            address: start.event.address,
-            id: start.event.id,
-            stream_id: start.event.stream_id,
-            cpu: start.event.cpu,
-            period: start.period,
-            values: start.values,
-            call_chain: start.call_chain,
-            raw: middle.raw,
-            branch_stack: middle.branch_stack,
-            user_registers: middle.user_registers,
-            user_stack: middle.user_stack,
+            identifier: origin.identifier,
+            ip: origin.ip,
+            task: origin.task,
+            timestamp: origin.timestamp,
+            address: event.address,
+            id: event.id,
+            stream_id: event.stream_id,
+            cpu: event.cpu,
+            period,
+            values,
+            call_chain,
+            raw,
+            branch_stack,
+            user_registers,
+            user_stack,
             weight: end.weight,
             data_source: end.data.data_source,
             transaction: end.data.transaction,

@@ -4,14 +4,17 @@ ghost use Rattle.perfdata_base.specs.Raw.{bytes_of, IsSingle};
 ghost use Rattle.perfdata_events.specs.Single.{KeepsSingle};
 ghost use Rattle.perfdata_events.specs.SingleParts.{SingleBranches, SingleNumbers, SingleStack};
 ghost use Rattle.perfdata_base.specs.Endian.{number_in};
+ghost use Rattle.perfdata_base.specs.ParseInfo.{is_set};
 ghost use Rattle.perfdata_events.specs.Format.{Decodes, optional};
+ghost use Rattle.perfdata_events.specs.SampleFormat.{BRANCH_STACK, RAW, STACK_USER};
 ghost use Rattle.perfdata_events.specs.Words.{u64s, u64s_in};
 ghost use Rattle.std.specs.Option.{option_map};
 
-use crate::bits::BranchFields;
+use crate::bits::{BranchFields, SampleFields};
 pub use crate::fields::registers::{RegisterMasks, Registers};
 use crate::fields::u64s::{RawDataU64, read_block};
 use crate::fields::words::{read_u32, read_u64, read_u64_if, read_u64_list, read_u64s};
+use crate::format::EventFormat;
 use crate::record_bits::BranchFlags;
 use bitflags::Flags;
 use perfdata_base::raw::{Endianness, RawData};
@@ -131,28 +134,21 @@ impl<'a> BranchStack<'a> {
         })
     }
 
-    // The same if it is there.
+    // The same if samples of the format have one.
     pub(crate) fn parse_if(
-        endian: Endianness,
-        present: bool,
-        branch_sample_type: BranchFields,
+        format: &EventFormat,
         fields: &mut RawData<'a>,
     ) -> Result<Option<BranchStack<'a>>>
-        ensures decodes { Decodes (optional present (branch_stack (number_in endian) branch_sample_type.0))
+        ensures decodes { Decodes (optional (is_set format.now.sample_format.0 BRANCH_STACK)
+            (branch_stack (number_in format.now.endian) format.now.branch_sample_type.0))
             (option_map branches_of) (bytes_of fields.old) result (bytes_of fields.new) }
         ensures single { KeepsSingle (λ v. IfSome v SingleBranches) fields.old result fields.new }
     {
-        if !present {
+        if !format.sample_format.contains(SampleFields::BRANCH_STACK) {
             return Ok(None);
         }
-        BranchStack::parse(endian, branch_sample_type, fields).map(Some)
+        BranchStack::parse(format.endian, format.branch_sample_type, fields).map(Some)
     }
-}
-
-fn is_nonzero(size: u64) -> bool
-    ensures { result ≡ not (size == 0) }
-{
-    !(size == 0)
 }
 
 impl<'a> UserStack<'a> {
@@ -166,27 +162,27 @@ impl<'a> UserStack<'a> {
     {
         let size = read_u64(endian, fields)?;
         let bytes = read_block(fields, size as usize)?;
-        let dynamic_size = read_u64_if(endian, fields, is_nonzero(size))?;
+        let dynamic_size = read_u64_if(endian, fields, size != 0)?;
         Ok(UserStack {
             bytes,
             dynamic_size,
         })
     }
 
-    // The same if it is there.
+    // The same if samples of the format have one.
     pub(crate) fn parse_if(
-        endian: Endianness,
-        present: bool,
+        format: &EventFormat,
         fields: &mut RawData<'a>,
     ) -> Result<Option<UserStack<'a>>>
-        ensures decodes { Decodes (optional present (user_stack (number_in endian))) (option_map stack_of)
-            (bytes_of fields.old) result (bytes_of fields.new) }
+        ensures decodes { Decodes (optional (is_set format.now.sample_format.0 STACK_USER)
+            (user_stack (number_in format.now.endian))) (option_map stack_of) (bytes_of fields.old) result
+            (bytes_of fields.new) }
         ensures single { KeepsSingle (λ v. IfSome v SingleStack) fields.old result fields.new }
     {
-        if !present {
+        if !format.sample_format.contains(SampleFields::STACK_USER) {
             return Ok(None);
         }
-        UserStack::parse(endian, fields).map(Some)
+        UserStack::parse(format.endian, fields).map(Some)
     }
 }
 
@@ -202,18 +198,18 @@ pub(crate) fn read_raw_data<'a>(endian: Endianness, fields: &mut RawData<'a>) ->
     read_block(fields, size as usize)
 }
 
-// Removes raw data if it is there.
+// Removes raw data if samples of the format have some.
 pub(crate) fn read_raw_data_if<'a>(
-    endian: Endianness,
-    present: bool,
+    format: &EventFormat,
     fields: &mut RawData<'a>,
 ) -> Result<Option<RawData<'a>>>
-    ensures decodes { Decodes (optional present (raw_data (number_in endian))) (option_map bytes_of)
-        (bytes_of fields.old) result (bytes_of fields.new) }
+    ensures decodes { Decodes (optional (is_set format.now.sample_format.0 RAW)
+        (raw_data (number_in format.now.endian))) (option_map bytes_of) (bytes_of fields.old) result
+        (bytes_of fields.new) }
     ensures single { KeepsSingle (λ v. IfSome v IsSingle) fields.old result fields.new }
 {
-    if !present {
+    if !format.sample_format.contains(SampleFields::RAW) {
         return Ok(None);
     }
-    read_raw_data(endian, fields).map(Some)
+    read_raw_data(format.endian, fields).map(Some)
 }

@@ -41,21 +41,27 @@ pub struct EventWords {
 impl OriginWords {
     ghost use Rattle.perfdata_events.specs.Sample.{origin_words};
 
-    // Removes the words that a sample format selects.
+    /// Parses the words that a sample format selects at the start of `fields`, and removes them.
+    ///
+    /// Fails with an `UnexpectedEof` error if they are truncated.
     #[inline(always)]
-    pub(crate) fn parse(
+    pub fn parse(
         endian: Endianness,
-        format: SampleFields,
+        sample_format: SampleFields,
         fields: &mut RawData<'_>,
     ) -> Result<OriginWords>
-        ensures decodes { Decodes (origin_words (number_in endian) format.0) (λ v. v) (bytes_of fields.old)
-            result (bytes_of fields.new) }
+        ensures decodes { Decodes (origin_words (number_in endian) sample_format.0) (λ v. v)
+            (bytes_of fields.old) result (bytes_of fields.new) }
         ensures single { KeepsSingle NoParts fields.old result fields.new }
     {
-        let identifier = read_u64_if(endian, fields, format.contains(SampleFields::IDENTIFIER))?;
-        let ip = read_u64_if(endian, fields, format.contains(SampleFields::IP))?;
-        let task = read_task_if(endian, fields, format.contains(SampleFields::TID))?;
-        let timestamp = read_u64_if(endian, fields, format.contains(SampleFields::TIME))?;
+        let identifier = read_u64_if(
+            endian,
+            fields,
+            sample_format.contains(SampleFields::IDENTIFIER),
+        )?;
+        let ip = read_u64_if(endian, fields, sample_format.contains(SampleFields::IP))?;
+        let task = read_task_if(endian, fields, sample_format.contains(SampleFields::TID))?;
+        let timestamp = read_u64_if(endian, fields, sample_format.contains(SampleFields::TIME))?;
         Ok(OriginWords {
             identifier,
             ip,
@@ -68,21 +74,27 @@ impl OriginWords {
 impl EventWords {
     ghost use Rattle.perfdata_events.specs.Sample.{event_words};
 
-    // Removes the words that a sample format selects.
+    /// Parses the words that a sample format selects at the start of `fields`, and removes them.
+    ///
+    /// Fails with an `UnexpectedEof` error if they are truncated.
     #[inline(always)]
-    pub(crate) fn parse(
+    pub fn parse(
         endian: Endianness,
-        format: SampleFields,
+        sample_format: SampleFields,
         fields: &mut RawData<'_>,
     ) -> Result<EventWords>
-        ensures decodes { Decodes (event_words (number_in endian) format.0) (λ v. v) (bytes_of fields.old)
-            result (bytes_of fields.new) }
+        ensures decodes { Decodes (event_words (number_in endian) sample_format.0) (λ v. v)
+            (bytes_of fields.old) result (bytes_of fields.new) }
         ensures single { KeepsSingle NoParts fields.old result fields.new }
     {
-        let address = read_u64_if(endian, fields, format.contains(SampleFields::ADDR))?;
-        let id = read_u64_if(endian, fields, format.contains(SampleFields::ID))?;
-        let stream_id = read_u64_if(endian, fields, format.contains(SampleFields::STREAM_ID))?;
-        let cpu = read_u32_if(endian, fields, format.contains(SampleFields::CPU))?;
+        let address = read_u64_if(endian, fields, sample_format.contains(SampleFields::ADDR))?;
+        let id = read_u64_if(endian, fields, sample_format.contains(SampleFields::ID))?;
+        let stream_id = read_u64_if(
+            endian,
+            fields,
+            sample_format.contains(SampleFields::STREAM_ID),
+        )?;
+        let cpu = read_u32_if(endian, fields, sample_format.contains(SampleFields::CPU))?;
         Ok(EventWords {
             address,
             id,

@@ -4,15 +4,13 @@ ghost use Rattle.std.specs.Option.{option_map};
 ghost use Rattle.perfdata_base.specs.Raw.{bytes_of};
 ghost use Rattle.perfdata_events.specs.CallChain.{chain_values_of};
 ghost use Rattle.perfdata_events.specs.Format.{Decodes};
-ghost use Rattle.perfdata_base.specs.Endian.{number_in};
-ghost use Rattle.perfdata_events.specs.Sample.{origin_words, event_words};
 ghost use Rattle.perfdata_samples.specs.Bodies.{IsBody, chain_after_values, values_of_words, words};
 
 use bitflags::Flags;
-use perfdata_base::raw::{Endianness, RawData};
+use perfdata_base::raw::RawData;
 use perfdata_events::bits::SampleFields;
 use perfdata_events::call_chain::CallChain;
-use perfdata_events::fields::words::{read_task_if, read_u32_if, read_u64_if};
+use perfdata_events::fields::words::read_u64_if;
 use perfdata_events::format::EventFormat;
 use perfdata_events::read_values::ReadValues;
 use perfdata_events::sample_words::{EventWords, OriginWords};
@@ -60,50 +58,6 @@ pub enum SampleBody<'a> {
     Nothing,
 }
 
-// Removes the first words.
-#[inline(always)]
-fn parse_origin(
-    endian: Endianness,
-    format: SampleFields,
-    fields: &mut RawData<'_>,
-) -> Result<OriginWords>
-    ensures { Decodes (origin_words (number_in endian) format.0) (λ v. v) (bytes_of fields.old) result
-        (bytes_of fields.new) }
-{
-    let identifier = read_u64_if(endian, fields, format.contains(SampleFields::IDENTIFIER))?;
-    let ip = read_u64_if(endian, fields, format.contains(SampleFields::IP))?;
-    let task = read_task_if(endian, fields, format.contains(SampleFields::TID))?;
-    let timestamp = read_u64_if(endian, fields, format.contains(SampleFields::TIME))?;
-    Ok(OriginWords {
-        identifier,
-        ip,
-        task,
-        timestamp,
-    })
-}
-
-// Removes the next words.
-#[inline(always)]
-fn parse_event(
-    endian: Endianness,
-    format: SampleFields,
-    fields: &mut RawData<'_>,
-) -> Result<EventWords>
-    ensures { Decodes (event_words (number_in endian) format.0) (λ v. v) (bytes_of fields.old) result
-        (bytes_of fields.new) }
-{
-    let address = read_u64_if(endian, fields, format.contains(SampleFields::ADDR))?;
-    let id = read_u64_if(endian, fields, format.contains(SampleFields::ID))?;
-    let stream_id = read_u64_if(endian, fields, format.contains(SampleFields::STREAM_ID))?;
-    let cpu = read_u32_if(endian, fields, format.contains(SampleFields::CPU))?;
-    Ok(EventWords {
-        address,
-        id,
-        stream_id,
-        cpu,
-    })
-}
-
 // Removes the words up to the period.
 #[inline(always)]
 fn parse_words(format: &EventFormat, fields: &mut RawData<'_>) -> Result<SampleWords>
@@ -111,8 +65,8 @@ fn parse_words(format: &EventFormat, fields: &mut RawData<'_>) -> Result<SampleW
 {
     let endian = format.endian;
     let bits = format.sample_format;
-    let origin = parse_origin(endian, bits, fields)?;
-    let event = parse_event(endian, bits, fields)?;
+    let origin = OriginWords::parse(endian, bits, fields)?;
+    let event = EventWords::parse(endian, bits, fields)?;
     let period = read_u64_if(endian, fields, bits.contains(SampleFields::PERIOD))?;
     Ok(SampleWords {
         origin,
@@ -127,15 +81,8 @@ fn parse_chain<'a>(format: &EventFormat, fields: &mut RawData<'a>) -> Result<Opt
     ensures { Decodes (chain_after_values format.now) (option_map chain_values_of) (bytes_of fields.old)
         result (bytes_of fields.new) }
 {
-    let endian = format.endian;
-    let bits = format.sample_format;
-    ReadValues::parse_if(
-        endian,
-        bits.contains(SampleFields::READ),
-        format.read_format,
-        fields,
-    )?;
-    CallChain::parse_if(endian, bits.contains(SampleFields::CALLCHAIN), fields)
+    ReadValues::parse_if(format, fields)?;
+    CallChain::parse_if(format, fields)
 }
 
 impl<'a> SampleBody<'a> {

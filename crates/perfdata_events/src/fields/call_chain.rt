@@ -3,14 +3,19 @@ ghost use Rattle.std.specs.Prelude.{◌≡◌, [], ◌∷◌, IfNone, IfSome};
 ghost use Rattle.std.specs.Option.{option_map};
 ghost use Rattle.std.specs.Iterator.{YieldsFirstBy, item_count};
 ghost use Rattle.perfdata_base.specs.Endian.{number_in};
+ghost use Rattle.perfdata_base.specs.ParseInfo.{is_set};
 ghost use Rattle.perfdata_base.specs.Raw.{bytes_of};
+ghost use Rattle.perfdata_events.specs.SampleFormat.{CALLCHAIN};
 ghost use Rattle.perfdata_events.specs.Single.{KeepsSingle};
 ghost use Rattle.perfdata_events.specs.SingleParts.{SingleChain};
 ghost use Rattle.perfdata_events.specs.Format.{Decodes, optional};
 ghost use Rattle.perfdata_events.specs.Words.{u64s_in};
 
+use crate::bits::SampleFields;
 use crate::fields::u64s::RawDataU64;
 use crate::fields::words::{read_u64, read_u64_list, split_first_u64};
+use crate::format::EventFormat;
+use bitflags::Flags;
 use perfdata_base::raw::{Endianness, RawData};
 use std::io::Result;
 
@@ -159,21 +164,18 @@ impl<'a> CallChain<'a> {
         Ok(CallChain { values })
     }
 
-    /// Does what [`CallChain::parse`] does if the chain is there.
+    /// Does what [`CallChain::parse`] does if samples of the format have a chain.
     #[inline(always)]
-    pub fn parse_if(
-        endian: Endianness,
-        present: bool,
-        fields: &mut RawData<'a>,
-    ) -> Result<Option<CallChain<'a>>>
-        ensures decodes { Decodes (optional present (chain (number_in endian))) (option_map chain_values_of)
-            (bytes_of fields.old) result (bytes_of fields.new) }
+    pub fn parse_if(format: &EventFormat, fields: &mut RawData<'a>) -> Result<Option<CallChain<'a>>>
+        ensures decodes { Decodes (optional (is_set format.now.sample_format.0 CALLCHAIN)
+            (chain (number_in format.now.endian))) (option_map chain_values_of) (bytes_of fields.old) result
+            (bytes_of fields.new) }
         ensures single { KeepsSingle (λ v. IfSome v SingleChain) fields.old result fields.new }
     {
-        if !present {
+        if !format.sample_format.contains(SampleFields::CALLCHAIN) {
             return Ok(None);
         }
-        CallChain::parse(endian, fields).map(Some)
+        CallChain::parse(format.endian, fields).map(Some)
     }
 }
 

@@ -6,11 +6,14 @@ ghost use Rattle.perfdata_events.specs.SingleParts.{SingleGroup, SingleValuesOf}
 ghost use Rattle.perfdata_base.specs.Endian.{number_in};
 ghost use Rattle.perfdata_events.specs.Format.{Decodes, optional};
 ghost use Rattle.std.specs.Option.{option_map};
+ghost use Rattle.perfdata_base.specs.ParseInfo.{is_set};
 ghost use Rattle.perfdata_events.specs.ReadFormat.{ID, LOST};
+ghost use Rattle.perfdata_events.specs.SampleFormat.{READ};
 
-use crate::bits::ReadFields;
+use crate::bits::{ReadFields, SampleFields};
 use crate::fields::u64s::RawDataU64;
 use crate::fields::words::{read_u64, read_u64_if, read_u64s};
+use crate::format::EventFormat;
 use bitflags::Flags;
 use perfdata_base::raw::{Endianness, RawData};
 use std::io::Result;
@@ -279,21 +282,20 @@ impl<'a> ReadValues<'a> {
         }
     }
 
-    /// Does what [`ReadValues::parse`] does if the values are there.
+    /// Does what [`ReadValues::parse`] does if samples of the format have values.
     #[inline(always)]
     pub fn parse_if(
-        endian: Endianness,
-        present: bool,
-        read_format: ReadFields,
+        format: &EventFormat,
         fields: &mut RawData<'a>,
     ) -> Result<Option<ReadValues<'a>>>
-        ensures decodes { Decodes (optional present (read_values (number_in endian) read_format.0))
-            (option_map values_of) (bytes_of fields.old) result (bytes_of fields.new) }
+        ensures decodes { Decodes (optional (is_set format.now.sample_format.0 READ)
+            (read_values (number_in format.now.endian) format.now.read_format.0)) (option_map values_of)
+            (bytes_of fields.old) result (bytes_of fields.new) }
         ensures single { KeepsSingle (λ v. IfSome v SingleValuesOf) fields.old result fields.new }
     {
-        if !present {
+        if !format.sample_format.contains(SampleFields::READ) {
             return Ok(None);
         }
-        ReadValues::parse(endian, read_format, fields).map(Some)
+        ReadValues::parse(format.endian, format.read_format, fields).map(Some)
     }
 }

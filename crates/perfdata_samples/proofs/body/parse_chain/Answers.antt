@@ -14,4 +14,4 @@ returns c =
     let format = c.args.format.now in
     led_goes_on (optional (is_set (bits format) READ) (read_values (number format) format.read_format.0)) (λ _. optional (is_set (bits format) CALLCHAIN) (chain (number format))) (option_map chain_values_of)
     (bytes_of c.args.fields.now) (bytes_of c.parse_if.new.fields) (bytes_of c.parse_if-2.new.fields) (option_map values_of c.in_ok-parse_if.field-0) c.parse_if-2.result
-    (rw (c.contains.ensures tt) at c.in_ok-parse_if.ensures.decodes) (rw (c.contains-2.ensures tt) at c.parse_if-2.ensures.decodes)
+    c.in_ok-parse_if.ensures.decodes c.parse_if-2.ensures.decodes
