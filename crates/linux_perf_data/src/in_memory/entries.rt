@@ -99,7 +99,7 @@ impl<'a> InMemoryRecords<'a> {
 
     // Takes the next record of a walk from these records, which stay where the walk started.
     #[inline(always)]
-    fn take_whole_record(
+    fn take_record_of_walk(
         &mut self,
         walk: &mut FileWalk<'a>,
         next: WholeRecord,
@@ -133,7 +133,7 @@ impl<'a> InMemoryRecords<'a> {
         requires next { IsNextRecord walk.old next }
         ensures { TakesEntryOfWalk self.old walk.old result self.new walk.new }
     {
-        let (place, record) = self.take_whole_record(walk, next);
+        let (place, record) = self.take_record_of_walk(walk, next);
         RecordEntry::new(first_record_offset, place, &record)
     }
 

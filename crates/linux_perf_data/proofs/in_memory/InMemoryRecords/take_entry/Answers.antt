@@ -5,18 +5,18 @@ use Rattle.linux_perf_data.proofs.in_memory.InMemoryRecords.take_entry.Goals as 
 
 pub new-requires : goal.new-requires
 new-requires c =
-    let taken = c.take_whole_record.ensures.taken c.requires.ahead in
+    let taken = c.take_record_of_walk.ensures.taken c.requires.ahead in
     let within = (taken.returned c.args.perf_file.now).in_input.ends_in_input in
-    let fits = c.take_whole_record.ensures.input_len_fits in
+    let fits = c.take_record_of_walk.ensures.input_len_fits in
     let first = taken.same_input.first_record_offset in
     let same = c.requires.first in
     omega (arith, within, fits, first, same)
 
 pub returns : goal.returns
 returns c = λ ahead.
-    let taken = c.take_whole_record.ensures.taken ahead in
-    let place = c.take_whole_record.result.0 in
-    let found = c.take_whole_record.result.1 in
+    let taken = c.take_record_of_walk.ensures.taken ahead in
+    let place = c.take_record_of_walk.result.0 in
+    let found = c.take_record_of_walk.result.1 in
     let first = taken.same_input.first_record_offset in
     record {
       ahead' = taken.ahead';

@@ -8,7 +8,7 @@ use Rattle.linux_perf_data.specs.InMemory.{IsInPlace, RecordTaken, memory_state,
 use Rattle.linux_perf_data.proofs.FileRecordsTaken.{taken_with_body}
 use Rattle.linux_perf_data.proofs.InMemoryPlaces.{body_in_place, body_ends_in_place}
 use Rattle.linux_perf_data.proofs.WalksAhead.{record_of_walk, records_with_lookup, same_records, walk_moves}
-use Rattle.linux_perf_data.proofs.in_memory.InMemoryRecords.take_whole_record.Goals as goal
+use Rattle.linux_perf_data.proofs.in_memory.InMemoryRecords.take_record_of_walk.Goals as goal
 
 pub invariant_of-self : goal.invariant_of-self
 invariant_of-self c = record { in_place = subst (λ i. IsInPlace i c.args.self.now.input.now c.args.self.now.first_record_offset) (sym c.take_ahead_of.ensures.same_but_lookup) c.args.self.now.in_place }
