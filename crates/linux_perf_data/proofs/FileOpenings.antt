@@ -134,22 +134,22 @@ records_error order h a b c d sources v e read (seek_b, described) (seek, io, fa
     }
 
 -- the opening holds the values of the header and its sections
-pub after_read : (order : Endianness) (h : PerfHeader) (a b c d : State) (sources : KnownSections) (opening : FileOpening) → EndFitsU64 h.data_section → opening.endian ≡ order → opening.features ≡ h.features → opening.data_size ≡ h.data_section.size
-    → HasRead order h a b sources → ReadsFeatures order (table_offset h) (features_of h.features) a (Ok opening.sections) b → ReadsAttributes order h sources b (Ok opening.attributes) c → length opening.attributes.items ≢ 0
-    → AreConsistent (described_attributes opening.attributes.items) → AfterSeek c d × (d.position ≡ at_offset h.data_section.offset c.position) → OpenedAfterHeader order h a opening d
+pub after_read : (order : Endianness) (h : PerfHeader) (a b c d : State) (sources : KnownSections) (opening : FileOpening) → EndFitsU64 h.data_section → opening.perf_file.endian ≡ order → opening.perf_file.features ≡ h.features → opening.data_size ≡ h.data_section.size
+    → HasRead order h a b sources → ReadsFeatures order (table_offset h) (features_of h.features) a (Ok opening.perf_file.sections) b → ReadsAttributes order h sources b (Ok opening.perf_file.attributes) c → length opening.perf_file.attributes.items ≢ 0
+    → AreConsistent (described_attributes opening.perf_file.attributes.items) → AfterSeek c d × (d.position ≡ at_offset h.data_section.offset c.position) → OpenedAfterHeader order h a opening d
 after_read order h a b c d sources opening end_fits_u64 endian features size read sections (seek_b, described) some all_consistent (seek, seek_position) =
     let seek_c = after_seek_more a b c sections.0 seek_b in record {
       endian = endian;
       end_fits = end_fits_u64;
       features = features;
       data_size = size;
-      nonempty = some_length opening.attributes.items some;
+      nonempty = some_length opening.perf_file.attributes.items some;
       consistent = all_consistent;
       after_seek = after_seek_more a c d seek_c seek;
       position = seek_position ∙ put_same h.data_section.offset a.position c.position seek_c.all_bytes;
       sections = sections.1;
-      attributes = if_both (all_bytes_of a.position) (λ all. HoldsSections order h all × (sources ≡ attribute_sources_of order h all)) (λ all. DescribesFrom order h sources all opening.attributes.items) (λ all. DescribesAttributes order h all opening.attributes.items)
-          (λ all has is. subst (λ o. DescribesFrom order h o all opening.attributes.items) has.1 is) read.holds (is_visible_before a b (λ all. DescribesFrom order h sources all opening.attributes.items) sections.0 described);
+      attributes = if_both (all_bytes_of a.position) (λ all. HoldsSections order h all × (sources ≡ attribute_sources_of order h all)) (λ all. DescribesFrom order h sources all opening.perf_file.attributes.items) (λ all. DescribesAttributes order h all opening.perf_file.attributes.items)
+          (λ all has is. subst (λ o. DescribesFrom order h o all opening.perf_file.attributes.items) has.1 is) read.holds (is_visible_before a b (λ all. DescribesFrom order h sources all opening.perf_file.attributes.items) sections.0 described);
     }
 
 -- the first 104 bytes from a position on are the bytes read there
@@ -224,8 +224,8 @@ after_header a b c order h opening placed parsed magic read = record {
   after_seek = after_seek_more a b c parsed.after_seek read.after_seek;
   file_opened = position_shows a (λ p. OpenedFileAt p opening c) (λ p is.
       let there = all_there a b p parsed.after_seek is in
-      let visible_at : HoldsSections order h p.all_bytes × ((n : ℕ) → feature_data_of opening.sections n ≡ section_data order h p.all_bytes n) =
-      subst (λ o. IfSome o (λ all. HoldsSections order h all × ((n : ℕ) → feature_data_of opening.sections n ≡ section_data order h all n))) there read.sections in
+      let visible_at : HoldsSections order h p.all_bytes × ((n : ℕ) → feature_data_of opening.perf_file.sections n ≡ section_data order h p.all_bytes n) =
+      subst (λ o. IfSome o (λ all. HoldsSections order h all × ((n : ℕ) → feature_data_of opening.perf_file.sections n ≡ section_data order h all n))) there read.sections in
       record {
         header = h;
         matches = record { has_header = has_header a p h placed is parsed.file_header; can_skip_extra = parsed.extra_fits; magic = magic ∙ ap magic_of (sym read.endian) };
@@ -233,9 +233,9 @@ after_header a b c order h opening placed parsed magic read = record {
         features = read.features;
         data_size = read.data_size;
         sections_complete = subst (λ o. HoldsSections o h p.all_bytes) (sym read.endian) (visible_at.0);
-        sections = subst (λ o. (n : ℕ) → feature_data_of opening.sections n ≡ section_data o h p.all_bytes n) (sym read.endian) visible_at.1;
-        attributes = subst (λ o. IfSome o (λ all. DescribesAttributes opening.endian h all opening.attributes.items)) there
-            (subst (λ o. IfSome (all_bytes_of b.position) (λ all. DescribesAttributes o h all opening.attributes.items)) (sym read.endian) read.attributes);
+        sections = subst (λ o. (n : ℕ) → feature_data_of opening.perf_file.sections n ≡ section_data o h p.all_bytes n) (sym read.endian) visible_at.1;
+        attributes = subst (λ o. IfSome o (λ all. DescribesAttributes opening.perf_file.endian h all opening.perf_file.attributes.items)) there
+            (subst (λ o. IfSome (all_bytes_of b.position) (λ all. DescribesAttributes o h all opening.perf_file.attributes.items)) (sym read.endian) read.attributes);
         position = read.position ∙ position_put h.data_section.offset b.position p there;
       });
 }

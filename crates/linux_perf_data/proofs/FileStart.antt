@@ -27,7 +27,7 @@ if_more : (o : Option Position) (P Q : Position → Type 0) → ((x : Position) 
 if_more None P Q more is = tt
 if_more (Some x) P Q more is = more x is
 
-module _ {R : Type 0} (state : R → State) (opening : FileOpening) (r : PerfFileReader R) (source : R) (starts : StartsReader state source opening r) (placed : RemainsFromPosition (state source)) (all_consistent : AreConsistent (described_attributes opening.attributes.items)) where
+module _ {R : Type 0} (state : R → State) (opening : FileOpening) (r : PerfFileReader R) (source : R) (starts : StartsReader state source opening r) (placed : RemainsFromPosition (state source)) (all_consistent : AreConsistent (described_attributes opening.perf_file.attributes.items)) where
   described : (p : Position) (o : OpenedFileAt p opening (state source)) → DescribesFile p o.header r.perf_file
   described p o = record {
     matches = subst (λ e. IsFileHeader p e o.header) (sym starts.same_endian) o.matches;
@@ -36,7 +36,7 @@ module _ {R : Type 0} (state : R → State) (opening : FileOpening) (r : PerfFil
     sections_complete = subst (λ e. HoldsSections e o.header p.all_bytes) (sym starts.same_endian) o.sections_complete;
     sections = λ n. starts.sections n ∙ o.sections n ∙ ap (λ e. section_data e o.header p.all_bytes n) (sym starts.same_endian);
     attributes = subst (λ ds. DescribesAttributes (endian_of_file r.perf_file) o.header p.all_bytes ds) (sym starts.attributes)
-        (subst (λ e. DescribesAttributes e o.header p.all_bytes opening.attributes.items) (sym starts.same_endian) o.attributes);
+        (subst (λ e. DescribesAttributes e o.header p.all_bytes opening.perf_file.attributes.items) (sym starts.same_endian) o.attributes);
     consistent = subst (λ ds. AreConsistent (described_attributes ds)) (sym starts.attributes) all_consistent;
   }
 

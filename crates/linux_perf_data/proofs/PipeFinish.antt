@@ -80,7 +80,7 @@ module _ (order : Endianness) (a b : State) (m : PipeMetadata) (header_bytes : O
           λ both. subst (λ s. HasFeature s n) (sym f.features) ((states.features n).1 both),
         );
       };
-      names_match = subst (λ d. NamedByEventDesc order d opening.attributes.items) (states.feature_data event_desc) f.names_match;
+      names_match = subst (λ d. NamedByEventDesc order d opening.perf_file.attributes.items) (states.feature_data event_desc) f.names_match;
       nonempty = f.nonempty;
       consistent = subst AreConsistent (sym f.attributes) f.consistent;
     },

@@ -37,22 +37,22 @@ consumed_header : (s : State) (record_header : List ℕ) → Consumed (with_lead
 consumed_header s record_header = record { bytes = refl; position = refl; errors = omega arith; pauses = omega arith; steady = λ h. record { steady = h; errors = refl; pauses = refl } }
 
 module _ {R : Type 0} (state : R → State) (source : R) (opening : PipeOpening) (r : PerfFileReader R) (starts : PipeReaderBuilt state source opening r) where
-  holds : (pieces : List (List ℕ)) → HoldsPipeMetadata opening.endian pieces opening → HoldsMetadata opening.endian pieces r.perf_file
+  holds : (pieces : List (List ℕ)) → HoldsPipeMetadata opening.perf_file.endian pieces opening → HoldsMetadata opening.perf_file.endian pieces r.perf_file
   holds pieces described = record {
     file_endian = starts.file_endian;
     contents = record {
       attributes = ap described_attributes starts.attributes ∙ described.contents.attributes;
       feature_data = λ n. starts.sections n ∙ described.contents.feature_data n;
-      features = λ n. subst (λ f. HasFeature f n ↔ ((n < 256) × IsSome (feature_data_in opening.endian pieces n))) (sym starts.features) (described.contents.features n);
+      features = λ n. subst (λ f. HasFeature f n ↔ ((n < 256) × IsSome (feature_data_in opening.perf_file.endian pieces n))) (sym starts.features) (described.contents.features n);
     };
-    names_match = subst (λ d. NamedByEventDesc opening.endian d (descriptions_of_file r.perf_file)) (sym (starts.sections event_desc ∙ described.contents.feature_data event_desc))
-        (subst (λ ds. NamedByEventDesc opening.endian (feature_data_in opening.endian pieces event_desc) ds) (sym starts.attributes) described.names_match);
+    names_match = subst (λ d. NamedByEventDesc opening.perf_file.endian d (descriptions_of_file r.perf_file)) (sym (starts.sections event_desc ∙ described.contents.feature_data event_desc))
+        (subst (λ ds. NamedByEventDesc opening.perf_file.endian (feature_data_in opening.perf_file.endian pieces event_desc) ds) (sym starts.attributes) described.names_match);
   }
 
   at_source : (old : State) (first_part : List ℕ) → Consumed old first_part (state source) → Consumed old first_part (state r.record_iter.source)
   at_source old first_part g = subst (λ s. Consumed old first_part (state s)) (sym starts.same_source) g
 
-  keeps : (old : State) (first_part last record_header : List ℕ) → opening.pending_header ≡ Some record_header → Consumed old (first_part ++ last) (state source) → MetadataEnded opening.endian (Some record_header) old last (state source)
+  keeps : (old : State) (first_part last record_header : List ℕ) → opening.pending_header ≡ Some record_header → Consumed old (first_part ++ last) (state source) → MetadataEnded opening.perf_file.endian (Some record_header) old last (state source)
       → StageAfterOpening state (Some record_header) r.record_iter → KeepsPendingHeader state old first_part r.record_iter
   keeps old first_part last record_header is consumption ended runs =
       let same = ended.0 in
@@ -69,7 +69,7 @@ module _ {R : Type 0} (state : R → State) (source : R) (opening : PipeOpening)
         consumes_header = subst (λ i. Consumed (input_source_state i (state r.record_iter.source)) record_header (without_position (state r.record_iter.source))) (sym input) (consumed_header (state r.record_iter.source) record_header);
       }
 
-  ends : (old : State) (first_part last : List ℕ) → Consumed old (first_part ++ last) (state source) → MetadataEnded opening.endian None old last (state source) → StageAfterOpening state None r.record_iter → EndsInOpening state old first_part r.record_iter
+  ends : (old : State) (first_part last : List ℕ) → Consumed old (first_part ++ last) (state source) → MetadataEnded opening.perf_file.endian None old last (state source) → StageAfterOpening state None r.record_iter → EndsInOpening state old first_part r.record_iter
   ends old first_part last consumption ended stage = record {
     stage_ended = stage;
     last_bytes = last;
@@ -78,7 +78,7 @@ module _ {R : Type 0} (state : R → State) (source : R) (opening : PipeOpening)
     ended_or_paused = subst (λ s. EndedOrPaused old (state s)) (sym starts.same_source) ended.1;
   }
 
-  stands : (old : State) (first_part last : List ℕ) → Consumed old (first_part ++ last) (state source) → (record_header : Option (List ℕ)) → opening.pending_header ≡ record_header → MetadataEnded opening.endian record_header old last (state source)
+  stands : (old : State) (first_part last : List ℕ) → Consumed old (first_part ++ last) (state source) → (record_header : Option (List ℕ)) → opening.pending_header ≡ record_header → MetadataEnded opening.perf_file.endian record_header old last (state source)
       → StageAfterOpening state record_header r.record_iter → KeepsPendingHeader state old first_part r.record_iter ⊎ EndsInOpening state old first_part r.record_iter
   stands old first_part last consumption None is ended stage = inr (ends old first_part last consumption ended stage)
   stands old first_part last consumption (Some record_header) is ended stage = inl (keeps old first_part last record_header is consumption ended stage)
@@ -91,7 +91,7 @@ module _ {R : Type 0} (state : R → State) (source : R) (opening : PipeOpening)
         section_size = ap section_size_in starts.input;
         same_endian = starts.same_endian ∙ sym starts.file_endian;
         represents = subst (λ e. Represents e r.record_iter.attribute_lookup (described_attributes (descriptions_of_file r.perf_file))) (sym starts.same_endian)
-            (subst (λ ds. Represents opening.endian r.record_iter.attribute_lookup (described_attributes ds)) (sym starts.attributes) starts.represents);
+            (subst (λ ds. Represents opening.perf_file.endian r.record_iter.attribute_lookup (described_attributes ds)) (sym starts.attributes) starts.represents);
         header = step.header;
         raw_records = o.raw_records;
         matches = subst (λ e. IsPipeHeader e step.header) (sym starts.same_endian) step.matches;

@@ -73,16 +73,16 @@ SourceErrorInOpening old e new = IsAttributesSourceError old e new
 
 -- The file was opened after its header. It has consistent attributes, at least one, and the source is at the first record.
 pub record OpenedAfterHeader (order : Endianness) (h : PerfHeader) (old : State) (opening : FileOpening) (new : State) : Type 0 where
-  pub endian : opening.endian ≡ order
+  pub endian : opening.perf_file.endian ≡ order
   pub end_fits : EndFitsU64 h.data_section
-  pub features : opening.features ≡ h.features
+  pub features : opening.perf_file.features ≡ h.features
   pub data_size : opening.data_size ≡ h.data_section.size
-  pub nonempty : 0 < length opening.attributes.items
-  pub consistent : AreConsistent (described_attributes opening.attributes.items)
+  pub nonempty : 0 < length opening.perf_file.attributes.items
+  pub consistent : AreConsistent (described_attributes opening.perf_file.attributes.items)
   pub after_seek : AfterSeek old new
   pub position : new.position ≡ at_offset h.data_section.offset old.position
-  pub sections : IfSome (all_bytes_of old.position) (λ all. HoldsSections order h all × ((n : ℕ) → feature_data_of opening.sections n ≡ section_data order h all n))
-  pub attributes : IfSome (all_bytes_of old.position) (λ all. DescribesAttributes order h all opening.attributes.items)
+  pub sections : IfSome (all_bytes_of old.position) (λ all. HoldsSections order h all × ((n : ℕ) → feature_data_of opening.perf_file.sections n ≡ section_data order h all n))
+  pub attributes : IfSome (all_bytes_of old.position) (λ all. DescribesAttributes order h all opening.perf_file.attributes.items)
 
 pub record OpenAfterHeaderError (order : Endianness) (h : PerfHeader) (old : State) (e : Error) (new : State) : Type 0 where
   pub after_seek : AfterSeek old new
@@ -128,18 +128,18 @@ IsFileError p e =
 -- The file at position `p` was opened. The opening contains what its header says, and the source is at the first record.
 pub record OpenedFileAt (p : Position) (opening : FileOpening) (new : State) : Type 0 where
   pub header : PerfHeader
-  pub matches : IsFileHeader p opening.endian header
+  pub matches : IsFileHeader p opening.perf_file.endian header
   pub end_fits : EndFitsU64 header.data_section
-  pub features : opening.features ≡ header.features
+  pub features : opening.perf_file.features ≡ header.features
   pub data_size : opening.data_size ≡ header.data_section.size
-  pub sections_complete : HoldsSections opening.endian header p.all_bytes
-  pub sections : (n : ℕ) → feature_data_of opening.sections n ≡ section_data opening.endian header p.all_bytes n
-  pub attributes : DescribesAttributes opening.endian header p.all_bytes opening.attributes.items
+  pub sections_complete : HoldsSections opening.perf_file.endian header p.all_bytes
+  pub sections : (n : ℕ) → feature_data_of opening.perf_file.sections n ≡ section_data opening.perf_file.endian header p.all_bytes n
+  pub attributes : DescribesAttributes opening.perf_file.endian header p.all_bytes opening.perf_file.attributes.items
   pub position : new.position ≡ Some (record { all_bytes = p.all_bytes; offset = header.data_section.offset })
 
 pub record FileOpened (old : State) (opening : FileOpening) (new : State) : Type 0 where
-  pub nonempty : 0 < length opening.attributes.items
-  pub consistent : AreConsistent (described_attributes opening.attributes.items)
+  pub nonempty : 0 < length opening.perf_file.attributes.items
+  pub consistent : AreConsistent (described_attributes opening.perf_file.attributes.items)
   pub after_seek : AfterSeek old new
   pub file_opened : IfSome old.position (λ p. OpenedFileAt p opening new)
 

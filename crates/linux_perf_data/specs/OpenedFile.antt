@@ -56,10 +56,10 @@ module _ {R : Type 0} (state : R → State) where
     pub same_source : r.record_iter.source ≡ source
     pub input : r.record_iter.input ≡ Section opening.data_size
     pub at_first_record : IsAtFirstRecord r.perf_file r.record_iter
-    pub same_endian : endian_of_file r.perf_file ≡ opening.endian
-    pub features : features_of_file r.perf_file ≡ opening.features
-    pub sections : (n : ℕ) → feature_data_in_file r.perf_file n ≡ feature_data_of opening.sections n
-    pub attributes : descriptions_of_file r.perf_file ≡ opening.attributes.items
+    pub same_endian : endian_of_file r.perf_file ≡ opening.perf_file.endian
+    pub features : features_of_file r.perf_file ≡ opening.perf_file.features
+    pub sections : (n : ℕ) → feature_data_in_file r.perf_file n ≡ feature_data_of opening.perf_file.sections n
+    pub attributes : descriptions_of_file r.perf_file ≡ opening.perf_file.attributes.items
 
   -- Builds a reader from an opening. The error is `Memory`.
   abbrev pub BuildsReader : R → FileOpening → Result (PerfFileReader R) Error → Type 0

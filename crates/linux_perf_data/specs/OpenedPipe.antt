@@ -78,12 +78,12 @@ module _ {R : Type 0} (state : R → State) where
     pub stage : StageAfterOpening opening.pending_header r.record_iter
     pub offset : r.record_iter.offset ≡ 0
     pub round : r.record_iter.round ≡ 0
-    pub same_endian : r.record_iter.endian ≡ opening.endian
-    pub represents : Represents opening.endian r.record_iter.attribute_lookup (described_attributes opening.attributes.items)
-    pub file_endian : endian_of_file r.perf_file ≡ opening.endian
-    pub features : features_of_file r.perf_file ≡ opening.features
-    pub sections : (n : ℕ) → feature_data_in_file r.perf_file n ≡ feature_data_of opening.sections n
-    pub attributes : descriptions_of_file r.perf_file ≡ opening.attributes.items
+    pub same_endian : r.record_iter.endian ≡ opening.perf_file.endian
+    pub represents : Represents opening.perf_file.endian r.record_iter.attribute_lookup (described_attributes opening.perf_file.attributes.items)
+    pub file_endian : endian_of_file r.perf_file ≡ opening.perf_file.endian
+    pub features : features_of_file r.perf_file ≡ opening.perf_file.features
+    pub sections : (n : ℕ) → feature_data_in_file r.perf_file n ≡ feature_data_of opening.perf_file.sections n
+    pub attributes : descriptions_of_file r.perf_file ≡ opening.perf_file.attributes.items
 
   -- Builds a reader from an opening. The error is `Memory`.
   abbrev pub BuildsPipeReader : R → PipeOpening → Result (PerfFileReader R) Error → Type 0

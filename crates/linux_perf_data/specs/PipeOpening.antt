@@ -152,17 +152,17 @@ pub record HoldsMetadataOf (order : Endianness) (pieces : List (List ℕ)) (attr
 
 -- The opening contains the metadata of the records.
 pub record HoldsPipeMetadata (order : Endianness) (pieces : List (List ℕ)) (opening : PipeOpening) : Type 0 where
-  pub endian : opening.endian ≡ order
-  pub contents : HoldsMetadataOf order pieces (described_attributes opening.attributes.items) (feature_data_of opening.sections) opening.features
-  pub names_match : NamedByEventDesc order (feature_data_in order pieces event_desc) opening.attributes.items
-  pub nonempty : 0 < length opening.attributes.items
-  pub consistent : AreConsistent (described_attributes opening.attributes.items)
+  pub endian : opening.perf_file.endian ≡ order
+  pub contents : HoldsMetadataOf order pieces (described_attributes opening.perf_file.attributes.items) (feature_data_of opening.perf_file.sections) opening.perf_file.features
+  pub names_match : NamedByEventDesc order (feature_data_in order pieces event_desc) opening.perf_file.attributes.items
+  pub nonempty : 0 < length opening.perf_file.attributes.items
+  pub consistent : AreConsistent (described_attributes opening.perf_file.attributes.items)
 
 -- A pipe was opened.
 pub record PipeOpened (old : State) (opening : PipeOpening) (new : State) : Type 0 where
   pub raw_records : List (List ℕ)
-  pub opening_read : OpeningRead opening.endian raw_records opening.pending_header old new
-  pub metadata : HoldsPipeMetadata opening.endian raw_records opening
+  pub opening_read : OpeningRead opening.perf_file.endian raw_records opening.pending_header old new
+  pub metadata : HoldsPipeMetadata opening.perf_file.endian raw_records opening
 
 abbrev pub OpensPerfPipe : State → Result PipeOpening Error → State → Type 0
 OpensPerfPipe old (Ok opening) new = PipeOpened old opening new

@@ -113,13 +113,13 @@ module _ (order : Endianness) where
 
   -- An opening was built from the metadata.
   pub record OpeningFinished (m : PipeMetadata) (ending_header : Option (List ℕ)) (opening : PipeOpening) : Type 0 where
-    pub endian : opening.endian ≡ order
+    pub endian : opening.perf_file.endian ≡ order
     pub pending_header : opening.pending_header ≡ ending_header
-    pub attributes : described_attributes opening.attributes.items ≡ described_attributes m.attributes.items
-    pub sections : (n : ℕ) → feature_data_of opening.sections n ≡ feature_data_of m.sections n
-    pub features : opening.features ≡ m.features
-    pub names_match : NamedByEventDesc order (feature_data_of m.sections event_desc) opening.attributes.items
-    pub nonempty : 0 < length opening.attributes.items
+    pub attributes : described_attributes opening.perf_file.attributes.items ≡ described_attributes m.attributes.items
+    pub sections : (n : ℕ) → feature_data_of opening.perf_file.sections n ≡ feature_data_of m.sections n
+    pub features : opening.perf_file.features ≡ m.features
+    pub names_match : NamedByEventDesc order (feature_data_of m.sections event_desc) opening.perf_file.attributes.items
+    pub nonempty : 0 < length opening.perf_file.attributes.items
     pub consistent : AreConsistent (described_attributes m.attributes.items)
 
   -- The metadata has an error: there is no attribute, EVENT_DESC can't be read, or the attributes are inconsistent.

@@ -1,10 +1,9 @@
 //! Opens a file or a pipe, and returns its metadata and an iterator over its records.
-ghost use Rattle.std.specs.Prelude.{◌≡◌, ◌+◌, ◌<◌, ◌≤◌, IfOk, IfErr, vec_len};
+ghost use Rattle.std.specs.Prelude.{◌≡◌, ◌+◌, ◌≤◌, IfOk, IfErr};
 ghost use Rattle.linux_perf_data.specs.Attribute.{AreConsistent};
-ghost use Rattle.linux_perf_data.specs.Descriptions.{described_attributes};
 ghost use Rattle.linux_perf_data.specs.NamedErrors.{IsFileOpeningError, IsPipeOpeningError};
+ghost use Rattle.linux_perf_data.specs.PerfFile.{attributes_of_file};
 
-use crate::attributes::first_id_index::FirstIdIndex;
 use crate::attributes::lookup::AttributeLookup;
 use crate::file::opening::{FileOpening, open_file};
 use crate::perf_file::PerfFile;
@@ -35,28 +34,15 @@ impl<C: PlacedSource + Drop> PerfFileReader<C> {
         source: C,
         opening: FileOpening,
     ) -> Result<PerfFileReader<C>, Error>
-        requires nonempty { 0 < vec_len opening.attributes }
-        requires consistent { AreConsistent (described_attributes opening.attributes.items) }
+        requires { AreConsistent (attributes_of_file opening.perf_file) }
         ensures { BuildsReader C.state source opening result }
     {
-        let lookup = AttributeLookup::new(alloc, &opening.attributes, opening.endian)?;
+        let perf_file = opening.perf_file;
+        let endian = perf_file.endian;
+        let lookup = AttributeLookup::new(alloc, &perf_file.attributes, endian)?;
         let input = Input::Section(opening.data_size);
-        let record_iter = PerfRecordIter::new(
-            alloc,
-            source,
-            input,
-            opening.endian,
-            lookup,
-            Stage::Running,
-        );
-        let perf_file = PerfFile {
-            endian: opening.endian,
-            features: opening.features,
-            sections: opening.sections,
-            attributes: opening.attributes,
-            name_table: None,
-            first_id_index: FirstIdIndex::new(alloc),
-        };
+        let stage = Stage::Running;
+        let record_iter = PerfRecordIter::new(alloc, source, input, endian, lookup, stage);
         Ok(PerfFileReader {
             perf_file,
             record_iter,
@@ -117,25 +103,18 @@ impl<R: Source + Drop> PerfFileReader<R> {
         source: R,
         opening: PipeOpening,
     ) -> Result<PerfFileReader<R>, Error>
-        requires nonempty { 0 < vec_len opening.attributes }
-        requires consistent { AreConsistent (described_attributes opening.attributes.items) }
+        requires { AreConsistent (attributes_of_file opening.perf_file) }
         ensures { BuildsPipeReader R.state source opening result }
     {
-        let lookup = AttributeLookup::new(alloc, &opening.attributes, opening.endian)?;
+        let perf_file = opening.perf_file;
+        let endian = perf_file.endian;
+        let lookup = AttributeLookup::new(alloc, &perf_file.attributes, endian)?;
         let stage = match opening.pending_header {
             Some(_) => Stage::Running,
             None => Stage::Ended,
         };
         let input = Input::Pipe(opening.pending_header);
-        let record_iter = PerfRecordIter::new(alloc, source, input, opening.endian, lookup, stage);
-        let perf_file = PerfFile {
-            endian: opening.endian,
-            features: opening.features,
-            sections: opening.sections,
-            attributes: opening.attributes,
-            name_table: Some(opening.name_table),
-            first_id_index: FirstIdIndex::new(alloc),
-        };
+        let record_iter = PerfRecordIter::new(alloc, source, input, endian, lookup, stage);
         Ok(PerfFileReader {
             perf_file,
             record_iter,

@@ -10,11 +10,13 @@ ghost use Rattle.linux_perf_data.specs.FeatureData.{feature_data_of};
 ghost use Rattle.linux_perf_data.specs.NamedErrors.{IsFileOpeningError};
 
 use crate::attributes::consistency::check_consistency;
+use crate::attributes::first_id_index::FirstIdIndex;
 use crate::attributes::names::read_event_desc;
 use crate::file::feature_data::{read_features, seek_to_offset};
+use crate::perf_file::PerfFile;
 use byteorder::{BigEndian, LittleEndian};
 use indexmap::IndexMap;
-use perfdata_base::features::{Feature, FeatureSet};
+use perfdata_base::features::Feature;
 use perfdata_base::header::{self, PerfHeader};
 use perfdata_base::raw::Endianness;
 use perfdata_base::section::PerfFileSection;
@@ -27,10 +29,7 @@ use std::alloc::Global;
 // The metadata of a file, and the size of its data section.
 #[derive(Drop)]
 pub(crate) struct FileOpening {
-    pub(crate) endian: Endianness,
-    pub(crate) features: FeatureSet,
-    pub(crate) sections: IndexMap<Feature, Vec<u8>>,
-    pub(crate) attributes: Vec<AttributeDescription>,
+    pub(crate) perf_file: PerfFile,
     pub(crate) data_size: u64,
 }
 
@@ -211,11 +210,16 @@ fn open_after_header<C: PlacedSource>(
     }
     check_consistency(&attributes)?;
     seek_to_offset(source, data.offset)?;
-    Ok(FileOpening {
+    let perf_file = PerfFile {
         endian,
         features: header.features,
         sections,
         attributes,
+        name_table: None,
+        first_id_index: FirstIdIndex::new(alloc),
+    };
+    Ok(FileOpening {
+        perf_file,
         data_size: data.size,
     })
 }

@@ -11,8 +11,10 @@ ghost use Rattle.linux_perf_data.specs.PipeSteps.{ReadsMetadataBody, ReadsNext, 
 ghost use Rattle.linux_perf_data.specs.PipeSteps.{ReportsContentsError, TestsMetadataType};
 
 use crate::attributes::consistency::check_consistency;
+use crate::attributes::first_id_index::FirstIdIndex;
 use crate::attributes::names::name_attributes;
 use crate::file::opening::{endian_of_magic, feature_bytes};
+use crate::perf_file::PerfFile;
 use crate::pipe::pipe_opening::PipeOpening;
 use crate::records::framing::{body_size, record_end};
 use crate::records::input::{HeaderBytes, read_header_bytes};
@@ -237,12 +239,16 @@ fn finish_opening(
     let event_desc = feature_bytes(&sections, Feature::EVENT_DESC);
     let name_table = name_attributes(alloc, endian, event_desc, &mut attributes)?;
     check_consistency(&attributes)?;
-    Ok(PipeOpening {
+    let perf_file = PerfFile {
         endian,
         features,
         sections,
         attributes,
-        name_table,
+        name_table: Some(name_table),
+        first_id_index: FirstIdIndex::new(alloc),
+    };
+    Ok(PipeOpening {
+        perf_file,
         pending_header,
     })
 }

@@ -1,4 +1,4 @@
-use Rattle.std.proofs.Common.{◌≡◌, ◌≢◌, Ok, Err, length, rules, subst, refl}
+use Rattle.std.proofs.Common.{◌≡◌, ◌≢◌, Ok, Err, ◌∙◌, length, rules, subst, refl, sym, arith}
 use Rattle.std.proofs.lemmas.Result.{err_from_is_err_and}
 use Rattle.perfdata_base.specs.Features.{features_of}
 use Rattle.linux_perf_data.specs.FileOpening.{table_offset}
@@ -6,9 +6,27 @@ use Rattle.perfdata_base.specs.Section.{EndFitsU64}
 use Rattle.linux_perf_data.specs.Attribute.{AreConsistent}
 use Rattle.linux_perf_data.specs.Descriptions.{described_attributes}
 use Rattle.linux_perf_data.specs.Consistency.{ChecksConsistency}
-use Rattle.linux_perf_data.specs.FeatureData.{ReadsFeatures}
+use Rattle.linux_perf_data.specs.FeatureData.{ReadsFeatures, feature_data_of}
+use Rattle.linux_perf_data.specs.FeatureNumbers.{event_desc}
+use Rattle.linux_perf_data.specs.FirstIdIndex.{id_lists_of}
+use Rattle.linux_perf_data.proofs.NameTables.{no_events, no_names, no_none, no_some}
+use Rattle.linux_perf_data.proofs.PipeFinish.{not_none}
 use Rattle.linux_perf_data.proofs.FileOpenings.{attributes_error, attributes_none, attributes_inconsistent, has_read, sources_both, records_error, after_read}
 use Rattle.linux_perf_data.proofs.file.opening.open_after_header.Goals as goal
+
+pub invariant_of-perf_file : goal.invariant_of-perf_file
+invariant_of-perf_file g c =
+    let attributes = c.in_ok-attributes.attributes.items in
+    let desc = feature_data_of c.in_ok-sections.sections event_desc in
+    let some = not_none c.in_ok-attributes.attributes.len (sym c.if-is_empty.false ∙ c.is_empty.ensures) in
+    record {
+      nonempty = omega (arith, some);
+      names_match_table = no_names attributes;
+      empty_without_event_desc = no_none desc;
+      table_readable = no_some desc;
+      table_events_match = no_events desc;
+      first_ids_indexed = c.new.ensures (id_lists_of attributes);
+    }
 
 pub returns-in_err-attributes-clause-reads : goal.returns-in_err-attributes-clause-reads
 returns-in_err-attributes-clause-reads g c =

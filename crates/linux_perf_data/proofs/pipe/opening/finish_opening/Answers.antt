@@ -10,19 +10,22 @@ use Rattle.linux_perf_data.proofs.NameTables.{table_events, table_names, table_n
 use Rattle.linux_perf_data.proofs.PipeFinish.{names_kept, names_stop, not_none, inconsistency_stops}
 use Rattle.linux_perf_data.proofs.pipe.opening.finish_opening.Goals as goal
 
-pub invariant_of-result-clause-names_match_table : goal.invariant_of-result-clause-names_match_table
-invariant_of-result-clause-names_match_table c =
+pub invariant_of-perf_file-clause-names_match_table : goal.invariant_of-perf_file-clause-names_match_table
+invariant_of-perf_file-clause-names_match_table c =
     let items = with_items_is c.args.metadata.attributes c.name_attributes.new.attributes (c.name_attributes.auto.attributes ∙ c.deref_mut.ensures.len) in
     table_names c.in_ok-name_table.name_table _ (subst (NamedBy c.in_ok-name_table.name_table.events.items) (sym items) c.in_ok-name_table.ensures.4)
 
-pub invariant_of-result-clause-empty_without_event_desc : goal.invariant_of-result-clause-empty_without_event_desc
-invariant_of-result-clause-empty_without_event_desc c = table_none c.in_ok-name_table.name_table (feature_data_of c.args.metadata.sections 12) (subst (IsTableOf c.in_ok-name_table.name_table) c.feature_bytes-event_desc.ensures c.in_ok-name_table.ensures.3)
+pub invariant_of-perf_file-clause-empty_without_event_desc : goal.invariant_of-perf_file-clause-empty_without_event_desc
+invariant_of-perf_file-clause-empty_without_event_desc c = table_none c.in_ok-name_table.name_table (feature_data_of c.args.metadata.sections 12) (subst (IsTableOf c.in_ok-name_table.name_table) c.feature_bytes-event_desc.ensures c.in_ok-name_table.ensures.3)
 
-pub invariant_of-result-clause-table_readable : goal.invariant_of-result-clause-table_readable
-invariant_of-result-clause-table_readable c = table_some c.in_ok-name_table.name_table (feature_data_of c.args.metadata.sections 12) (subst (IsTableOf c.in_ok-name_table.name_table) c.feature_bytes-event_desc.ensures c.in_ok-name_table.ensures.3)
+pub invariant_of-perf_file-clause-table_readable : goal.invariant_of-perf_file-clause-table_readable
+invariant_of-perf_file-clause-table_readable c = table_some c.in_ok-name_table.name_table (feature_data_of c.args.metadata.sections 12) (subst (IsTableOf c.in_ok-name_table.name_table) c.feature_bytes-event_desc.ensures c.in_ok-name_table.ensures.3)
 
-pub invariant_of-result-clause-table_events_match : goal.invariant_of-result-clause-table_events_match
-invariant_of-result-clause-table_events_match c = table_events c.in_ok-name_table.name_table (feature_data_of c.args.metadata.sections 12) (subst (IsTableOf c.in_ok-name_table.name_table) c.feature_bytes-event_desc.ensures c.in_ok-name_table.ensures.3)
+pub invariant_of-perf_file-clause-table_events_match : goal.invariant_of-perf_file-clause-table_events_match
+invariant_of-perf_file-clause-table_events_match c = table_events c.in_ok-name_table.name_table (feature_data_of c.args.metadata.sections 12) (subst (IsTableOf c.in_ok-name_table.name_table) c.feature_bytes-event_desc.ensures c.in_ok-name_table.ensures.3)
+
+pub invariant_of-perf_file-clause-first_ids_indexed : goal.invariant_of-perf_file-clause-first_ids_indexed
+invariant_of-perf_file-clause-first_ids_indexed c = c.new.ensures _
 
 pub returns-in_err-name_table : goal.returns-in_err-name_table
 returns-in_err-name_table c =
