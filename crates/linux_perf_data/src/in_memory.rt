@@ -93,7 +93,7 @@ impl<'a> InMemoryRecords<'a> {
         ensures memory_for_metadata_only { NeedsMemoryForMetadataOnly self.old result self.new }
         ensures input_len_fits { length (input_of self.old) < 2 ^ 63 }
     {
-        // For the prover.
+        // For the prover: a slice is shorter than 2^63 bytes.
         let _size = self.input.len();
         match take_record(&mut self.iter, perf_file)? {
             Some((found, body)) => {

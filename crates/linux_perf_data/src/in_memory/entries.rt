@@ -109,7 +109,7 @@ impl<'a> InMemoryRecords<'a> {
         ensures taken { TakesRecordOfWalk self.old walk.old result.0 result.1 self.new walk.new }
         ensures input_len_fits { length (input_of self.old) < 2 ^ 63 }
     {
-        // For the prover.
+        // For the prover: a slice is shorter than 2^63 bytes.
         let _size = self.input.len();
         let (found, body) = walk.take_ahead_of(&mut self.iter, next);
         let endian = self.iter.endian;

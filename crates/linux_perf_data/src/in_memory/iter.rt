@@ -134,6 +134,7 @@ fn take_next_record<'a>(
         Stage::Ended => return Ok(None),
     }
     iter.body.clear();
+    // For the prover: the offset has 64 bits.
     let _offset = iter.offset;
     'raw_records: while iter.may_start_record() {
         let offset = iter.offset;

@@ -52,7 +52,7 @@ impl<'a> InMemoryReader<'a> {
         let reader = InMemoryReader::parse_file(alloc, bytes)?;
         let first_record_offset = reader.records.first_record_offset;
         let mut iter = reader.records.iter;
-        // The input is shorter than the largest position of a cursor.
+        // For the prover: the input is shorter than the largest position of a cursor.
         let _size = bytes.len();
         iter.source
             .set_position(first_record_offset.saturating_add(position.offset));

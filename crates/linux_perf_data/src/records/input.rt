@@ -19,7 +19,7 @@ pub(crate) enum Input {
     Pipe(Option<HeaderBytes>),
 }
 
-// The same bytes, with their length as a fact for the prover.
+// For the prover: the same bytes, with their length as a fact.
 fn header_of_eight(bytes: HeaderBytes) -> HeaderBytes
     ensures same { result ≡ bytes }
     ensures exact_len { length result ≡ 8 }

@@ -345,6 +345,7 @@ impl<R: Source> PerfRecordIter<R> {
             Stage::Ended => return Ok(None),
         }
         self.body.clear();
+        // For the prover: the offset has 64 bits.
         let _offset = self.offset;
         'raw_records: while self.may_start_record() {
             let offset = self.offset;
