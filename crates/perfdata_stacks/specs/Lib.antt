@@ -2,3 +2,4 @@
 pub mod Counts
 pub mod Frames
 pub mod Line
+pub mod OpenBoxes

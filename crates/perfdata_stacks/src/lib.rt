@@ -1,9 +1,11 @@
-//! Samples as lines of names, and how many samples each line has.
+//! Samples as lines of names, how many samples each line has, and the picture of the lines.
 //!
 //! [`frames::SampleFrames`] returns the frames of a sample, [`line::push_name`] and [`line::push_comm`] write
-//! the names of a line, and [`counts::StackCounts`] counts lines.
+//! the names of a line, [`counts::StackCounts`] counts lines, and [`flame::svg::write_flame_graph`] draws
+//! them.
 #![tactic(auto)]
 
 pub mod counts;
+pub mod flame;
 pub mod frames;
 pub mod line;

@@ -8,8 +8,8 @@ use crate::symbols::FileCounts;
 use linux_perf_data::in_memory::InMemoryReader;
 use perfdata_cli::error::{InputError, ProgramError};
 use perfdata_cli::input::{Input, open_in_memory};
-use perfdata_flame::svg::write_flame_graph;
 use perfdata_stacks::counts::StackCounts;
+use perfdata_stacks::flame::svg::write_flame_graph;
 use std::io;
 use std::io::{BufWriter, Write};
 

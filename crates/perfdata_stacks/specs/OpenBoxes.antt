@@ -1,6 +1,6 @@
 -- The boxes around the current sample.
 use Rattle.std.specs.Prelude.{ℕ, List}
-use Rattle.perfdata_flame.specs.declared.open_boxes.OpenBoxes.{OpenBoxes}
+use Rattle.perfdata_stacks.specs.declared.flame.open_boxes.OpenBoxes.{OpenBoxes}
 
 -- the starts of the open boxes, the outermost first
 abbrev pub starts_of : OpenBoxes → List ℕ

@@ -1,9 +1,7 @@
-//! Flame graphs of folded lines, as SVG.
+//! Flame graphs of lines, as SVG.
 //!
 //! [`svg::write_flame_graph`] writes one file without references to others: a box for each frame of the lines
 //! that start alike, as wide as its share of the samples, on that of its caller.
-#![tactic(auto)]
-
 mod boxes;
 pub mod open_boxes;
 mod script;

@@ -3,7 +3,7 @@ ghost use Rattle.std.specs.Prelude.{◌≡◌, ◌≤◌, ◌==◌, ◌+◌, ◌
 ghost use Rattle.std.specs.Prelude.{All, IfNone, IfSome, OnErr, OnOk, length, min};
 ghost use Rattle.std.specs.List.Sorted.{IsNonDecreasing};
 
-use crate::span::Span;
+use crate::flame::span::Span;
 use std::alloc::{AllocError, Global};
 
 /// The boxes around the current sample, the outermost first.
@@ -22,7 +22,7 @@ pub struct OpenBoxes {
 }
 
 impl OpenBoxes {
-    ghost use Rattle.perfdata_flame.specs.OpenBoxes.{position_of, starts_of};
+    ghost use Rattle.perfdata_stacks.specs.OpenBoxes.{position_of, starts_of};
 
     /// Returns no boxes, before the first sample.
     pub fn new(alloc: Global) -> OpenBoxes

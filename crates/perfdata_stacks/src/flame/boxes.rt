@@ -1,8 +1,8 @@
 //! The boxes of the frames of lines.
 
-use crate::open_boxes::OpenBoxes;
-use crate::span::Span;
-use perfdata_stacks::counts::StackCounts;
+use crate::counts::StackCounts;
+use crate::flame::open_boxes::OpenBoxes;
+use crate::flame::span::Span;
 use std::alloc::{AllocError, Global};
 
 /// What is between the names of a sorted line. No name contains it, and it sorts before all of their bytes.

@@ -1,11 +1,11 @@
 //! The SVG of a flame graph.
 
-use crate::boxes::{FlameBox, FlameBoxes};
-use crate::script::{SCRIPT, START, STYLE};
-use crate::span::{GRAPH_WIDTH, Span, share};
-use crate::xml_text::XmlText;
+use crate::counts::StackCounts;
+use crate::flame::boxes::{FlameBox, FlameBoxes};
+use crate::flame::script::{SCRIPT, START, STYLE};
+use crate::flame::span::{GRAPH_WIDTH, Span, share};
+use crate::flame::xml_text::XmlText;
 use bstr::ByteSlice;
-use perfdata_stacks::counts::StackCounts;
 use std::alloc::Global;
 use std::fmt::{Display, Formatter};
 use std::io::Write;
