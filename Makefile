@@ -12,7 +12,7 @@ help: ## lists the targets
 try: ## lists FILE before any proof: make try FILE=perf.data
 	packaging/try "$(FILE)"
 
-test: ## runs the cases in crates/conformance*/data before any proof: three minutes
+test: ## runs the cases in crates/conformance/data before any proof: three minutes
 	packaging/test
 
 check: ## the gate: every proof, must-fail edit and test, the programs and the C library

@@ -1,46 +1,12 @@
-//! Runs the cases of `data/`: calls of the reader, of listings, of the orders in time and of the accessors of
-//! metadata, and what they return.
+//! Runs the cases of `data/`: calls of the library, what they return, and what they are expected to return.
 #![tactic(auto)]
 
-mod listing;
-mod metadata;
-mod orders;
-mod output;
-mod reading;
-mod sink;
-mod slices;
-mod sorting;
-mod sources;
+mod cases;
+mod formats;
+mod reader;
 
-use conformance_cases::{Call, Calls, CaseResult, push_line, run};
 use std::process::ExitCode;
 
-#[derive(Clone, Copy)]
-struct ReaderCalls;
-
-impl Calls for ReaderCalls {
-    fn call(&self, call: &Call<'_>, out: &mut String) -> CaseResult<bool> {
-        match call.case.call {
-            "list-file" | "list-pipe" | "list-jit" => listing::push_listing(call, out)?,
-            "record-line" | "jit-line" | "error-line" => output::push_numbers(&call.case, out)?,
-            "write-line" => output::push_write(call, out)?,
-            "flush" => output::push_flush(call, out)?,
-            "finish" => output::push_finish(call, out)?,
-            "read-file" | "read-pipe" => reading::push_reading(call, out)?,
-            "order-file" | "order-pipe" => orders::push_ordered(call, out)?,
-            "sort" => sorting::sort(call, out)?,
-            "metadata" => metadata::push_metadata(call, out)?,
-            "bytes-left" => slices::push_bytes_left(call, out)?,
-            "entries" | "two-bodies" => slices::push_in_memory(call, out)?,
-            "count-file" | "count-pipe" => slices::push_count(call, out)?,
-            "code-size" => slices::push_code_size(call, out)?,
-            "size" => push_line(out, &call.input.bytes.len())?,
-            _ => return Ok(false),
-        }
-        Ok(true)
-    }
-}
-
 fn main(rt: HostRuntime) -> ExitCode {
-    run(&rt, &ReaderCalls)
+    cases::run(&rt)
 }

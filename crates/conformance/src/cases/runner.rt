@@ -1,0 +1,152 @@
+//! Runs the cases of the files that the arguments name, and compares their results.
+use crate::cases::case::Case;
+use crate::cases::case_error::CaseResult;
+use crate::cases::outcome::outcome_of;
+use crate::cases::values::{Definition, Scope};
+use perfdata_base::raw::Endianness;
+use std::process::ExitCode;
+use std::{env, fs};
+
+// The files that the arguments name, with their paths, and whether they are printed with the results.
+fn read_arguments(rt: &HostRuntime) -> CaseResult<(Vec<(String, String)>, bool)> {
+    let mut files = Vec::new(rt.alloc());
+    let mut is_update = false;
+    for path in env::args(rt)?.skip(1) {
+        if path.as_str() == "--update" {
+            is_update = true;
+        } else {
+            let text = fs::read_to_string(rt, path.as_str())?;
+            files.push((path, text))?;
+        }
+    }
+    Ok((files, is_update))
+}
+
+// The definitions so far, and the numbers of cases and of those with another result.
+#[derive(Drop)]
+struct Runner<'a> {
+    is_update: bool,
+    definitions: Vec<Definition<'a>>,
+    cases: u64,
+    differing: u64,
+}
+
+// A block without the comments before it.
+fn without_comments(block: &str) -> &str {
+    let mut size = 0usize;
+    for line in block.split('\n') {
+        if !line.is_empty() && !line.starts_with('#') {
+            break;
+        }
+        size = size.saturating_add(line.len()).saturating_add(1);
+    }
+    let (_, text) = block.split_at_checked(size).unwrap_or((block, ""));
+    text.trim_end_matches('\n')
+}
+
+// Prints where a case is, its result, and the expected result.
+fn print_difference(rt: &HostRuntime, place: &str, case: Case<'_>, outcome: &str) -> CaseResult {
+    println!(rt; "{place}: {}", case.call)?;
+    for line in outcome.lines() {
+        println!(rt; "  result:   {line}")?;
+    }
+    for line in case.expected.lines() {
+        println!(rt; "  expected: {line}")?;
+    }
+    Ok(())
+}
+
+impl<'a> Runner<'a> {
+    fn push_definitions(&mut self, text: &'a str) -> CaseResult {
+        for definition in text.split("\nlet ") {
+            self.definitions.push(Definition::parse(definition)?)?;
+        }
+        Ok(())
+    }
+
+    fn run_case(&mut self, rt: &HostRuntime, place: &str, case: Case<'_>) -> CaseResult {
+        let scope = Scope {
+            alloc: rt.alloc(),
+            definitions: &self.definitions,
+            endian: Endianness::LittleEndian,
+            turn: 0,
+        };
+        let outcome = match outcome_of(case, scope) {
+            Ok(outcome) => outcome,
+            Err(error) => format!(in rt.alloc(); "invalid case: {}\n", error.reason())?,
+        };
+        let is_expected = outcome.trim_end_matches('\n') == case.expected;
+        self.cases = self.cases.saturating_add(1);
+        self.differing = self.differing.saturating_add(u64::from(!is_expected));
+        if self.is_update {
+            print!(rt; "----\n{outcome}")?;
+        } else if !is_expected {
+            print_difference(rt, place, case, &outcome)?;
+        }
+        Ok(())
+    }
+
+    // Runs a block of a file: definitions, a case or comments.
+    fn run_block(&mut self, rt: &HostRuntime, place: &str, block: &'a str) -> CaseResult {
+        if self.is_update {
+            let (text, _) = block.split_once("\n----").unwrap_or((block, ""));
+            println!(rt; "{}", text.trim_matches('\n'))?;
+        }
+        let text = without_comments(block);
+        match text.strip_prefix("let ") {
+            Some(definitions) => self.push_definitions(definitions)?,
+            None if text.is_empty() => {}
+            None => self.run_case(rt, place, Case::parse(text)?)?,
+        }
+        if self.is_update {
+            println!(rt; "")?;
+        }
+        Ok(())
+    }
+
+    fn run_file(&mut self, rt: &HostRuntime, path: &str, text: &'a str) -> CaseResult {
+        let mut line = 1usize;
+        for block in text.split("\n\n") {
+            let place = format!(in rt.alloc(); "{path}:{line}")?;
+            self.run_block(rt, &place, block)?;
+            line = line
+                .saturating_add(block.matches('\n').count())
+                .saturating_add(2);
+        }
+        Ok(())
+    }
+}
+
+// Runs the cases of all files. Returns whether all results are as expected.
+fn run_files(rt: &HostRuntime) -> CaseResult<bool> {
+    let (files, is_update) = read_arguments(rt)?;
+    let mut run = Runner {
+        is_update,
+        definitions: Vec::new(rt.alloc()),
+        cases: 0,
+        differing: 0,
+    };
+    for (path, text) in files.iter() {
+        run.run_file(rt, path, text)?;
+    }
+    if !is_update {
+        println!(rt; "{} cases, {} differ", run.cases, run.differing)?;
+    }
+    Ok(run.differing == 0)
+}
+
+/// Runs the cases of the files that the arguments of the program name, and prints those with another result
+/// than expected. The last line says how many cases there are, and how many differ. The exit status is 1 if
+/// any differs, and 2 if a file can't be read.
+///
+/// A definition holds in its file and those after it. With the argument `--update` the files are printed with
+/// the results in place of the expected ones.
+pub fn run(rt: &HostRuntime) -> ExitCode {
+    match run_files(rt) {
+        Ok(is_expected) => ExitCode::from(u8::from(!is_expected)),
+        Err(error) => {
+            let _ = eprintln!(rt; "{}", error.reason());
+            ExitCode::from(2)
+        }
+    }
+}

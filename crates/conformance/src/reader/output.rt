@@ -1,0 +1,132 @@
+//! The calls that write lines: their text, the buffer of lines, and the end of a program.
+use crate::cases::{Call, Case, CaseResult, number_of, push_io_result, push_line, u32_of};
+use crate::reader::sink::Sink;
+use linux_perf_data::Error;
+use perfdata_listing::line::{Line, RecordFields};
+use perfdata_listing::list::{ListCause, ListFault, flush_listing, list_file};
+use perfdata_listing::output::{CountingBufWriter, finish, write_line};
+use std::alloc::{AllocError, Global};
+use std::io::{Cursor, Error as IoError, ErrorKind, Write};
+
+// The number that is the option with this index; 0 for `-`, with which it isn't there.
+fn word(case: &Case<'_>, index: usize) -> CaseResult<Option<u64>> {
+    match case.options.split_whitespace().nth(index) {
+        Some("-") => Ok(None),
+        word => Ok(Some(number_of(word.unwrap_or(""))?)),
+    }
+}
+
+fn number(case: &Case<'_>, index: usize) -> CaseResult<u64> {
+    Ok(word(case, index)?.unwrap_or(0))
+}
+
+/// Prints the line of the numbers that are the options: those of a record, of a jitdump record, or of an
+/// error.
+pub fn push_numbers(case: &Case<'_>, out: &mut String) -> CaseResult {
+    let first = number(case, 0)?;
+    let mut line = Line::for_error(first);
+    match case.call {
+        "record-line" => line.set_record(RecordFields {
+            offset: first,
+            round: number(case, 1)?,
+            timestamp: word(case, 2)?,
+            attr_index: word(case, 3)?,
+            record_type: u32_of(number(case, 4)?)?,
+            misc: u16::try_from(number(case, 5)?).unwrap_or(0),
+            body_length: number(case, 6)?,
+        }),
+        "jit-line" => {
+            let (time, record_type) = (number(case, 1)?, u32_of(number(case, 2)?)?);
+            line.set_jit_record(first, time, record_type, number(case, 3)?);
+        }
+        _ => {}
+    }
+    Ok(out.push_str(str::from_utf8(line.as_bytes()).unwrap_or(""))?)
+}
+
+// The number of records of a listed file, or of the lines before its error.
+fn listed_count(alloc: Global, bytes: &[u8]) -> Result<Result<u64, u64>, AllocError> {
+    let mut buffer = CountingBufWriter::new(alloc, Vec::new(alloc))?;
+    let listed = list_file(alloc, Cursor::new(bytes), &mut buffer);
+    Ok(flush_listing(listed, &mut buffer))
+}
+
+/// Prints the exit status after a listing, and what is written to standard error. The listing has `records=N`
+/// records, or fails after `fault=N`, or is that of the input.
+pub fn push_finish(call: &Call<'_>, out: &mut String) -> CaseResult {
+    let listed = match (call.case.number("records")?, call.case.number("fault")?) {
+        (Some(records), _) => Ok(records),
+        (None, Some(records)) => Err(records),
+        (None, None) => listed_count(call.alloc, call.input.bytes)?,
+    };
+    let mut sink = Sink::of_case(call)?;
+    push_io_result(out, &finish(listed, &mut sink))?;
+    sink.push_text(out)
+}
+
+/// Writes a line, and prints the result and the written text.
+pub fn push_write(call: &Call<'_>, out: &mut String) -> CaseResult {
+    let mut sink = Sink::of_case(call)?;
+    push_io_result(out, &write_line(&mut sink, call.input.bytes))?;
+    sink.push_text(out)?;
+    sink.push_counts(out)
+}
+
+// The result of a listing of this name, with this number of lines.
+fn listing_of(name: &str, lines: u64) -> Result<u64, ListFault> {
+    let cause = match name {
+        "ok" => return Ok(lines),
+        "write" => ListCause::Write(IoError::from(ErrorKind::StorageFull)),
+        _ => ListCause::Perf(Error::Failed),
+    };
+    Err(ListFault { lines, cause })
+}
+
+// Writes a line this many times. Returns whether all writes succeed, and appends the error of one that fails.
+fn write_lines<W: Write>(
+    buffer: &mut CountingBufWriter<W>,
+    line: &[u8],
+    count: u64,
+    out: &mut String,
+) -> CaseResult<bool> {
+    for _ in 0..count {
+        let written = write_line(buffer, line);
+        if written.is_err() {
+            push_io_result(out, &written)?;
+            return Ok(false);
+        }
+    }
+    Ok(true)
+}
+
+// Flushes the buffer, or ends the listings that the option `listed` names.
+fn push_flushes<W: Write>(
+    case: &Case<'_>,
+    buffer: &mut CountingBufWriter<W>,
+    lines: u64,
+    out: &mut String,
+) -> CaseResult {
+    let Some(names) = case.option("listed") else {
+        return push_io_result(out, &buffer.flush());
+    };
+    for name in names.split(',') {
+        push_line(out, &flush_listing(listing_of(name, lines), buffer))?;
+    }
+    Ok(())
+}
+
+/// Writes the input `lines=N` times into a buffer of lines, and flushes it; with `listed=NAMES` as the end of
+/// listings that return `ok`, or fail with `perf` or `write`. Prints the number of lines that reach the
+/// writer before and after that.
+pub fn push_flush(call: &Call<'_>, out: &mut String) -> CaseResult {
+    let lines = call.case.number("lines")?.unwrap_or(1);
+    let mut sink = Sink::of_case(call)?;
+    let mut buffer = CountingBufWriter::new(call.alloc, &mut sink)?;
+    if write_lines(&mut buffer, call.input.bytes, lines, out)? {
+        push_line(out, &buffer.lines_written())?;
+        push_flushes(&call.case, &mut buffer, lines, out)?;
+    }
+    push_line(out, &buffer.lines_written())?;
+    drop(buffer);
+    sink.push_counts(out)
+}

@@ -1,0 +1,113 @@
+//! The calls over slices: the bytes after each record, entries of records, and the examples.
+use crate::cases::{Call, CaseError, CaseResult, push_line, push_result};
+use crate::reader::reading::{is_pipe, open_in_memory};
+use example_library::count::{count_pipe_records, count_records};
+use example_library::jit_code_size::code_size;
+use linux_perf_data::in_memory::InMemoryRecords;
+use linux_perf_data::in_memory::entries::RecordEntry;
+use linux_perf_data::{Error, PerfFile, PerfFileReader, PerfRecordIter};
+use std::io::Cursor;
+
+// Appends the number of bytes that are left before the first and after each record.
+fn push_left(
+    records: &mut PerfRecordIter<&mut &[u8]>,
+    file: &mut PerfFile,
+    out: &mut String,
+) -> CaseResult {
+    for _ in 0..=records.get_ref().len() {
+        push_line(out, &records.get_ref().len())?;
+        if !matches!(records.next_record(file), Ok(Some(_))) {
+            break;
+        }
+    }
+    Ok(())
+}
+
+/// Prints the number of bytes that are left in a pipe after its opening and after each record.
+pub fn push_bytes_left(call: &Call<'_>, out: &mut String) -> CaseResult {
+    let mut rest = call.input.bytes;
+    match PerfFileReader::parse_pipe(call.alloc, &mut rest) {
+        Ok(reader) => {
+            let mut file = reader.perf_file;
+            let mut records = reader.record_iter;
+            push_left(&mut records, &mut file, out)
+        }
+        Err(error) => push_result(out, &Err::<(), Error>(error)),
+    }
+}
+
+// An entry that isn't written.
+const UNWRITTEN: RecordEntry = RecordEntry {
+    offset: 0,
+    body_offset: 0,
+    body_size: 0,
+    round: 0,
+    timestamp: 0,
+    attr_index: 0,
+    record_type: 0,
+    misc: 7,
+    has_timestamp: 0,
+    has_attr: 0,
+};
+
+// Appends the number of the entries of the next records, two entries, and the offset and the round of the
+// record after them.
+fn push_two_entries(
+    file: &mut PerfFile,
+    records: &mut InMemoryRecords<'_>,
+    out: &mut String,
+) -> CaseResult {
+    let mut entries = [UNWRITTEN; 2];
+    push_line(out, &records.read_entries(file, &mut entries))?;
+    push_line(out, &entries)?;
+    match records.next_record(file) {
+        Ok(next) => push_line(out, &next.map(|(place, _)| (place.offset, place.round))),
+        Err(error) => push_result(out, &Err::<(), Error>(error)),
+    }
+}
+
+// Appends the bodies of two records after both are read.
+fn push_two_bodies(
+    file: &mut PerfFile,
+    records: &mut InMemoryRecords<'_>,
+    out: &mut String,
+) -> CaseResult {
+    let first = records.next_record(file);
+    let second = records.next_record(file);
+    match (first, second) {
+        (Ok(Some((_, first))), Ok(Some((_, second)))) => {
+            push_line(out, &first.body())?;
+            push_line(out, &second.body())
+        }
+        _ => Err(CaseError::Invalid("fewer than two records")),
+    }
+}
+
+/// Prints the first entries or the first two bodies of an input in memory, of a file or with the option
+/// `format=pipe` of a pipe.
+pub fn push_in_memory(call: &Call<'_>, out: &mut String) -> CaseResult {
+    let is_pipe = is_pipe(call.case.option("format").unwrap_or(""));
+    match open_in_memory(call.alloc, is_pipe, call.input.bytes) {
+        Ok((mut file, mut records)) => match call.case.call {
+            "entries" => push_two_entries(&mut file, &mut records, out),
+            _ => push_two_bodies(&mut file, &mut records, out),
+        },
+        Err(error) => push_result(out, &Err::<(), Error>(error)),
+    }
+}
+
+/// Prints the number of records that the proved example counts.
+pub fn push_count(call: &Call<'_>, out: &mut String) -> CaseResult {
+    match call.case.call {
+        "count-file" => push_result(out, &count_records(call.alloc, call.input.bytes)),
+        _ => push_result(out, &count_pipe_records(call.alloc, call.input.bytes)),
+    }
+}
+
+/// Prints the size of the code in a jitdump.
+pub fn push_code_size(call: &Call<'_>, out: &mut String) -> CaseResult {
+    match code_size(call.alloc, Cursor::new(call.input.bytes)) {
+        Ok(size) => push_line(out, &size),
+        Err(error) => push_line(out, &error),
+    }
+}
