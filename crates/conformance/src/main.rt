@@ -2,6 +2,7 @@
 #![tactic(auto)]
 
 mod cases;
+mod examples;
 mod formats;
 mod reader;
 

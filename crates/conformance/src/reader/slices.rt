@@ -1,8 +1,8 @@
 //! The calls over slices: the bytes after each record, entries of records, and the examples.
 use crate::cases::{Call, CaseError, CaseResult, push_line, push_result};
+use crate::examples::count::{count_pipe_records, count_records};
+use crate::examples::jit_code_size::code_size;
 use crate::reader::reading::{is_pipe, open_in_memory};
-use example_library::count::{count_pipe_records, count_records};
-use example_library::jit_code_size::code_size;
 use linux_perf_data::in_memory::InMemoryRecords;
 use linux_perf_data::in_memory::entries::RecordEntry;
 use linux_perf_data::{Error, PerfFile, PerfFileReader, PerfRecordIter};

@@ -2,8 +2,8 @@
 //! memory. They prove from the library's public specifications alone that a count is the number of records in
 //! the layout, and that an error is one of the bytes.
 ghost use Rattle.std.specs.Prelude.{IfOk, IfErr};
-ghost use Rattle.example_library.specs.RecordCount.{HasRecordCount, HasPipeRecordCount, HasFileError};
-ghost use Rattle.example_library.specs.RecordCount.{HasPipeError};
+ghost use Rattle.conformance.specs.RecordCount.{HasRecordCount, HasPipeRecordCount, HasFileError};
+ghost use Rattle.conformance.specs.RecordCount.{HasPipeError};
 
 use linux_perf_data::{Error, PerfFileReader, laws};
 use std::alloc::Global;

@@ -6,7 +6,7 @@ use Rattle.perfdata_base.specs.Source.{State, memory_source_at}
 use Rattle.linux_perf_data.specs.Layout.{RecordView}
 use Rattle.linux_perf_data.specs.OpenedPipe.{PipeParsed}
 use Rattle.linux_perf_data.specs.Reading.{ReturnsRecords}
-use Rattle.example_library.proofs.count.count_pipe_records.Given as goal
+use Rattle.conformance.proofs.examples.count.count_pipe_records.Given as goal
 
 -- the source's state in contracts, for a slice that is read from its start
 abbrev pub state : Cursor (Bor (List ℕ)) → State
