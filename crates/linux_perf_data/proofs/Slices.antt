@@ -9,8 +9,8 @@ use Rattle.perfdata_base.proofs.ReadErrors.{none_or_paused, all_read}
 use Rattle.perfdata_base.proofs.Numbers.{number_prefix, number_drop_prefix}
 use Rattle.perfdata_base.specs.Endian.{number_in}
 use Rattle.perfdata_base.specs.declared.raw.Endianness.{Endianness}
-use Rattle.perfdata_base.specs.declared.source.AppendError.{AppendError}
-use Rattle.perfdata_base.specs.declared.source.AppendError.TheVariants.{Memory, Source}
+use Rattle.perfdata_base.specs.declared.source.append.AppendError.{AppendError}
+use Rattle.perfdata_base.specs.declared.source.append.AppendError.TheVariants.{Memory, Source}
 use Rattle.perfdata_sections.specs.ParsedPart.{PartRead, PartReadError, file_error_of}
 use Rattle.perfdata_sections.specs.NumberSections.{clock_of, IsClockSection, IsTruncatedClock, ParsesClock}
 use Rattle.perfdata_sections.specs.PmuMappings.{IsPmuSectionOf, IsTruncatedPmuSection, ReadsPmus}

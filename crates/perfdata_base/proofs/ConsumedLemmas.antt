@@ -5,8 +5,8 @@ use borrow.Rule.Slice.PartMut.{put_mid, post_of}
 use Rattle.std.proofs.Math.Seq.{take-append-add, take-append_seam}
 use lib.Seq.{take-take}
 use Rattle.perfdata_base.specs.Source.{State, Position, prepend, advance_by, StaysSteady, Consumed, SourceFailed, SourcePaused, EndedOrPaused, BufferFilled, PartlyRead, SkippedUpTo, AppendedUpTo, PartlyAppended, AppendsUpTo}
-use Rattle.perfdata_base.specs.declared.source.AppendError.{AppendError}
-use Rattle.perfdata_base.specs.declared.source.AppendError.TheVariants.{Memory, Source}
+use Rattle.perfdata_base.specs.declared.source.append.AppendError.{AppendError}
+use Rattle.perfdata_base.specs.declared.source.append.AppendError.TheVariants.{Memory, Source}
 use Rattle.std.specs.Prelude.{Err}
 
 moved_none : (p : Option Position) → p ≡ advance_by 0 p

@@ -5,9 +5,9 @@ use Rattle.std.specs.declared.io.SeekFrom.TheVariants.{Start, End, Current}
 use Rattle.std.specs.IoError.{error_kind}
 use Rattle.std.specs.declared.io.Error.{Error}
 use Rattle.std.specs.declared.io.ErrorKind.TheVariants.{UnexpectedEof, OutOfMemory}
-use Rattle.perfdata_base.specs.declared.source.AppendError.{AppendError}
-use Rattle.perfdata_base.specs.declared.source.Counted.{Counted}
-use Rattle.perfdata_base.specs.declared.source.AppendError.TheVariants.{Memory, Source}
+use Rattle.perfdata_base.specs.declared.source.append.AppendError.{AppendError}
+use Rattle.perfdata_base.specs.declared.source.counted.Counted.{Counted}
+use Rattle.perfdata_base.specs.declared.source.append.AppendError.TheVariants.{Memory, Source}
 
 -- all bytes of a source that can seek, and the offset of the next read
 pub record Position : Type 0 where

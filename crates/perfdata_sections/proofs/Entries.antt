@@ -10,8 +10,8 @@ use Rattle.perfdata_base.specs.Source.{State, Position, all_bytes_of, at_offset,
 use Rattle.perfdata_base.specs.Section.{EndFitsU64, EndOverflowsU64, section_entry_of, SectionEntryParsed}
 use Rattle.perfdata_base.specs.declared.attr.PerfEventAttr.{PerfEventAttr}
 use Rattle.perfdata_base.specs.declared.section.PerfFileSection.{PerfFileSection}
-use Rattle.perfdata_base.specs.declared.source.AppendError.{AppendError}
-use Rattle.perfdata_base.specs.declared.source.AppendError.TheVariants.{Memory as NoMemory, Source}
+use Rattle.perfdata_base.specs.declared.source.append.AppendError.{AppendError}
+use Rattle.perfdata_base.specs.declared.source.append.AppendError.TheVariants.{Memory as NoMemory, Source}
 use Rattle.perfdata_base.proofs.ReadErrors.{consumed-after_seek, after_seek_more}
 use Rattle.perfdata_base.proofs.ConsumedLemmas.{consumed_none}
 use Rattle.perfdata_base.proofs.Numbers.{ReadsFirst}

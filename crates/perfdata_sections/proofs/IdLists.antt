@@ -8,8 +8,8 @@ use Rattle.perfdata_base.specs.Source.{State}
 use Rattle.perfdata_base.proofs.ReadErrors.{truncated_later}
 use Rattle.perfdata_base.proofs.ConsumedLemmas.{consumed_more, consumed_none}
 use Rattle.perfdata_base.proofs.Numbers.{ReadsFirst}
-use Rattle.perfdata_base.specs.declared.source.AppendError.{AppendError}
-use Rattle.perfdata_base.specs.declared.source.AppendError.TheVariants.{Memory, Source}
+use Rattle.perfdata_base.specs.declared.source.append.AppendError.{AppendError}
+use Rattle.perfdata_base.specs.declared.source.append.AppendError.TheVariants.{Memory, Source}
 use Rattle.perfdata_sections.specs.ParsedPart.{PartRead}
 use Rattle.perfdata_sections.specs.EventIds.{u64s_of, AppendsIds, AreIds, BeginsWithIds, ReadsIds}
 

@@ -22,8 +22,8 @@ use Rattle.indexmap.specs.IndexMap.{IndexMap, keys, insert_entry}
 use Rattle.indexmap.proofs.CallerLemmas.{insert_entry-new}
 use Rattle.perfdata_sections.specs.declared.feature_sections.pmu_mappings.PmuMappings.{PmuMappings}
 use Rattle.perfdata_base.specs.Source.{State, Consumed, ReadExactError}
-use Rattle.perfdata_base.specs.declared.source.AppendError.{AppendError}
-use Rattle.perfdata_base.specs.declared.source.AppendError.TheVariants.{Memory, Source}
+use Rattle.perfdata_base.specs.declared.source.append.AppendError.{AppendError}
+use Rattle.perfdata_base.specs.declared.source.append.AppendError.TheVariants.{Memory, Source}
 use Rattle.perfdata_base.proofs.ConsumedLemmas.{consumed_more, consumed_none, consumed_none_later, failed_later}
 use Rattle.perfdata_base.proofs.Numbers.{ReadsFirst}
 use Rattle.perfdata_sections.specs.ParsedPart.{PartRead, PartPartlyRead, PartReadError}

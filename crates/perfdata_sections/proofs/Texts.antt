@@ -12,8 +12,8 @@ use Rattle.std.specs.declared.io.Error.{Error}
 use Rattle.perfdata_base.specs.Source.{State, Consumed, PartlyRead, ReadExactError}
 use Rattle.perfdata_base.proofs.ConsumedLemmas.{consumed_more}
 use Rattle.perfdata_base.proofs.Numbers.{ReadsFirst}
-use Rattle.perfdata_base.specs.declared.source.AppendError.{AppendError}
-use Rattle.perfdata_base.specs.declared.source.AppendError.TheVariants.{Memory, Source}
+use Rattle.perfdata_base.specs.declared.source.append.AppendError.{AppendError}
+use Rattle.perfdata_base.specs.declared.source.append.AppendError.TheVariants.{Memory, Source}
 use Rattle.perfdata_sections.specs.ParsedPart.{PartRead, PartPartlyRead, PartReadError, ReadsBytes}
 use Rattle.perfdata_sections.specs.HeaderString.{before_nul, utf8_text, IsTruncatedString, IsTruncatedText, IsHeaderStringOf, ReadsHeaderString}
 use Rattle.perfdata_sections.proofs.PartLemmas.{drop_prefix, stopped_after, stopped_at_once}

@@ -5,8 +5,8 @@ use Rattle.std.specs.Option.{option_map}
 use Rattle.std.specs.declared.alloc.Global.{Global}
 use Rattle.perfdata_base.specs.Source.{State, Consumed, SourceFailed, AfterSeek, advance_by}
 use Rattle.perfdata_base.specs.declared.attr.PerfEventAttr.{PerfEventAttr}
-use Rattle.perfdata_base.specs.declared.source.AppendError.{AppendError}
-use Rattle.perfdata_base.specs.declared.source.AppendError.TheVariants.{Memory as NoMemory, Source}
+use Rattle.perfdata_base.specs.declared.source.append.AppendError.{AppendError}
+use Rattle.perfdata_base.specs.declared.source.append.AppendError.TheVariants.{Memory as NoMemory, Source}
 use Rattle.perfdata_sections.specs.AttributeDescription.{DescribedEvent, event_in, events_in}
 use Rattle.perfdata_sections.specs.AttrFrames.{IsAttrInFrame, IsFrameError, ConsumesFrameError, IsFrameReadError, FrameRead}
 use Rattle.perfdata_sections.specs.Error.{IsUnexpectedEof, IsIoError}

@@ -2,7 +2,8 @@
 ghost use Rattle.std.specs.Prelude.{◌≡◌, ◌≤◌, [], vec_len, refl};
 ghost use Rattle.std.proofs.lemmas.Bool.{false≢true};
 
-use crate::source::{NOT_BUFFERED, PlacedSource, Source, copy_from_offset};
+use crate::source::slices::copy_from_offset;
+use crate::source::{NOT_BUFFERED, PlacedSource, Source};
 use std::io::{Cursor, Error, ErrorKind, Result, SeekFrom};
 
 /// The effect of one read of a [`Script`].
