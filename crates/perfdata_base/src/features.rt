@@ -7,112 +7,112 @@ ghost use Rattle.perfdata_base.specs.Features.{features_of, remaining_features};
 
 use std::fmt;
 
-/// The formats of tracepoints, as ftrace describes them.
+/// The number of [`Feature::TRACING_DATA`].
 pub const HEADER_TRACING_DATA: u32 = 1;
 
-/// The build ids of mapped objects.
+/// The number of [`Feature::BUILD_ID`].
 pub const HEADER_BUILD_ID: u32 = 2;
 
-/// The machine's name.
+/// The number of [`Feature::HOSTNAME`].
 pub const HEADER_HOSTNAME: u32 = 3;
 
-/// The kernel's release.
+/// The number of [`Feature::OSRELEASE`].
 pub const HEADER_OSRELEASE: u32 = 4;
 
-/// The version of the recording tool.
+/// The number of [`Feature::VERSION`].
 pub const HEADER_VERSION: u32 = 5;
 
-/// The processor's architecture.
+/// The number of [`Feature::ARCH`].
 pub const HEADER_ARCH: u32 = 6;
 
-/// The numbers of available and of online processors of the machine.
+/// The number of [`Feature::NRCPUS`].
 pub const HEADER_NRCPUS: u32 = 7;
 
-/// The processor's description.
+/// The number of [`Feature::CPUDESC`].
 pub const HEADER_CPUDESC: u32 = 8;
 
-/// The processor's id.
+/// The number of [`Feature::CPUID`].
 pub const HEADER_CPUID: u32 = 9;
 
-/// The memory of the machine, in kB.
+/// The number of [`Feature::TOTAL_MEM`].
 pub const HEADER_TOTAL_MEM: u32 = 10;
 
-/// The command-line arguments of the recording.
+/// The number of [`Feature::CMDLINE`].
 pub const HEADER_CMDLINE: u32 = 11;
 
-/// The attributes with their names and ids.
+/// The number of [`Feature::EVENT_DESC`].
 pub const HEADER_EVENT_DESC: u32 = 12;
 
-/// The processors that are cores of one package, and those that are threads of one core.
+/// The number of [`Feature::CPU_TOPOLOGY`].
 pub const HEADER_CPU_TOPOLOGY: u32 = 13;
 
-/// The memory nodes and their processors.
+/// The number of [`Feature::NUMA_TOPOLOGY`].
 pub const HEADER_NUMA_TOPOLOGY: u32 = 14;
 
-/// Samples have branch stacks; the section is empty.
+/// The number of [`Feature::BRANCH_STACK`].
 pub const HEADER_BRANCH_STACK: u32 = 15;
 
-/// The names of the performance monitoring units by their numbers.
+/// The number of [`Feature::PMU_MAPPINGS`].
 pub const HEADER_PMU_MAPPINGS: u32 = 16;
 
-/// The groups of events.
+/// The number of [`Feature::GROUP_DESC`].
 pub const HEADER_GROUP_DESC: u32 = 17;
 
-/// The offsets of the auxtrace records.
+/// The number of [`Feature::AUXTRACE`].
 pub const HEADER_AUXTRACE: u32 = 18;
 
-/// Marks a recording that `perf stat` wrote.
+/// The number of [`Feature::STAT`].
 pub const HEADER_STAT: u32 = 19;
 
-/// The caches of the processors.
+/// The number of [`Feature::CACHE`].
 pub const HEADER_CACHE: u32 = 20;
 
-/// The times of the first and of the last sample.
+/// The number of [`Feature::SAMPLE_TIME`].
 pub const HEADER_SAMPLE_TIME: u32 = 21;
 
-/// The blocks of memory of each node (`MEM_TOPOLOGY` in perf).
+/// The number of [`Feature::SAMPLE_TOPOLOGY`].
 pub const HEADER_SAMPLE_TOPOLOGY: u32 = 22;
 
-/// The frequency of the clock of the records' times.
+/// The number of [`Feature::CLOCKID`].
 pub const HEADER_CLOCKID: u32 = 23;
 
-/// The recording is a directory; the section contains the version of its format.
+/// The number of [`Feature::DIR_FORMAT`].
 pub const HEADER_DIR_FORMAT: u32 = 24;
 
-/// The BPF programs that were loaded.
+/// The number of [`Feature::BPF_PROG_INFO`].
 pub const HEADER_BPF_PROG_INFO: u32 = 25;
 
-/// The types of the BPF programs.
+/// The number of [`Feature::BPF_BTF`].
 pub const HEADER_BPF_BTF: u32 = 26;
 
-/// The compression of the records.
+/// The number of [`Feature::COMPRESSED`].
 pub const HEADER_COMPRESSED: u32 = 27;
 
-/// The capabilities of the processor's monitoring unit.
+/// The number of [`Feature::CPU_PMU_CAPS`].
 pub const HEADER_CPU_PMU_CAPS: u32 = 28;
 
-/// The clock of the records' times, and the time of day at one of its times.
+/// The number of [`Feature::CLOCK_DATA`].
 pub const HEADER_CLOCK_DATA: u32 = 29;
 
-/// The processors of each type.
+/// The number of [`Feature::HYBRID_TOPOLOGY`].
 pub const HEADER_HYBRID_TOPOLOGY: u32 = 30;
 
-/// The capabilities of the monitoring unit of each type of processor.
+/// The number of [`Feature::HYBRID_CPU_PMU_CAPS`].
 pub const HEADER_HYBRID_CPU_PMU_CAPS: u32 = 31;
 
-/// The symbols of files, as older simpleperf writes them.
+/// The number of [`Feature::SIMPLEPERF_FILE`].
 pub const HEADER_SIMPLEPERF_FILE: u32 = 128;
 
-/// Pairs of strings from simpleperf.
+/// The number of [`Feature::SIMPLEPERF_META_INFO`].
 pub const HEADER_SIMPLEPERF_META_INFO: u32 = 129;
 
-/// The data for debugging simpleperf's unwinding.
+/// The number of [`Feature::SIMPLEPERF_DEBUG_UNWIND`].
 pub const HEADER_SIMPLEPERF_DEBUG_UNWIND: u32 = 130;
 
-/// The files for debugging simpleperf's unwinding.
+/// The number of [`Feature::SIMPLEPERF_DEBUG_UNWIND_FILE`].
 pub const HEADER_SIMPLEPERF_DEBUG_UNWIND_FILE: u32 = 131;
 
-/// The symbols of files, as protobuf messages of simpleperf.
+/// The number of [`Feature::SIMPLEPERF_FILE2`].
 pub const HEADER_SIMPLEPERF_FILE2: u32 = 132;
 
 /// The number of a kind of data that has a section of its own in a perf.data file (`perf_header` features of

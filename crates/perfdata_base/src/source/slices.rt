@@ -202,6 +202,7 @@ impl Source for Cursor<&[u8]> {
 
 impl PlacedSource for Cursor<Vec<u8>> {
     fn seek_to(&mut self, to: SeekFrom) -> Result<u64> {
+        // For the prover.
         let _at = self.position();
         Seek::seek(self, to)
     }
@@ -211,6 +212,7 @@ impl PlacedSource for Cursor<Vec<u8>> {
 
 impl PlacedSource for Cursor<&[u8]> {
     fn seek_to(&mut self, to: SeekFrom) -> Result<u64> {
+        // For the prover.
         let _at = self.position();
         Seek::seek(self, to)
     }
