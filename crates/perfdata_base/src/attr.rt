@@ -143,7 +143,7 @@ pub struct PerfEventAttr {
 /// The number of bytes of an attribute that are parsed. Later bytes are skipped.
 pub const KNOWN_SIZE: usize = 136;
 
-/// The minimum size of an attribute in bytes, that of its first version.
+// The minimum size of an attribute in bytes, that of its first version.
 const MIN_SIZE: u32 = 64;
 
 #[tactic(auto, unfolding(crate::specs::Attr::field))]

@@ -104,7 +104,7 @@ impl RecordType {
     }
 }
 
-/// The first type that the kernel leaves to programs (`PERF_RECORD_USER_TYPE_START`).
+// The first type that the kernel leaves to programs (`PERF_RECORD_USER_TYPE_START`).
 const FIRST_USER_TYPE: u32 = 64;
 
 /// The mode of the processor when a record was written.

@@ -36,13 +36,13 @@ pub struct PerfHeader {
     pub features: FeatureSet,
 }
 
-/// The number of header bytes that are parsed.
+// The number of header bytes that are parsed.
 const KNOWN_SIZE: usize = 104;
 
-/// The magic of a little-endian file or pipe.
+// The magic of a little-endian file or pipe.
 const LITTLE_MAGIC: [u8; 8] = *b"PERFILE2";
 
-/// The magic of a big-endian file or pipe.
+// The magic of a big-endian file or pipe.
 const BIG_MAGIC: [u8; 8] = *b"2ELIFREP";
 
 /// Returns the byte order of a perf.data file or pipe with this magic, or `None` if it is the magic of

@@ -43,7 +43,7 @@ pub struct RecordParseInfo {
     pub other_time_from_end: Option<u64>,
 }
 
-/// The optional u64 fields at the start of a sample, in order, each as the format bit that selects it.
+// The optional u64 fields at the start of a sample, in order, each as the format bit that selects it.
 const SAMPLE_WORDS: [SampleFormat; 6] = [
     SampleFormat::IDENTIFIER,
     SampleFormat::IP,
@@ -53,7 +53,7 @@ const SAMPLE_WORDS: [SampleFormat; 6] = [
     SampleFormat::ID,
 ];
 
-/// The optional u64 fields at the end of another record, in order, each as the format bit that selects it.
+// The optional u64 fields at the end of another record, in order, each as the format bit that selects it.
 const TRAILING_WORDS: [SampleFormat; 6] = [
     SampleFormat::TID,
     SampleFormat::TIME,
@@ -63,14 +63,14 @@ const TRAILING_WORDS: [SampleFormat; 6] = [
     SampleFormat::IDENTIFIER,
 ];
 
-/// The number of these fields that a format selects.
+// The number of these fields that a format selects.
 fn word_count(words: &[SampleFormat], format: SampleFormat) -> usize
     ensures { result ≡ length (filter (λ w. bit_and format.0 w.0 == w.0) words.now) }
 {
     words.iter().filter(|w| format.contains(**w)).count()
 }
 
-/// The index of a field among those of these fields that a format selects.
+// The index of a field among those of these fields that a format selects.
 fn word_index(words: &[SampleFormat], format: SampleFormat, word: SampleFormat) -> Option<usize>
     ensures { result ≡ position (λ w. w.0 == word.0) (filter (λ w. bit_and format.0 w.0 == w.0) words.now) }
 {
@@ -80,7 +80,7 @@ fn word_index(words: &[SampleFormat], format: SampleFormat, word: SampleFormat) 
         .position(|w| *w == word)
 }
 
-/// The offset of a field in a sample, in bytes from the start of the body. Each field has eight bytes.
+// The offset of a field in a sample, in bytes from the start of the body. Each field has eight bytes.
 fn offset_from_start(format: SampleFormat, word: SampleFormat) -> Option<u64>
     ensures { (k : ℕ) → word.0 ≡ 2 ^ k → result ≡ offset_from_start (sample_words format.0) k }
 {
@@ -90,7 +90,7 @@ fn offset_from_start(format: SampleFormat, word: SampleFormat) -> Option<u64>
     }
 }
 
-/// The offset of a field in another record, in bytes from the end of the body.
+// The offset of a field in another record, in bytes from the end of the body.
 fn offset_from_end(format: SampleFormat, flags: AttrFlags, word: SampleFormat) -> Option<u64>
     ensures { (k : ℕ) → word.0 ≡ 2 ^ k → result ≡ offset_from_end (trailing_words format.0 flags.0) k }
 {
@@ -104,7 +104,7 @@ fn offset_from_end(format: SampleFormat, flags: AttrFlags, word: SampleFormat) -
     }
 }
 
-/// The field that contains a record's identifier.
+// The field that contains a record's identifier.
 fn identifier_field(format: SampleFormat) -> SampleFormat
     ensures { result.0 ≡ 2 ^ identifier_word format.0 }
 {
@@ -186,8 +186,8 @@ impl RecordParseInfo {
     }
 }
 
-/// The offset of an eight-byte number that starts `at` bytes after the start of a body of `len` bytes. `None`
-/// if it isn't completely in the body.
+// The offset of an eight-byte number that starts `at` bytes after the start of a body of `len` bytes. `None`
+// if it isn't completely in the body.
 fn checked_offset_from_start(len: usize, at: u64) -> Option<usize>
     ensures { result ≡ checked_offset_from_start len at }
 {
@@ -197,8 +197,8 @@ fn checked_offset_from_start(len: usize, at: u64) -> Option<usize>
     }
 }
 
-/// The offset of an eight-byte number that starts `back` bytes before the end of a body of `len` bytes.
-/// `None` if it isn't completely in the body.
+// The offset of an eight-byte number that starts `back` bytes before the end of a body of `len` bytes.
+// `None` if it isn't completely in the body.
 fn checked_offset_from_end(len: usize, back: u64) -> Option<usize>
     ensures { result ≡ checked_offset_from_end len back }
 {
@@ -209,7 +209,7 @@ fn checked_offset_from_end(len: usize, back: u64) -> Option<usize>
     }
 }
 
-/// The offset of a record's number in its body of `len` bytes.
+// The offset of a record's number in its body of `len` bytes.
 fn offset_in_body(
     record_type: RecordType,
     len: usize,
@@ -228,7 +228,7 @@ fn offset_in_body(
     }
 }
 
-/// A number of a record whose body is contiguous.
+// A number of a record whose body is contiguous.
 fn field_in_slice(
     endian: Endianness,
     record_type: RecordType,
@@ -244,7 +244,7 @@ fn field_in_slice(
     }
 }
 
-/// A number of a record.
+// A number of a record.
 fn field_in_body<T: FileOrder>(
     record_type: RecordType,
     body: RawData<'_>,

@@ -61,16 +61,16 @@ const PERF_RECORD_TEXT_POKE: u32 = 20;
 
 const PERF_RECORD_AUX_OUTPUT_HW_ID: u32 = 21;
 
-/// The highest type that is parsed.
+// The highest type that is parsed.
 const LAST_TYPE: u32 = PERF_RECORD_AUX_OUTPUT_HW_ID;
 
-/// The lowest bit of the sample format after the last one that has a name.
+// The lowest bit of the sample format after the last one that has a name.
 const SAMPLE_FIELDS_END: u64 = SampleFields::WEIGHT_STRUCT.0 << 1;
 
-/// The lowest bit of the read format after the last one that has a name.
+// The lowest bit of the read format after the last one that has a name.
 const READ_FIELDS_END: u64 = ReadFields::LOST.0 << 1;
 
-/// The lowest bit of the branch sample type after the last one that has a name.
+// The lowest bit of the branch sample type after the last one that has a name.
 const BRANCH_FIELDS_END: u64 = BranchFields::COUNTERS.0 << 1;
 
 /// A kernel record, parsed by its type.

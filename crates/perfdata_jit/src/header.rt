@@ -13,13 +13,13 @@ use perfdata_base::endian::{read_u32, read_u64};
 use perfdata_base::raw::{Endianness, FileOrder, RawData};
 use std::io;
 
-/// Number of header bytes with a defined meaning after the magic.
+// Number of header bytes with a defined meaning after the magic.
 const SIZE_AFTER_MAGIC: usize = JitDumpHeader::SIZE - 4;
 
-/// The magic of a little-endian file.
+// The magic of a little-endian file.
 const LITTLE_MAGIC: [u8; 4] = [b'D', b'T', b'i', b'J'];
 
-/// The magic of a big-endian file.
+// The magic of a big-endian file.
 const BIG_MAGIC: [u8; 4] = [b'J', b'i', b'T', b'D'];
 
 /// The file header of a jitdump.

@@ -21,7 +21,7 @@ use std::alloc::Global;
 use std::io::{self, Error, ErrorKind};
 use std::result::Result;
 
-/// The buffer size that `new` chooses, in bytes.
+// The buffer size that `new` chooses, in bytes.
 const BUFFER_SIZE: usize = 4096;
 
 /// A reader that returns the records of a jitdump file one by one, also while the file grows.

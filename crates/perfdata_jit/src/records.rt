@@ -18,19 +18,19 @@ use perfdata_base::source::unexpected_eof;
 use std::alloc::Global;
 use std::io::Result;
 
-/// Number of bytes in a load record's body before the function's name.
+// Number of bytes in a load record's body before the function's name.
 const LOAD_FIXED_SIZE: usize = 40;
 
-/// The size of a move record's body in bytes.
+// The size of a move record's body in bytes.
 const MOVE_SIZE: usize = 48;
 
-/// Number of bytes in a debug info record's body before its entries.
+// Number of bytes in a debug info record's body before its entries.
 const DEBUG_INFO_FIXED_SIZE: usize = 16;
 
-/// Number of bytes in a debug entry before the path of the source file.
+// Number of bytes in a debug entry before the path of the source file.
 const ENTRY_FIXED_SIZE: usize = 16;
 
-/// Number of bytes in an unwinding info record's body before its data.
+// Number of bytes in an unwinding info record's body before its data.
 const UNWINDING_FIXED_SIZE: usize = 24;
 
 /// A function that was compiled (`JIT_CODE_LOAD`).

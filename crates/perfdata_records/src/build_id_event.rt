@@ -31,13 +31,13 @@ pub struct BuildIdEvent {
     pub file_path: Vec<u8>,
 }
 
-/// The size in bytes of the part before the path: the record header, the process id, and the build id field.
+// The size in bytes of the part before the path: the record header, the process id, and the build id field.
 const FIXED_SIZE: usize = 36;
 
-/// The maximum size of a build id in bytes.
+// The maximum size of a build id in bytes.
 const MAX_BUILD_ID_SIZE: usize = 20;
 
-/// The bit of `misc` for entries that contain the size of the build id (`PERF_RECORD_MISC_BUILD_ID_SIZE`).
+// The bit of `misc` for entries that contain the size of the build id (`PERF_RECORD_MISC_BUILD_ID_SIZE`).
 const HAS_BUILD_ID_SIZE: u16 = 0x8000;
 
 // Returns the bytes without trailing groups of four zero bytes.

@@ -12,10 +12,10 @@ use perfdata_base::raw::{Endianness, FileOrder, RawData};
 use std::alloc::AllocError;
 use std::io::{Error, ErrorKind, Result};
 
-/// The size of an entry in bytes: a thread id of 8, and a name of 16.
+// The size of an entry in bytes: a thread id of 8, and a name of 16.
 const ENTRY_SIZE: usize = 24;
 
-/// The size of the name in bytes.
+// The size of the name in bytes.
 const NAME_SIZE: usize = 16;
 
 /// The recorded threads (`PERF_RECORD_THREAD_MAP` of Linux's perf). Contracts describe them with

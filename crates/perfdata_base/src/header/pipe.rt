@@ -18,7 +18,7 @@ pub struct PerfPipeHeader {
     pub size: u64,
 }
 
-/// The number of header bytes that are parsed.
+// The number of header bytes that are parsed.
 const KNOWN_SIZE: usize = 16;
 
 // Parses a header in the byte order of its magic.

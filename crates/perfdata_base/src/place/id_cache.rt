@@ -1,10 +1,10 @@
 //! A cache of identifiers that saves lookups.
 ghost use Rattle.std.specs.Prelude.{◌≡◌, ◌≢◌, ℕ, ◌%◌, None, Some};
 
-/// The maximum number of pairs.
+// The maximum number of pairs.
 const SLOTS: u64 = 64;
 
-/// An identifier and the index of its attribute.
+// An identifier and the index of its attribute.
 #[derive(Clone, Copy)]
 struct Pair {
     id: u64,

@@ -55,8 +55,8 @@ impl From<AppendError> for Error {
     }
 }
 
-/// The maximum number of bytes per read. It bounds the memory that a stated length costs if its bytes are
-/// missing.
+// The maximum number of bytes per read. It bounds the memory that a stated length costs if its bytes are
+// missing.
 const APPEND_CHUNK_SIZE: usize = 4096;
 
 static ZEROS: [u8; APPEND_CHUNK_SIZE] = [0; APPEND_CHUNK_SIZE];

@@ -8,7 +8,7 @@ ghost use Rattle.perfdata_base.specs.Source.{SkipsUpTo, ReadsExactly, SkipsExact
 use crate::source::Source;
 use std::io::{Error, ErrorKind, Result};
 
-/// How many times in a row an interrupted read is retried.
+// How many times in a row an interrupted read is retried.
 const MAX_INTERRUPTED_RETRIES: u32 = 16;
 
 fn is_interrupted(error: &Error) -> bool
@@ -60,7 +60,7 @@ pub fn fill<S: Source>(source: &mut S, buf: &mut [u8]) -> Result<usize>
     fill_by_reads(source, buf)
 }
 
-/// The maximum number of bytes that one read skips.
+// The maximum number of bytes that one read skips.
 const SKIP_BUFFER_SIZE: usize = 512;
 
 /// Skips `count` bytes, or fewer if the source ends or pauses before, and returns the number of bytes

@@ -7,7 +7,7 @@ ghost use Rattle.std.specs.declared.io.SeekFrom.TheVariants.{Start};
 
 use std::io::{Result, Seek, SeekFrom};
 
-/// The last position of a file.
+// The last position of a file.
 const MAX_POSITION: u64 = i64::MAX as u64;
 
 // The offset from a known position to a target, and the target's position.

@@ -19,25 +19,25 @@ use bitflags::Flags;
 use perfdata_base::raw::{Endianness, RawData};
 use std::io::Result;
 
-/// The smallest value that changes the context (`PERF_CONTEXT_MAX`), -4095 as a u64.
+// The smallest value that changes the context (`PERF_CONTEXT_MAX`), -4095 as a u64.
 const CONTEXT_MAX: u64 = 0xffff_ffff_ffff_f001;
 
-/// The context of the hypervisor (`PERF_CONTEXT_HV`), -32 as a u64.
+// The context of the hypervisor (`PERF_CONTEXT_HV`), -32 as a u64.
 const CONTEXT_HV: u64 = 0xffff_ffff_ffff_ffe0;
 
-/// The context of the kernel (`PERF_CONTEXT_KERNEL`), -128 as a u64.
+// The context of the kernel (`PERF_CONTEXT_KERNEL`), -128 as a u64.
 const CONTEXT_KERNEL: u64 = 0xffff_ffff_ffff_ff80;
 
-/// The context of a program (`PERF_CONTEXT_USER`), -512 as a u64.
+// The context of a program (`PERF_CONTEXT_USER`), -512 as a u64.
 const CONTEXT_USER: u64 = 0xffff_ffff_ffff_fe00;
 
-/// The context of a guest (`PERF_CONTEXT_GUEST`), -2048 as a u64.
+// The context of a guest (`PERF_CONTEXT_GUEST`), -2048 as a u64.
 const CONTEXT_GUEST: u64 = 0xffff_ffff_ffff_f800;
 
-/// The context of a guest's kernel (`PERF_CONTEXT_GUEST_KERNEL`), -2176 as a u64.
+// The context of a guest's kernel (`PERF_CONTEXT_GUEST_KERNEL`), -2176 as a u64.
 const CONTEXT_GUEST_KERNEL: u64 = 0xffff_ffff_ffff_f780;
 
-/// The context of a guest's program (`PERF_CONTEXT_GUEST_USER`), -2560 as a u64.
+// The context of a guest's program (`PERF_CONTEXT_GUEST_USER`), -2560 as a u64.
 const CONTEXT_GUEST_USER: u64 = 0xffff_ffff_ffff_f600;
 
 /// The context of a frame.

@@ -12,7 +12,7 @@ use crate::fields::text::invalid_data;
 use perfdata_base::raw::{Endianness, RawData};
 use std::io::Result;
 
-/// The maximum size of a build id in bytes.
+// The maximum size of a build id in bytes.
 const MAX_BUILD_ID_SIZE: u8 = 20;
 
 /// The device and the inode of a mapped file.

@@ -8,10 +8,10 @@ use perfdata_base::raw::FileOrder;
 use perfdata_base::source::{AppendError, Source, read_exact};
 use std::alloc::{AllocError, Global};
 
-/// The size in bytes of an id.
+// The size in bytes of an id.
 const ID_SIZE: usize = 8;
 
-/// The maximum number of bytes per read. The buffer is cleared for each list, and most lists are short.
+// The maximum number of bytes per read. The buffer is cleared for each list, and most lists are short.
 const ID_BUFFER_SIZE: usize = 512;
 
 // Appends the ids in `bytes`.

@@ -17,7 +17,7 @@ use perfdata_base::source::PlacedSource;
 use std::alloc::Global;
 use std::io::SeekFrom;
 
-/// The size in bytes of the section entry that locates the ids of an event.
+// The size in bytes of the section entry that locates the ids of an event.
 const IDS_ENTRY_SIZE: u64 = 16;
 
 // An event's attribute, and the section of its ids.

@@ -6,7 +6,7 @@ use crate::protobuf::wire::{WireType, read_key, read_value};
 use arrayvec::ArrayVec;
 use perfdata_sections::decode_error::DecodeError;
 
-/// The maximum number of unknown groups nested in one another.
+// The maximum number of unknown groups nested in one another.
 const MAX_GROUP_DEPTH: usize = 100;
 
 // Skips a field, or a key that starts or ends a group. `open_groups` contains the field numbers of the groups

@@ -31,7 +31,7 @@ pub(crate) trait ChunkFormat {
     /// The section's error reports this error in a chunk.
     ghost is_reported_by: { Self.FormatError → Error → Type 0 };
 
-    /// Parses the record in a chunk, or returns the section's error for it.
+    // Parses the record in a chunk, or returns the section's error for it.
     fn parse_record(
         alloc: Global,
         endian: Endianness,
