@@ -3,12 +3,11 @@ use crate::escape::Escaped;
 use crate::names::{ATTR_FLAGS, BitNames, READ_FORMAT, SAMPLE_FORMAT, event_type_name};
 use crate::records::{EventCounts, RecordCounts};
 use crate::report::{Report, Spaced};
+use bitflags::Flags;
 use linux_perf_data::attr::PerfEventAttr;
 use linux_perf_data::{AttributeDescription, PerfFile};
+use perfdata_events::bits::EventFlags;
 use std::fmt;
-
-/// The attribute flag that makes `period_or_freq` a frequency.
-const FREQ_FLAG: u64 = 1 << 10;
 
 /// Writes one item for each event, with the fields of its attribute, its ids and its counts.
 pub(crate) fn show(file: &PerfFile, counts: &RecordCounts, report: &mut Report) {
@@ -45,10 +44,10 @@ fn show_attr(attr: &PerfEventAttr, report: &mut Report) {
 
 /// Returns the name of `period_or_freq`.
 fn period_name(attr: &PerfEventAttr) -> &'static str {
-    if attr.flags.0 & FREQ_FLAG == 0 {
-        "period"
-    } else {
+    if EventFlags::from_bits_retain(attr.flags.0).contains(EventFlags::FREQ) {
         "frequency"
+    } else {
+        "period"
     }
 }
 
