@@ -6,7 +6,7 @@
 pub use perfdata_jit::buffered_reader::BufferedReader;
 pub use perfdata_jit::error::JitDumpError;
 pub use perfdata_jit::header::JitDumpHeader;
-pub use perfdata_jit::jitdump_reader::JitDumpReader;
+pub use perfdata_jit::jitdump_reader::{DEFAULT_BUFFER_SIZE, JitDumpReader};
 pub use perfdata_jit::read_until_eof::ReadExactOrUntilEof;
 pub use perfdata_jit::record::{
     JitDumpRawRecord, JitDumpRecord, JitDumpRecordHeader, JitDumpRecordType,

@@ -6,10 +6,7 @@ ghost use Rattle.perfdata_arrays.specs.Jit.{ParsesLoad, ParsesJitHeader, header_
 use crate::array::byte_count;
 use crate::status::{Status, status_of_jit_error};
 use perfdata_base::raw::{Endianness, RawData};
-use perfdata_jit::{JitCodeLoadRecord, JitDumpHeader, JitDumpRecordHeader};
-
-/// The maximum size of a jitdump header in bytes.
-const MAX_HEADER_SIZE: usize = 4096;
+use perfdata_jit::{DEFAULT_BUFFER_SIZE, JitCodeLoadRecord, JitDumpHeader, JitDumpRecordHeader};
 
 /// The offset of the function's name in a load record, in bytes.
 const NAME_OFFSET: u64 = 56;
@@ -94,11 +91,11 @@ pub struct JitLoad {
 
 const _: () = prove!(size_of::<JitLoad>() == 64);
 
-// The prefix of the file that has to contain the whole header.
+// The prefix of the file that has to contain the whole header: no more than a reader buffers.
 fn header_prefix(bytes: &[u8]) -> &[u8]
     ensures { result.now ≡ header_window bytes.now }
 {
-    &bytes[..bytes.len().min(MAX_HEADER_SIZE)]
+    &bytes[..bytes.len().min(DEFAULT_BUFFER_SIZE)]
 }
 
 // Parses the header of a jitdump and its byte order.

@@ -21,8 +21,9 @@ use std::alloc::Global;
 use std::io::{self, Error, ErrorKind};
 use std::result::Result;
 
-// The buffer size that `new` chooses, in bytes.
-const BUFFER_SIZE: usize = 4096;
+/// The buffer size in bytes that [`JitDumpReader::new`] chooses. It is also the maximum size of a header for
+/// such a reader.
+pub const DEFAULT_BUFFER_SIZE: usize = 4096;
 
 /// A reader that returns the records of a jitdump file one by one, also while the file grows.
 ///
@@ -84,7 +85,7 @@ impl<R: Source + Drop> JitDumpReader<R> {
         ensures opens { OpensReader R.state source 4096 result }
         ensures same_loan { IfOk result (λ reader. R.loan (jit_source reader) ≡ R.loan source) }
     {
-        JitDumpReader::new_with_buffer_size(alloc, source, BUFFER_SIZE)
+        JitDumpReader::new_with_buffer_size(alloc, source, DEFAULT_BUFFER_SIZE)
     }
 
     /// Creates a reader of the jitdump file in `source`, with a buffer of `buffer_size` bytes. The file

@@ -16,7 +16,7 @@ mod ring;
 pub use buffered_reader::BufferedReader;
 pub use error::JitDumpError;
 pub use header::JitDumpHeader;
-pub use jitdump_reader::JitDumpReader;
+pub use jitdump_reader::{DEFAULT_BUFFER_SIZE, JitDumpReader};
 pub use read_until_eof::ReadExactOrUntilEof;
 pub use record::{JitDumpRawRecord, JitDumpRecord, JitDumpRecordHeader, JitDumpRecordType};
 pub use records::{

@@ -1,12 +1,8 @@
 //! A jitdump that may be a pipe. Opening it waits for its file header and for nothing after it.
-use linux_perf_data::jitdump::{JitDumpError, JitDumpHeader};
+use linux_perf_data::jitdump::{DEFAULT_BUFFER_SIZE, JitDumpError, JitDumpHeader};
 use linux_perf_data::raw::RawData;
 use std::alloc::Global;
 use std::io::{self, Read};
-
-/// The maximum size of a header in bytes, which is the buffer size of `JitDumpReader::new`. The listing of a
-/// jitdump with a longer header fails, as `list_jit` does.
-const HEADER_LIMIT: usize = 4096;
 
 /// A jitdump whose file header is already read. A reader of it reads the header, then one empty read, and
 /// then the rest.
@@ -27,10 +23,11 @@ fn ends_header(bytes: &[u8]) -> bool {
 }
 
 impl<R: Read + Drop> Dump<R> {
-    /// Reads the header, or as much of it as there is, byte by byte.
+    // Reads the header, or as much of it as there is, byte by byte. The listing of a jitdump whose header is
+    // longer than the buffer fails, as `list_jit` does.
     pub fn new(alloc: Global, mut rest: R) -> io::Result<Dump<R>> {
         let mut header = Vec::new(alloc);
-        for _ in 0..HEADER_LIMIT {
+        for _ in 0..DEFAULT_BUFFER_SIZE {
             if ends_header(&header) {
                 break;
             }
