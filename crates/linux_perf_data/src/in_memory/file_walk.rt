@@ -56,10 +56,7 @@ pub(crate) fn in_order(endian: Endianness, parse_info: RecordParseInfo) -> Recor
 {
     RecordParseInfo {
         endian,
-        sample_format: parse_info.sample_format,
-        id_parse_info: parse_info.id_parse_info,
-        sample_time_from_start: parse_info.sample_time_from_start,
-        other_time_from_end: parse_info.other_time_from_end,
+        ..parse_info
     }
 }
 
@@ -70,11 +67,8 @@ pub(crate) fn with_sample_time(parse_info: RecordParseInfo, time: u64) -> Record
     ensures { result ≡ parse_info }
 {
     RecordParseInfo {
-        endian: parse_info.endian,
-        sample_format: parse_info.sample_format,
-        id_parse_info: parse_info.id_parse_info,
         sample_time_from_start: Some(time),
-        other_time_from_end: parse_info.other_time_from_end,
+        ..parse_info
     }
 }
 
@@ -141,11 +135,8 @@ impl<'a> FileWalk<'a> {
     {
         FileWalk {
             endian,
-            section_size: self.section_size,
-            round: self.round,
-            offset: self.offset,
-            remaining: self.remaining,
             only_parse_info,
+            ..self
         }
     }
 
