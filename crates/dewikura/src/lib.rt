@@ -58,8 +58,8 @@ use perfdata_samples::tasks::TaskEntry;
 use perfdata_samples::{counters, details, mappings, pages, pipes, status, tasks};
 use std::alloc::Global;
 
-/// The version of the library: 10,000 times the major number, 100 times the minor number, and the patch
-/// number.
+// The version of the library: 10,000 times the major number, 100 times the minor number, and the patch
+// number.
 const VERSION: u32 = 100;
 
 // The byte order is little-endian for 0 and big-endian for all other values.

@@ -12,10 +12,10 @@ use linux_perf_data::source::AppendError;
 use linux_perf_data::{DsoKey, Endianness};
 use std::alloc::Global;
 
-/// The offset of the build ID in an entry, in bytes.
+// The offset of the build ID in an entry, in bytes.
 const ID_OFFSET: u64 = 12;
 
-/// The offset of the path in an entry, in bytes.
+// The offset of the path in an entry, in bytes.
 const PATH_OFFSET: u64 = 36;
 
 /// An entry of a BUILD_ID section, with the offsets of its build ID and its path.

@@ -8,10 +8,10 @@ use crate::status::{Status, status_of_jit_error};
 use perfdata_base::raw::{Endianness, RawData};
 use perfdata_jit::{DEFAULT_BUFFER_SIZE, JitCodeLoadRecord, JitDumpHeader, JitDumpRecordHeader};
 
-/// The offset of the function's name in a load record, in bytes.
+// The offset of the function's name in a load record, in bytes.
 const NAME_OFFSET: u64 = 56;
 
-/// The offset of the code in a load record whose name is empty, in bytes.
+// The offset of the code in a load record whose name is empty, in bytes.
 const EMPTY_NAME_CODE_OFFSET: u64 = 57;
 
 /// The header of a jitdump, as plain numbers.

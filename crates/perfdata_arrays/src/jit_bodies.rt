@@ -9,13 +9,13 @@ use crate::status::Status;
 use perfdata_base::raw::{Endianness, RawData};
 use perfdata_jit::{JitCodeMoveRecord, JitCodeUnwindingInfoRecord, JitDumpRecordHeader};
 
-/// The type of a move record.
+// The type of a move record.
 const CODE_MOVE: u32 = 1;
 
-/// The type of an unwinding info record.
+// The type of an unwinding info record.
 const CODE_UNWINDING_INFO: u32 = 4;
 
-/// The offset of the data in an unwinding info record, in bytes.
+// The offset of the data in an unwinding info record, in bytes.
 const UNWINDING_DATA_OFFSET: u64 = 40;
 
 /// A move record.

@@ -13,13 +13,13 @@ use perfdata_jit::{JitCodeDebugInfoEntry, JitCodeDebugInfoRecord};
 use std::alloc::Global;
 use std::io::{Error, ErrorKind};
 
-/// The type of a debug info record.
+// The type of a debug info record.
 const CODE_DEBUG_INFO: u32 = 2;
 
-/// The offset of the first entry in a debug info record, in bytes.
+// The offset of the first entry in a debug info record, in bytes.
 const ENTRIES_OFFSET: u64 = 32;
 
-/// The offset of the path in an entry, in bytes.
+// The offset of the path in an entry, in bytes.
 const PATH_OFFSET: u64 = 16;
 
 /// The source location of the code from its address up to the address of the next entry.

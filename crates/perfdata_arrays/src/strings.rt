@@ -8,7 +8,7 @@ use perfdata_base::endian::read_u32;
 use perfdata_base::raw::Endianness;
 use perfdata_sections::feature_sections::before_nul;
 
-/// The size of the length before a string, in bytes.
+// The size of the length before a string, in bytes.
 const LENGTH_SIZE: usize = 4;
 
 /// The positions of a string in a section.

@@ -37,7 +37,7 @@ pub fn parse_args<R: Env + AllocGlobal>(rt: &R) -> Result<Command, ArgsError> {
     }
 }
 
-/// The first argument.
+// The first argument.
 #[derive(Clone, Copy)]
 enum Verb {
     File,
@@ -46,7 +46,7 @@ enum Verb {
 }
 
 impl Verb {
-    /// Parses the first argument. Returns `None` if it is invalid.
+    // Parses the first argument. Returns `None` if it is invalid.
     fn parse(argument: &str) -> Option<Verb>
         ensures file { (result ≡ Some Verb.File) ↔ (argument.now ≡ codes "file") }
         ensures pipe { (result ≡ Some Verb.Pipe) ↔ (argument.now ≡ codes "pipe") }
@@ -76,7 +76,7 @@ pub fn command_from_args(mut args: Args) -> Result<Command, ArgsError>
     command_of(verb.as_str(), path)
 }
 
-/// Returns the command of the first argument and of the path, if there is one.
+// Returns the command of the first argument and of the path, if there is one.
 fn command_of(verb: &str, path: Option<String>) -> Result<Command, ArgsError>
     ensures file { IfSome path (λ name. (result ≡ Ok (Command.File name)) ↔ (verb.now ≡ codes "file")) }
     ensures jit { IfSome path (λ name. (result ≡ Ok (Command.Jit name)) ↔ (verb.now ≡ codes "jit")) }

@@ -20,7 +20,7 @@ pub const USAGE_ERROR: u8 = 1;
 /// The exit status for an input that can't be read to its end, and for output that can't be written.
 pub const FAILURE: u8 = 2;
 
-/// The end of each help text.
+// The end of each help text.
 const AFTER_HELP: &str =
     "Exit status: 0 at the end of the input, 1 for invalid arguments, 2 for an error.";
 

@@ -7,10 +7,10 @@ use std::fmt::{Display, Formatter, InlineText};
 use std::io::ErrorKind;
 use std::{fmt, io};
 
-/// The maximum size in bytes of the text of an I/O error.
+// The maximum size in bytes of the text of an I/O error.
 const TEXT_SIZE: usize = 256;
 
-/// What std appends to the text of an error of the system, before its number.
+// What std appends to the text of an error of the system, before its number.
 const NUMBER_PREFIX: &str = " (os error ";
 
 /// Why an input can't be read to its end.
@@ -69,7 +69,7 @@ impl From<InputError> for ProgramError {
     }
 }
 
-/// Displays an I/O error without the system's number of it.
+// Displays an I/O error without the system's number of it.
 #[derive(Clone, Copy)]
 struct IoCause<'a>(&'a io::Error);
 
@@ -81,7 +81,7 @@ impl Display for IoCause<'_> {
     }
 }
 
-/// Displays why a part of a recording can't be read.
+// Displays why a part of a recording can't be read.
 #[derive(Clone, Copy)]
 struct Cause<'a>(&'a Error);
 
@@ -99,7 +99,7 @@ impl Display for Cause<'_> {
     }
 }
 
-/// Displays a number with a comma before each group of three digits.
+// Displays a number with a comma before each group of three digits.
 #[derive(Clone, Copy)]
 struct Grouped(u64);
 
@@ -118,7 +118,7 @@ impl Display for Grouped {
     }
 }
 
-/// Writes where a record is that can't be read, and why.
+// Writes where a record is that can't be read, and why.
 fn write_record_error<W: fmt::Write, C: Display>(
     position: Position,
     cause: &C,

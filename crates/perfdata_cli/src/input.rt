@@ -20,19 +20,19 @@ use std::{fs, result};
 /// The size of an input buffer in bytes.
 pub const BUFFER_SIZE: usize = 65536;
 
-/// The input if the arguments name none and standard input isn't a FIFO.
+// The input if the arguments name none and standard input isn't a FIFO.
 const DEFAULT_PATH: &str = "perf.data";
 
-/// The path that stands for standard input.
+// The path that stands for standard input.
 const STANDARD_INPUT: &str = "-";
 
-/// The system's path of standard input.
+// The system's path of standard input.
 const STANDARD_INPUT_PATH: &str = "/dev/stdin";
 
-/// Number of bytes that determine the kind of an input.
+// Number of bytes that determine the kind of an input.
 const START_SIZE: u64 = 16;
 
-/// The size in bytes of the smallest file header. The header of a pipe is smaller.
+// The size in bytes of the smallest file header. The header of a pipe is smaller.
 const FILE_HEADER_SIZE: u64 = 104;
 
 /// The kind of an input.
@@ -46,8 +46,8 @@ pub enum InputKind {
     Jit,
 }
 
-/// Returns the header size after the magic value of a perf.data file or pipe, in the byte order of that
-/// value.
+// Returns the header size after the magic value of a perf.data file or pipe, in the byte order of that
+// value.
 fn header_size(start: &[u8]) -> Option<u64> {
     let endian = endian_of_magic(start.first_chunk::<8>()?)?;
     let size = start.get(8..16)?;
@@ -96,7 +96,7 @@ pub struct Input {
     unread: Unread,
 }
 
-/// Opens an input. Returns the size of a regular file.
+// Opens an input. Returns the size of a regular file.
 fn open_unread(rt: &HostRuntime, path: &str) -> Result<(Unread, Option<u64>)> {
     if path == STANDARD_INPUT {
         return Ok((Unread::Stdin(rt.stdin()), None));
@@ -149,8 +149,8 @@ impl Input {
         Ok(start)
     }
 
-    /// Returns the bytes of the input from its start. A regular file is sought, a pipe is read as a stream,
-    /// and other inputs are read into memory.
+    // Returns the bytes of the input from its start. A regular file is sought, a pipe is read as a stream,
+    // and other inputs are read into memory.
     fn into_input_bytes(self) -> Result<InputBytes> {
         match self {
             Input {
@@ -191,7 +191,7 @@ pub fn open_in_memory(
     opened.map_err(InputError::Metadata)
 }
 
-/// Buffers a reader. Fails if the allocation of the buffer fails.
+// Buffers a reader. Fails if the allocation of the buffer fails.
 fn with_buffer<R: Read + Drop>(alloc: Global, reader: R) -> Result<CountedBuffer<R>>
     ensures counts { IfOk result (λ s. buffered_state s ≡ opaque_source 0 0) }
     ensures empty { IfOk result (λ s. counted_buffer_bytes s ≡ []) }

@@ -43,7 +43,7 @@ impl Read for InputBytes {
 }
 
 impl Seek for InputBytes {
-    /// Fails for a stream.
+    // Fails for a stream.
     fn seek(&mut self, to: SeekFrom) -> Result<u64> {
         match self {
             InputBytes::File(file) => file.seek(to),

@@ -2,10 +2,10 @@
 use std::io::{IsTerminal, Write};
 use std::time::Instant;
 
-/// Number of records between two readings of the clock.
+// Number of records between two readings of the clock.
 const RECORDS_PER_READING: u64 = 4096;
 
-/// Milliseconds between two lines of progress.
+// Milliseconds between two lines of progress.
 const INTERVAL: u128 = 1000;
 
 /// The progress of reading an input.
@@ -32,7 +32,7 @@ impl<'a> Progress<'a> {
         Progress::with_lines(rt, size, has_lines)
     }
 
-    /// Starts the work, with or without lines.
+    // Starts the work, with or without lines.
     fn with_lines(rt: &'a HostRuntime, size: Option<u64>, has_lines: bool) -> Progress<'a> {
         let since = if has_lines {
             Instant::now(rt).ok()
@@ -60,7 +60,7 @@ impl<'a> Progress<'a> {
         }
     }
 
-    /// Whether a second has passed since the last line. If it has, the next second begins.
+    // Whether a second has passed since the last line. If it has, the next second begins.
     fn is_due(&mut self) -> bool {
         let Some(since) = self.since else {
             return false;
@@ -75,7 +75,7 @@ impl<'a> Progress<'a> {
         is_due
     }
 
-    /// Writes the line.
+    // Writes the line.
     fn show(&mut self, end: u64) {
         self.is_shown = true;
         let mut out = self.rt.stderr();

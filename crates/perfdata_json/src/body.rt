@@ -33,20 +33,20 @@ pub(crate) struct BodyWriter {
     pub(crate) byte_limit: usize,
 }
 
-/// A body that isn't parsed.
+// A body that isn't parsed.
 #[derive(Clone, Copy, Serialize)]
 struct Unparsed<'a> {
     #[serde(skip_serializing_if = "Option::is_none")]
     body: Option<Bytes<'a>>,
 }
 
-/// A body that can't be parsed.
+// A body that can't be parsed.
 #[derive(Clone, Copy, Serialize)]
 struct Invalid {
     error: &'static str,
 }
 
-/// What the attribute of a kernel record says of its line: the name of the event, and the format of the body.
+// What the attribute of a kernel record says of its line: the name of the event, and the format of the body.
 #[derive(Clone, Copy)]
 struct EventAttribute<'a> {
     name: Option<&'a str>,
@@ -63,7 +63,7 @@ fn attribute_at(file: &PerfFile, index: usize) -> Option<&AttributeDescription>
 impl<'a> EventAttribute<'a> {
     ghost use Rattle.perfdata_json.specs.Line.{format_at, name_at};
 
-    /// The attribute of a record, by its index in `file`. `None` if `file` doesn't contain it.
+    // The attribute of a record, by its index in `file`. `None` if `file` doesn't contain it.
     fn find(file: &'a PerfFile, attr_index: usize, endian: Endianness) -> Option<EventAttribute<'a>>
         ensures name { option_map (λ found. option_map (λ s. s.now) found.name) result
             ≡ name_at (descriptions_of_file file.now) attr_index }
@@ -136,8 +136,8 @@ impl BodyWriter {
         }
     }
 
-    /// The line of a sample. A sample with fields whose offset isn't known has the sample_id fields before
-    /// them.
+    // The line of a sample. A sample with fields whose offset isn't known has the sample_id fields before
+    // them.
     fn sample(
         &self,
         out: &mut LineSerializer,
@@ -155,7 +155,7 @@ impl BodyWriter {
         }
     }
 
-    /// The line of a kernel record that isn't a sample with known fields.
+    // The line of a kernel record that isn't a sample with known fields.
     fn other_record(
         &self,
         out: &mut LineSerializer,

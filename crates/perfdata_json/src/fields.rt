@@ -45,7 +45,7 @@ impl Serialize for Addresses<'_> {
 #[derive(Clone, Copy)]
 pub(crate) struct Hex<'a>(pub(crate) RawData<'a>);
 
-/// Writes two hexadecimal digits for each byte.
+// Writes two hexadecimal digits for each byte.
 fn write_hex<W: Write>(f: &mut Formatter<W>, bytes: &[u8]) -> fmt::Result {
     for chunk in bytes.chunks(32) {
         let mut text = [0; 64];

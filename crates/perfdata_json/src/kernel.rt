@@ -73,7 +73,7 @@ impl<'a> Mmap<'a> {
     }
 }
 
-/// What identifies a mapped file.
+// What identifies a mapped file.
 #[derive(Clone, Copy, Serialize)]
 #[serde(untagged)]
 enum FileId<'a> {

@@ -11,7 +11,7 @@ use serde::Serialize;
 use std::alloc::{AllocError, Global};
 use std::mem;
 
-/// The type of a record: its name, or its number if it has none.
+// The type of a record: its name, or its number if it has none.
 #[derive(Clone, Copy, Serialize)]
 #[serde(untagged)]
 enum TypeMember {
@@ -28,7 +28,7 @@ impl TypeMember {
     }
 }
 
-/// The members of a line: those of any record, those of its body, and its sample_id fields.
+// The members of a line: those of any record, those of its body, and its sample_id fields.
 #[derive(Drop, Serialize)]
 struct Line<'a, T> {
     offset: u64,

@@ -11,7 +11,7 @@ use perfdata_events::sample::SampleRecord;
 use perfdata_events::sample_parts::{BranchStack, Registers};
 use serde::{Described, Serialize, Serializer};
 
-/// The counters of a group.
+// The counters of a group.
 #[derive(Clone, Copy)]
 struct Counters<'a>(GroupValues<'a>);
 
@@ -96,7 +96,7 @@ impl<'a> Read<'a> {
     }
 }
 
-/// The frames of a call chain, each as its context and its address.
+// The frames of a call chain, each as its context and its address.
 #[derive(Clone, Copy)]
 struct Chain<'a>(CallChain<'a>);
 
@@ -186,7 +186,7 @@ pub(crate) struct Sample<'a> {
     byte_limit: usize,
 }
 
-/// The fields from the counter values to the user stack.
+// The fields from the counter values to the user stack.
 const STATE_FIELDS: u64 = SampleFields::READ.0
     | SampleFields::CALLCHAIN.0
     | SampleFields::RAW.0
@@ -194,7 +194,7 @@ const STATE_FIELDS: u64 = SampleFields::READ.0
     | SampleFields::REGS_USER.0
     | SampleFields::STACK_USER.0;
 
-/// The fields from the weight on.
+// The fields from the weight on.
 const ACCESS_FIELDS: u64 = SampleFields::WEIGHT.0
     | SampleFields::WEIGHT_STRUCT.0
     | SampleFields::DATA_SRC.0
@@ -206,7 +206,7 @@ const ACCESS_FIELDS: u64 = SampleFields::WEIGHT.0
     | SampleFields::CODE_PAGE_SIZE.0
     | SampleFields::AUX.0;
 
-/// Writes a member unless it is absent.
+// Writes a member unless it is absent.
 fn write_optional<T: Serialize + Copy, S: Serializer>(
     out: &mut S,
     name: &str,
@@ -238,7 +238,7 @@ impl<'a> Sample<'a> {
         bytes.map(|bytes| Bytes::new(bytes, self.byte_limit))
     }
 
-    /// Writes the members up to the period.
+    // Writes the members up to the period.
     fn write_origin<S: Serializer>(&self, out: &mut S) -> Result<(), S::Error> {
         let record = self.record;
         write_optional(out, "identifier", record.identifier)?;
@@ -253,7 +253,7 @@ impl<'a> Sample<'a> {
         write_optional(out, "period", record.period)
     }
 
-    /// Writes the members from the counter values to the user stack.
+    // Writes the members from the counter values to the user stack.
     fn write_state<S: Serializer>(&self, out: &mut S) -> Result<(), S::Error> {
         let record = self.record;
         let user_registers = record.user_registers;
@@ -284,7 +284,7 @@ impl<'a> Sample<'a> {
         )
     }
 
-    /// Writes the members from the weight on.
+    // Writes the members from the weight on.
     fn write_access<S: Serializer>(&self, out: &mut S) -> Result<(), S::Error> {
         let record = self.record;
         let interrupt_registers = record.interrupt_registers;

@@ -36,7 +36,7 @@ impl LineSerializer {
         (json.into_inner(), printed)
     }
 
-    /// Appends a number.
+    // Appends a number.
     fn number(&mut self, text: &str) -> Result<(), AllocError> {
         if !json::is_number(text) {
             return Err(AllocError);

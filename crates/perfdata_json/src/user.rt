@@ -31,7 +31,7 @@ impl<'a> Threads<'a> {
     }
 }
 
-/// The first fields of an attribute.
+// The first fields of an attribute.
 #[derive(Clone, Copy, Serialize)]
 struct AttributeStart {
     #[serde(rename = "type")]
@@ -48,7 +48,7 @@ struct AttributeStart {
     config2: Address,
 }
 
-/// The other fields of an attribute.
+// The other fields of an attribute.
 #[derive(Clone, Copy, Serialize)]
 struct AttributeEnd {
     branch_sample_type: Address,

@@ -19,10 +19,10 @@ use std::alloc::Global;
 use std::io;
 use std::io::Write;
 
-/// The size in bytes of the buffer for a live input.
+// The size in bytes of the buffer for a live input.
 const LIVE_BUFFER_SIZE: usize = 65536;
 
-/// Sets the line to that of a record.
+// Sets the line to that of a record.
 fn format_line(line: &mut Line, raw: &JitDumpRawRecord<'_>)
     ensures { text_of line.new ≡ raw_record_text raw.now }
 {
@@ -34,7 +34,7 @@ fn format_line(line: &mut Line, raw: &JitDumpRawRecord<'_>)
     );
 }
 
-/// Writes the line of the next record. Returns whether the record was complete.
+// Writes the line of the next record. Returns whether the record was complete.
 fn list_next<R: Source, W: Write>(
     reader: &mut JitDumpReader<R>,
     line: &mut Line,
@@ -55,8 +55,8 @@ fn list_next<R: Source, W: Write>(
     }
 }
 
-/// Does what `list_next` does for a live input. Either the writer has no pending bytes, or the next record is
-/// buffered.
+// Does what `list_next` does for a live input. Either the writer has no pending bytes, or the next record is
+// buffered.
 fn list_next_live<R: Source, W: FlushPending>(
     reader: &mut JitDumpReader<R>,
     line: &mut Line,
@@ -68,7 +68,7 @@ fn list_next_live<R: Source, W: FlushPending>(
     list_next(reader, line, out)
 }
 
-/// Writes a line for each remaining record up to the first incomplete one. Returns the number of lines.
+// Writes a line for each remaining record up to the first incomplete one. Returns the number of lines.
 fn list_jit_records<R: Source, W: Write>(
     reader: &mut JitDumpReader<R>,
     out: &mut W,
@@ -87,7 +87,7 @@ fn list_jit_records<R: Source, W: Write>(
     }
 }
 
-/// Whether the next record, which has this size, is valid and completely buffered.
+// Whether the next record, which has this size, is valid and completely buffered.
 fn is_record_buffered<R: Source>(reader: &JitDumpReader<R>, size: u32) -> bool
     ensures { IsTrue result → (16 ≤ size) × (jit_offset reader.now + size < 2 ^ 64)
         × (size ≤ length (jit_buffered reader.now)) }
@@ -102,7 +102,7 @@ fn is_record_buffered<R: Source>(reader: &JitDumpReader<R>, size: u32) -> bool
     reader.has_buffered(size as usize)
 }
 
-/// Whether the next record is completely buffered. The call doesn't read the source.
+// Whether the next record is completely buffered. The call doesn't read the source.
 fn is_next_buffered<R: Source>(reader: &mut JitDumpReader<R>) -> bool
     requires found { jit_seek_failed reader.old ≡ false }
     ensures unread { ReadsNothing R.state reader.old reader.new }
@@ -119,7 +119,7 @@ fn is_next_buffered<R: Source>(reader: &mut JitDumpReader<R>) -> bool
     }
 }
 
-/// Flushes the pending lines unless the next record is buffered. No line is pending while the input blocks.
+// Flushes the pending lines unless the next record is buffered. No line is pending while the input blocks.
 fn flush_before_blocking<R: Source, W: FlushPending>(
     reader: &mut JitDumpReader<R>,
     out: &mut W,
@@ -135,8 +135,8 @@ fn flush_before_blocking<R: Source, W: FlushPending>(
     out.flush_pending()
 }
 
-/// Writes a line for each remaining record of a live input. Returns the number of lines. Pending lines are
-/// flushed before each call for a record that isn't buffered.
+// Writes a line for each remaining record of a live input. Returns the number of lines. Pending lines are
+// flushed before each call for a record that isn't buffered.
 fn list_live_jit_records<R: Source, W: FlushPending>(
     reader: &mut JitDumpReader<R>,
     out: &mut W,

@@ -4,8 +4,8 @@ ghost use Rattle.perfdata_listing.specs.Line.{decimal_or_dash, record_text, jit_
 
 use itoa::write_digits;
 
-/// The capacity of a line in bytes. The longest line has 122 bytes: five numbers of at most 20 digits, one of
-/// 10, one of 5, and a separator after each.
+// The capacity of a line in bytes. The longest line has 122 bytes: five numbers of at most 20 digits, one of
+// 10, one of 5, and a separator after each.
 const LINE_CAPACITY: usize = 128;
 
 /// A line of text, stored at the end of an array.
@@ -16,7 +16,7 @@ pub struct Line {
     ghost in_range: { start ≤ 128 },
 }
 
-/// Writes one byte before index `end`, and returns its index.
+// Writes one byte before index `end`, and returns its index.
 #[inline]
 fn prepend_byte(buf: &mut [u8], end: usize, byte: u8) -> usize
     requires { (1 ≤ end) × (end ≤ length buf.old) }
@@ -27,7 +27,7 @@ fn prepend_byte(buf: &mut [u8], end: usize, byte: u8) -> usize
     end - 1
 }
 
-/// Writes a decimal number and a separator before index `end`, and returns the index of their first byte.
+// Writes a decimal number and a separator before index `end`, and returns the index of their first byte.
 #[inline]
 fn prepend_number(buf: &mut [u8], end: usize, n: u64, separator: u8) -> usize
     requires { (length (decimal n) + 1 ≤ end) × (end ≤ length buf.old) }
@@ -39,8 +39,8 @@ fn prepend_number(buf: &mut [u8], end: usize, n: u64, separator: u8) -> usize
     write_digits(n, buf, at)
 }
 
-/// Writes a decimal number, or a dash for `None`, and a space before index `end`. Returns the index of their
-/// first byte.
+// Writes a decimal number, or a dash for `None`, and a space before index `end`. Returns the index of their
+// first byte.
 #[inline]
 fn prepend_optional(buf: &mut [u8], end: usize, n: Option<u64>) -> usize
     requires { (21 ≤ end) × (end ≤ length buf.old) }
@@ -76,7 +76,7 @@ pub struct RecordFields {
     pub body_length: u64,
 }
 
-/// Writes a record's line at the end of the array, last field first, and returns the index of its first byte.
+// Writes a record's line at the end of the array, last field first, and returns the index of its first byte.
 fn format_record(buf: &mut [u8; LINE_CAPACITY], fields: RecordFields) -> usize
     ensures start { result ≤ 128 }
     ensures written { drop result buf.new
@@ -92,8 +92,8 @@ fn format_record(buf: &mut [u8; LINE_CAPACITY], fields: RecordFields) -> usize
     prepend_number(buf, round_start, fields.offset, b' ')
 }
 
-/// Writes the line of a jitdump record at the end of the array, last field first, and returns the index of
-/// its first byte.
+// Writes the line of a jitdump record at the end of the array, last field first, and returns the index of
+// its first byte.
 fn format_jit_record(
     buf: &mut [u8; LINE_CAPACITY],
     offset: u64,
@@ -110,7 +110,7 @@ fn format_jit_record(
     prepend_number(buf, timestamp_start, offset, b' ')
 }
 
-/// Writes the line of an error after `records` records, and returns the index of its first byte.
+// Writes the line of an error after `records` records, and returns the index of its first byte.
 fn format_error(buf: &mut [u8; LINE_CAPACITY], records: u64) -> usize
     ensures start { result ≤ 128 }
     ensures written { drop result buf.new ≡ error_text records }
@@ -120,7 +120,7 @@ fn format_error(buf: &mut [u8; LINE_CAPACITY], records: u64) -> usize
     prepend_bytes(buf, number_start, b"perflist: fault after ")
 }
 
-/// Writes the text before index `end`, and returns the index of its first byte.
+// Writes the text before index `end`, and returns the index of its first byte.
 fn prepend_bytes(buf: &mut [u8], end: usize, text: &[u8]) -> usize
     requires { (length text.now ≤ end) × (end ≤ length buf.old) }
     ensures start { result + length text.now ≡ end }

@@ -68,7 +68,7 @@ pub fn write_record<L: RecordLine, W: Write>(
     }
 }
 
-/// Writes the line of the next record. Returns whether there is one.
+// Writes the line of the next record. Returns whether there is one.
 fn list_next<R: Source, L: RecordLine, W: Write>(
     iter: &mut PerfRecordIter<R>,
     file: &mut PerfFile,
@@ -90,8 +90,8 @@ fn list_next<R: Source, L: RecordLine, W: Write>(
     }
 }
 
-/// Does what `list_next` does for a live input. Either the writer has no pending bytes, or the next record is
-/// buffered.
+// Does what `list_next` does for a live input. Either the writer has no pending bytes, or the next record is
+// buffered.
 fn list_next_live<R: Source, L: RecordLine, W: FlushPending>(
     iter: &mut PerfRecordIter<R>,
     file: &mut PerfFile,
@@ -105,7 +105,7 @@ fn list_next_live<R: Source, L: RecordLine, W: FlushPending>(
     list_next(iter, file, line, out)
 }
 
-/// Writes a line for each remaining record. Returns the number of lines.
+// Writes a line for each remaining record. Returns the number of lines.
 fn list_records<R: Source, L: RecordLine, W: Write>(
     iter: &mut PerfRecordIter<R>,
     file: &mut PerfFile,
@@ -143,8 +143,8 @@ pub fn flush_before_blocking<R: Source, W: FlushPending>(
     out.flush_pending()
 }
 
-/// Writes a line for each remaining record of a live input. Returns the number of lines. Pending lines are
-/// flushed before each call for a record that isn't buffered.
+// Writes a line for each remaining record of a live input. Returns the number of lines. Pending lines are
+// flushed before each call for a record that isn't buffered.
 fn list_live_records<R: Source, L: RecordLine, W: FlushPending>(
     iter: &mut PerfRecordIter<R>,
     file: &mut PerfFile,

@@ -10,14 +10,14 @@ use std::alloc::{AllocError, Global};
 use std::io;
 use std::io::{ErrorKind, Write};
 
-/// The capacity of a `CountingBufWriter` in bytes.
+// The capacity of a `CountingBufWriter` in bytes.
 const BUFFER_CAPACITY: usize = 65536;
 
-/// Number of bytes that are searched for newlines at once.
+// Number of bytes that are searched for newlines at once.
 const NEWLINE_BLOCK_SIZE: usize = 128;
 
-/// Writes all bytes or as many as the writer accepts, and returns the number of bytes written. No write is
-/// repeated. A write of 0 bytes is an error of kind `WriteZero`.
+// Writes all bytes or as many as the writer accepts, and returns the number of bytes written. No write is
+// repeated. A write of 0 bytes is an error of kind `WriteZero`.
 fn write_all_counted<W: Write>(out: &mut W, bytes: &[u8]) -> (usize, io::Result<()>)
     ensures bound { result.0 ≤ length bytes.now }
     ensures on_ok { OnOk result.1 (result.0 ≡ length bytes.now) }
@@ -74,7 +74,7 @@ pub struct CountingBufWriter<W> {
     ghost count_in_range: { lines_written < 2 ^ 64 },
 }
 
-/// The number of newlines in at most 255 bytes. An 8-bit count lets the compiler count 16 bytes at once.
+// The number of newlines in at most 255 bytes. An 8-bit count lets the compiler count 16 bytes at once.
 fn count_newlines_in_block(bytes: &[u8]) -> u8
     requires { length bytes.now ≤ 255 }
     ensures { result ≡ newline_count bytes.now }
@@ -86,7 +86,7 @@ fn count_newlines_in_block(bytes: &[u8]) -> u8
     lines
 }
 
-/// The number of newlines in the bytes.
+// The number of newlines in the bytes.
 fn count_newlines(bytes: &[u8]) -> u64
     ensures { result ≡ newline_count bytes.now }
 {
@@ -100,7 +100,7 @@ fn count_newlines(bytes: &[u8]) -> u64
     lines
 }
 
-/// Removes the first `count` bytes.
+// Removes the first `count` bytes.
 fn drain_prefix(bytes: &mut Vec<u8>, count: usize)
     requires { count ≤ vec_len bytes.old }
     ensures items { bytes.new.items ≡ drop count bytes.old.items }
@@ -111,7 +111,7 @@ fn drain_prefix(bytes: &mut Vec<u8>, count: usize)
     bytes.truncate(length - count);
 }
 
-/// Appends the bytes to the buffered ones, without an allocation.
+// Appends the bytes to the buffered ones, without an allocation.
 #[inline]
 fn append_within_capacity(buffer: &mut Vec<u8>, bytes: &[u8])
     requires { vec_len buffer.old + length bytes.now ≤ vec_capacity buffer.old }
@@ -160,7 +160,7 @@ impl<W: Write> CountingBufWriter<W> {
         self.failed
     }
 
-    /// Writes the buffered bytes to the inner writer. Bytes that it doesn't accept stay in the buffer.
+    // Writes the buffered bytes to the inner writer. Bytes that it doesn't accept stay in the buffer.
     fn flush_buffer(&mut self) -> io::Result<()>
         ensures forwards { BuffersAndForwards W.contents self.old [] self.new }
         ensures empty { OnOk result (pending_bytes self.new ≡ []) }
@@ -178,7 +178,7 @@ impl<W: Write> CountingBufWriter<W> {
         outcome
     }
 
-    /// Flushes the buffer, and appends as many of the bytes as fit.
+    // Flushes the buffer, and appends as many of the bytes as fit.
     #[cold]
     #[inline(never)]
     fn flush_then_write(&mut self, bytes: &[u8]) -> io::Result<usize>

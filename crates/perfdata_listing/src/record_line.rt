@@ -36,7 +36,7 @@ pub trait RecordLine {
         ensures { result.now ≡ text self.now };
 }
 
-/// The fields of a record's line.
+// The fields of a record's line.
 fn record_fields(place: RecordPlace, file_record: &PerfFileRecord<'_>) -> RecordFields
     ensures { fields_text result ≡ record_line (record_view_of place file_record.now) }
 {

@@ -14,19 +14,19 @@ use perfdata_events::format::EventFormat;
 use perfdata_events::sample::SampleRecord;
 use perfdata_events::sample_parts::{BranchStack, Registers, UserStack};
 
-/// The bits of the fields before the raw data.
+// The bits of the fields before the raw data.
 const BEFORE_RAW: u64 = WORD_BITS | SampleFields::READ.0 | SampleFields::CALLCHAIN.0;
 
-/// The bits of the fields before the branch stack.
+// The bits of the fields before the branch stack.
 const BEFORE_BRANCHES: u64 = BEFORE_RAW | SampleFields::RAW.0;
 
-/// The bits of the fields before the user registers.
+// The bits of the fields before the user registers.
 const BEFORE_USER_REGISTERS: u64 = BEFORE_BRANCHES | SampleFields::BRANCH_STACK.0;
 
-/// The bits of the fields before the user stack.
+// The bits of the fields before the user stack.
 const BEFORE_USER_STACK: u64 = BEFORE_USER_REGISTERS | SampleFields::REGS_USER.0;
 
-/// The bits of the fields before the registers at the interrupt.
+// The bits of the fields before the registers at the interrupt.
 const BEFORE_INTERRUPT_REGISTERS: u64 = BEFORE_USER_STACK
     | SampleFields::STACK_USER.0
     | SampleFields::WEIGHT.0
@@ -34,7 +34,7 @@ const BEFORE_INTERRUPT_REGISTERS: u64 = BEFORE_USER_STACK
     | SampleFields::DATA_SRC.0
     | SampleFields::TRANSACTION.0;
 
-/// The bits of the fields before the aux data.
+// The bits of the fields before the aux data.
 const BEFORE_AUX: u64 = BEFORE_INTERRUPT_REGISTERS
     | SampleFields::REGS_INTR.0
     | SampleFields::PHYS_ADDR.0

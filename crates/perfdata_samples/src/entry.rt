@@ -19,11 +19,11 @@ pub(crate) trait RecordEntry: Copy {
     // The entry of a parsed record, if it is of this kind.
     ghost entry_of: { EntryEnvelope → EventRecord → Option Self };
 
-    /// Returns whether records of a type are of this kind.
+    // Returns whether records of a type are of this kind.
     fn is_of_type(record_type: u32) -> bool
         ensures { result ≡ has_type record_type };
 
-    /// Returns the entry of a parsed record, or `None` if it isn't of this kind.
+    // Returns the entry of a parsed record, or `None` if it isn't of this kind.
     fn of_event(envelope: EntryEnvelope, event: &EventRecord<'_>) -> Option<Self>
         requires { envelope.body_offset + 64 < 2 ^ 64 }
         ensures { result ≡ entry_of envelope event.now };

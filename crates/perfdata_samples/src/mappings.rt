@@ -17,7 +17,7 @@ use perfdata_events::mmap::MmapRecord;
 use perfdata_events::mmap2::{Mmap2FileId, Mmap2Record};
 use std::alloc::Global;
 
-/// The maximum size of a build id in bytes.
+// The maximum size of a build id in bytes.
 const MAX_BUILD_ID_SIZE: usize = 20;
 
 /// A mapping as plain numbers: `PERF_RECORD_MMAP` or `PERF_RECORD_MMAP2` of Linux's `perf_event.h`. What it

@@ -9,7 +9,7 @@ use perfdata_events::format::EventFormat;
 use perfdata_events::sample_id::Task;
 use perfdata_events::sample_words::{EventWords, OriginWords};
 
-/// The bits of all fields that are known.
+// The bits of all fields that are known.
 const KNOWN_BITS: u64 = 2 * SampleFields::WEIGHT_STRUCT.0 - 1;
 
 /// A sample (`PERF_RECORD_SAMPLE` of Linux's `perf_event.h`) as plain numbers. A field that it doesn't have
@@ -71,7 +71,7 @@ pub struct SampleEnvelope {
     pub frames_count: u32,
 }
 
-/// No words are selected.
+// No words are selected.
 const NO_WORDS: SampleWords = SampleWords {
     origin: OriginWords {
         identifier: None,

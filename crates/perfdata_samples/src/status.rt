@@ -7,7 +7,7 @@ use crate::array::{copy_prefix, write_entry};
 use perfdata_arrays::status;
 use perfdata_arrays::status::Status;
 
-/// The code of `NoSpace`.
+// The code of `NoSpace`.
 const NO_SPACE_CODE: u32 = 25;
 
 /// The status of a call that reads samples.

@@ -13,7 +13,7 @@ pub(crate) struct AddressRange {
     last: u64,
 }
 
-/// All addresses.
+// All addresses.
 const ALL: AddressRange = AddressRange {
     first: 0,
     last: u64::MAX,

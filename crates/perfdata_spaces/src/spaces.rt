@@ -18,7 +18,7 @@ use perfdata_events::kernel::KsymbolRecord;
 use perfdata_events::task::ForkOrExitRecord;
 use std::alloc::{AllocError, Global};
 
-/// The flag of a removed kernel symbol (`PERF_RECORD_KSYMBOL_FLAGS_UNREGISTER`).
+// The flag of a removed kernel symbol (`PERF_RECORD_KSYMBOL_FLAGS_UNREGISTER`).
 const KSYMBOL_UNREGISTER: u16 = 1;
 
 /// What is mapped in each process and in the kernel, by indices of mappings.

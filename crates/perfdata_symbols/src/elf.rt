@@ -21,10 +21,10 @@ use notes::{NoteRange, build_id_in};
 use strings::Strings;
 use symbols::{SymbolContext, add_symbols};
 
-/// The largest part of a range of notes that is searched for the build id.
+// The largest part of a range of notes that is searched for the build id.
 const MAX_NOTE_SIZE: u64 = 65536;
 
-/// The largest debug link that is read.
+// The largest debug link that is read.
 const MAX_DEBUG_LINK_SIZE: u64 = 65536;
 
 /// The section of which the symbols are.

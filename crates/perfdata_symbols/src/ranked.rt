@@ -5,7 +5,7 @@ use crate::table::SymbolTable;
 use std::alloc::{AllocError, Global};
 use std::cmp::Reverse;
 
-/// The greatest number of leading underscores that are counted.
+// The greatest number of leading underscores that are counted.
 const MAX_UNDERSCORES: usize = 255;
 
 /// A symbol of an ELF file.

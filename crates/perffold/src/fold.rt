@@ -26,7 +26,7 @@ use std::collections::HashMap;
 use std::io;
 use std::io::Write;
 
-/// The name of the idle task, whose thread id is 0.
+// The name of the idle task, whose thread id is 0.
 const IDLE_TASK: &[u8] = b"swapper";
 
 /// The stacks of the samples so far.
@@ -50,12 +50,12 @@ pub(crate) struct Folder<'a> {
     other_events: u64,
 }
 
-/// Returns the error of a sum that no u64 holds.
+// Returns the error of a sum that no u64 holds.
 fn overflow() -> Error {
     io::Error::other("the sum of all weights is 2^64 or more").into()
 }
 
-/// Returns what a sample counts.
+// Returns what a sample counts.
 fn weight_of(weight: Weight, attr: &PerfEventAttr, sample: &SampleRecord<'_>) -> u64 {
     let is_frequency = EventFlags::from_bits_retain(attr.flags.0).contains(EventFlags::FREQ);
     match (weight, sample.period) {
@@ -66,12 +66,12 @@ fn weight_of(weight: Weight, attr: &PerfEventAttr, sample: &SampleRecord<'_>) ->
     }
 }
 
-/// Returns the process and the thread of a sample. Samples without are those of the idle task.
+// Returns the process and the thread of a sample. Samples without are those of the idle task.
 fn task_of(sample: &SampleRecord<'_>) -> Task {
     sample.task.unwrap_or(Task { pid: 0, tid: 0 })
 }
 
-/// Returns the process and the time of a sample. All code is loaded before samples without a time.
+// Returns the process and the time of a sample. All code is loaded before samples without a time.
 fn origin_of(task: Task, sample: &SampleRecord<'_>) -> SampleOrigin {
     SampleOrigin {
         pid: task.pid,
@@ -79,7 +79,7 @@ fn origin_of(task: Task, sample: &SampleRecord<'_>) -> SampleOrigin {
     }
 }
 
-/// Appends a number and the byte before it.
+// Appends a number and the byte before it.
 fn push_number(text: &mut Vec<u8>, before: u8, number: i32) -> Result<(), Error> {
     text.push(before)?;
     Ok(write!(text, "{number}")?)
@@ -119,7 +119,7 @@ impl<'a> Folder<'a> {
         self.frame_names.file_counts()
     }
 
-    /// Sets the name of a thread, without its ids.
+    // Sets the name of a thread, without its ids.
     fn set_comm(&mut self, tid: i32) -> Result<(), Error> {
         self.comm.clear();
         match self.spaces.comm(tid) {
@@ -129,7 +129,7 @@ impl<'a> Folder<'a> {
         }
     }
 
-    /// Appends the ids of a thread to its name.
+    // Appends the ids of a thread to its name.
     fn push_ids(&mut self, task: Task) -> Result<(), Error> {
         match self.options.thread_ids {
             ThreadIds::Nothing => Ok(()),
@@ -141,7 +141,7 @@ impl<'a> Folder<'a> {
         }
     }
 
-    /// Sets the stack to the numbers of the names of a sample's frames, that of the leaf first.
+    // Sets the stack to the numbers of the names of a sample's frames, that of the leaf first.
     fn set_frames(
         &mut self,
         origin: SampleOrigin,
@@ -158,7 +158,7 @@ impl<'a> Folder<'a> {
         Ok(())
     }
 
-    /// Sets the stack to the numbers of the names of a sample: the thread's, then the root's to the leaf's.
+    // Sets the stack to the numbers of the names of a sample: the thread's, then the root's to the leaf's.
     fn set_stack(&mut self, misc: u16, sample: &SampleRecord<'_>) -> Result<(), Error> {
         let task = task_of(sample);
         self.set_frames(origin_of(task, sample), misc, sample)?;
@@ -170,7 +170,7 @@ impl<'a> Folder<'a> {
         Ok(())
     }
 
-    /// Adds a weight to that of the stack.
+    // Adds a weight to that of the stack.
     fn count_stack(&mut self, weight: u64) -> Result<(), Error> {
         let Some(total) = self.total.checked_add(weight) else {
             return Err(overflow());
@@ -186,7 +186,7 @@ impl<'a> Folder<'a> {
         Ok(())
     }
 
-    /// Reads the metadata of the recording for its symbols, before the first sample.
+    // Reads the metadata of the recording for its symbols, before the first sample.
     fn read_metadata(&mut self, file: &PerfFile) -> Result<(), Error> {
         if self.has_metadata {
             return Ok(());
@@ -195,7 +195,7 @@ impl<'a> Folder<'a> {
         self.frame_names.read_metadata(file)
     }
 
-    /// Adds a sample of an event.
+    // Adds a sample of an event.
     fn add_sample(
         &mut self,
         attr: &PerfEventAttr,
@@ -206,7 +206,7 @@ impl<'a> Folder<'a> {
         self.count_stack(weight_of(self.options.weight, attr, sample))
     }
 
-    /// Adds a record of an event.
+    // Adds a record of an event.
     fn add_event(
         &mut self,
         file: &PerfFile,
@@ -233,7 +233,7 @@ impl<'a> Folder<'a> {
         }
     }
 
-    /// Returns what was read of the records, and where the next one is, if that is known.
+    // Returns what was read of the records, and where the next one is, if that is known.
     fn position(&self, offset: Option<u64>) -> Position {
         Position {
             records: self.records,
@@ -241,7 +241,7 @@ impl<'a> Folder<'a> {
         }
     }
 
-    /// Adds a record.
+    // Adds a record.
     fn add_record(&mut self, file: &PerfFile, record: &PerfFileRecord<'_>) -> Result<(), Error> {
         match record {
             PerfFileRecord::EventRecord { attr_index, event } => {
@@ -255,7 +255,7 @@ impl<'a> Folder<'a> {
         }
     }
 
-    /// Adds the next record. Returns whether there is one.
+    // Adds the next record. Returns whether there is one.
     fn add_next(
         &mut self,
         records: &mut Records<'_>,
@@ -289,7 +289,7 @@ impl<'a> Folder<'a> {
         Ok(())
     }
 
-    /// Returns the lines with their counts.
+    // Returns the lines with their counts.
     fn counts(&self) -> Result<StackCounts, CountError> {
         let mut counts = StackCounts::new(self.alloc);
         let mut line = Vec::new(self.alloc);
@@ -312,7 +312,7 @@ impl<'a> Folder<'a> {
     }
 }
 
-/// Sets a line to the names of a stack.
+// Sets a line to the names of a stack.
 fn set_line(line: &mut Vec<u8>, names: &NameTable, stack: &[usize]) -> Result<(), AllocError> {
     line.clear();
     for (at, number) in stack.iter().enumerate() {

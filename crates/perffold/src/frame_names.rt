@@ -12,13 +12,13 @@ use perfdata_stacks::line::push_name;
 use std::alloc::{AllocError, Global};
 use std::io::Write;
 
-/// The name of a frame without a mapping.
+// The name of a frame without a mapping.
 const UNKNOWN: &[u8] = b"[unknown]";
 
-/// The flag of a mapping of huge pages (`MAP_HUGETLB`).
+// The flag of a mapping of huge pages (`MAP_HUGETLB`).
 const MAP_HUGETLB: u32 = 0x40000;
 
-/// The paths of memory without a file, or their starts.
+// The paths of memory without a file, or their starts.
 const MEMORY_PATHS: [&[u8]; 6] = [
     b"//anon",
     b"/dev/zero",
@@ -46,7 +46,7 @@ pub(crate) enum NameSource<'a> {
     Addresses,
 }
 
-/// The names of the frames of a mapping.
+// The names of the frames of a mapping.
 #[derive(Clone, Copy)]
 struct MappingNames {
     /// The number of the name of the file.
@@ -66,7 +66,7 @@ pub(crate) struct FrameNames<'a> {
     text: Vec<u8>,
 }
 
-/// Returns the part of a path after its last slash. That of the kernel's path has no symbol.
+// Returns the part of a path after its last slash. That of the kernel's path has no symbol.
 fn base_name(path: &[u8]) -> &[u8] {
     if path.starts_with(KERNEL_PATH) {
         return KERNEL_PATH;
@@ -77,7 +77,7 @@ fn base_name(path: &[u8]) -> &[u8] {
     }
 }
 
-/// Returns whether a mapping is memory without a file.
+// Returns whether a mapping is memory without a file.
 fn is_anonymous(mapping: &Mapping) -> bool {
     if mapping.flags & MAP_HUGETLB != 0 {
         return true;
@@ -90,7 +90,7 @@ fn is_anonymous(mapping: &Mapping) -> bool {
     false
 }
 
-/// Appends the name of the map of a process.
+// Appends the name of the map of a process.
 fn push_map_name(text: &mut Vec<u8>, pid: i32) -> Result<(), AllocError> {
     match write!(text, "perf-{pid}.map") {
         Ok(()) => Ok(()),
@@ -98,7 +98,7 @@ fn push_map_name(text: &mut Vec<u8>, pid: i32) -> Result<(), AllocError> {
     }
 }
 
-/// Appends an address.
+// Appends an address.
 fn push_address(text: &mut Vec<u8>, address: u64) -> Result<(), AllocError> {
     match write!(text, "{address:#x}") {
         Ok(()) => Ok(()),
@@ -106,7 +106,7 @@ fn push_address(text: &mut Vec<u8>, address: u64) -> Result<(), AllocError> {
     }
 }
 
-/// Returns the process whose jitdump describes the code at an address: the one that made this mapping.
+// Returns the process whose jitdump describes the code at an address: the one that made this mapping.
 fn generator_of(mapping: Option<&Mapping>, pid: i32) -> i32 {
     match mapping {
         Some(mapping) => mapping.pid,
@@ -124,7 +124,7 @@ impl<'a> FrameNames<'a> {
         }
     }
 
-    /// Returns whether frames have the names of symbols.
+    // Returns whether frames have the names of symbols.
     fn has_symbols(&self) -> bool {
         matches!(self.source, NameSource::Symbols(_))
     }
@@ -153,8 +153,8 @@ impl<'a> FrameNames<'a> {
         }
     }
 
-    /// Applies a record that isn't a sample, and that was applied to the address spaces. `misc` is that of its
-    /// header.
+    /// Applies a record that isn't a sample, and that was applied to the address spaces. `misc` is that of
+    /// its header.
     pub(crate) fn apply(
         &mut self,
         misc: u16,
@@ -175,13 +175,13 @@ impl<'a> FrameNames<'a> {
         symbols.add_mapping(context_of_mode(misc), mapping)
     }
 
-    /// Returns the number of the text as a name.
+    // Returns the number of the text as a name.
     fn text_number(&mut self, names: &mut NameTable) -> Result<usize, AllocError> {
         names.number(self.text.as_slice())
     }
 
-    /// Returns the number of the name of a mapping: that of its file in brackets, or of the process's map
-    /// file for executable memory without a file.
+    // Returns the number of the name of a mapping: that of its file in brackets, or of the process's map
+    // file for executable memory without a file.
     fn file_number(
         &mut self,
         mapping: &Mapping,
@@ -198,7 +198,7 @@ impl<'a> FrameNames<'a> {
         self.text_number(names)
     }
 
-    /// Returns the number of the name of a kernel symbol.
+    // Returns the number of the name of a kernel symbol.
     fn kernel_symbol_number(
         &mut self,
         mapping: &Mapping,
@@ -209,7 +209,7 @@ impl<'a> FrameNames<'a> {
         self.text_number(names)
     }
 
-    /// Returns where the symbols of a mapping are looked up.
+    // Returns where the symbols of a mapping are looked up.
     fn lookup_of(&mut self, mapping: &Mapping, context: CallContext) -> Result<Lookup, AllocError> {
         match (&mut self.source, context) {
             (NameSource::Symbols(symbols), CallContext::User) => {
@@ -220,7 +220,7 @@ impl<'a> FrameNames<'a> {
         }
     }
 
-    /// Returns the names of a mapping, which is looked up for the first time.
+    // Returns the names of a mapping, which is looked up for the first time.
     fn new_names(
         &mut self,
         mapping: &Mapping,
@@ -239,7 +239,7 @@ impl<'a> FrameNames<'a> {
         })
     }
 
-    /// Returns the names of a mapping with an index.
+    // Returns the names of a mapping with an index.
     fn names_of(
         &mut self,
         index: usize,
@@ -260,7 +260,7 @@ impl<'a> FrameNames<'a> {
         Ok(found)
     }
 
-    /// Returns the number of the name of a frame in a mapping with an index.
+    // Returns the number of the name of a frame in a mapping with an index.
     fn mapped_number(
         &mut self,
         index: usize,
@@ -278,14 +278,14 @@ impl<'a> FrameNames<'a> {
         }
     }
 
-    /// Returns the number of an address as a name.
+    // Returns the number of an address as a name.
     fn address_number(&mut self, address: u64, names: &mut NameTable) -> Result<usize, AllocError> {
         self.text.clear();
         push_address(&mut self.text, address)?;
         self.text_number(names)
     }
 
-    /// Returns the number of the name of the code that a process generated at the address of a frame.
+    // Returns the number of the name of the code that a process generated at the address of a frame.
     fn code_number(
         &mut self,
         origin: SampleOrigin,

@@ -21,10 +21,10 @@ use std::process::ExitCode;
 use symbols::Symbols;
 use symbols::directories::PathError;
 
-/// The program's name.
+// The program's name.
 const NAME: &str = "perffold";
 
-/// Folds the input that the options name, with these names of frames. Returns the exit status.
+// Folds the input that the options name, with these names of frames. Returns the exit status.
 fn fold_with(rt: &HostRuntime, arguments: Arguments<'_>, source: NameSource<'_>) -> u8 {
     let path = path_of(rt, arguments.options.file);
     match fold_input(rt, NAME, arguments, source, path) {
@@ -33,7 +33,7 @@ fn fold_with(rt: &HostRuntime, arguments: Arguments<'_>, source: NameSource<'_>)
     }
 }
 
-/// Returns which names frames have.
+// Returns which names frames have.
 fn name_source<'a>(
     rt: &'a HostRuntime,
     options: &Options<'a>,
@@ -45,7 +45,7 @@ fn name_source<'a>(
     }
 }
 
-/// Opens the files that the options name, and folds the input. Returns the exit status.
+// Opens the files that the options name, and folds the input. Returns the exit status.
 fn run(rt: &HostRuntime, arguments: Arguments<'_>) -> u8 {
     match name_source(rt, &arguments.options) {
         Ok(source) => fold_with(rt, arguments, source),

@@ -5,50 +5,50 @@ use clap::{Arg, ArgAction, ArgMatches, Command, Error};
 use perfdata_cli::command_line::{FILE, RECORDING_HELP, command};
 use std::alloc::{AllocError, Global};
 
-/// What the program does.
+// What the program does.
 const ABOUT: &str =
     "Writes the stacks of a recording's samples as folded lines: names of frames with ';' between them, and a count. Or draws their flame graph.";
 
-/// The id of the option of the event.
+// The id of the option of the event.
 const EVENT: &str = "event";
 
-/// The id of the flag for all events.
+// The id of the flag for all events.
 const ALL_EVENTS: &str = "all-events";
 
-/// The id of the option of the weight.
+// The id of the option of the weight.
 const WEIGHT: &str = "weight";
 
-/// The value of the option of the weight by which a sample counts its period.
+// The value of the option of the weight by which a sample counts its period.
 const PERIOD: &str = "period";
 
-/// The values of the option of the weight.
+// The values of the option of the weight.
 const WEIGHTS: &[&str] = &["samples", PERIOD];
 
-/// The id of the flag for process ids.
+// The id of the flag for process ids.
 const PID: &str = "pid";
 
-/// The id of the flag for process and thread ids.
+// The id of the flag for process and thread ids.
 const TID: &str = "tid";
 
-/// The id of the flag for names without symbols.
+// The id of the flag for names without symbols.
 const NO_SYMBOLS: &str = "no-symbols";
 
-/// The id of the flag for addresses.
+// The id of the flag for addresses.
 const RAW: &str = "raw";
 
-/// The id of the option of the directory of mapped files.
+// The id of the option of the directory of mapped files.
 const SYMFS: &str = "symfs";
 
-/// The id of the option of the directory of debug files.
+// The id of the option of the directory of debug files.
 const DEBUG_DIR: &str = "debug-dir";
 
-/// The id of the option of the kernel's list of symbols.
+// The id of the option of the kernel's list of symbols.
 const KALLSYMS: &str = "kallsyms";
 
-/// The id of the option of the directory of perf-PID.map files.
+// The id of the option of the directory of perf-PID.map files.
 const MAPS: &str = "maps";
 
-/// The id of the flag for a flame graph.
+// The id of the flag for a flame graph.
 const SVG: &str = "svg";
 
 /// What a sample counts.
@@ -123,7 +123,7 @@ pub(crate) struct Arguments<'a> {
     pub(crate) format: OutputFormat,
 }
 
-/// Returns a flag.
+// Returns a flag.
 fn flag<'a>(alloc: Global, name: &'a str, help: &'a str) -> Arg<'a> {
     Arg::new(alloc, name)
         .long(name)
@@ -131,7 +131,7 @@ fn flag<'a>(alloc: Global, name: &'a str, help: &'a str) -> Arg<'a> {
         .help(help)
 }
 
-/// Returns an option with a value.
+// Returns an option with a value.
 fn option<'a>(alloc: Global, name: &'a str, value: &'a str, help: &'a str) -> Arg<'a> {
     Arg::new(alloc, name)
         .long(name)
@@ -139,7 +139,7 @@ fn option<'a>(alloc: Global, name: &'a str, value: &'a str, help: &'a str) -> Ar
         .help(help)
 }
 
-/// Returns the option of the weight.
+// Returns the option of the weight.
 fn weight_option<'a>(alloc: Global) -> Arg<'a> {
     option(
         alloc,
@@ -150,7 +150,7 @@ fn weight_option<'a>(alloc: Global) -> Arg<'a> {
     .value_parser(WEIGHTS)
 }
 
-/// Adds the options that select samples and what they count.
+// Adds the options that select samples and what they count.
 fn with_selection<'a>(alloc: Global, command: Command<'a>) -> Result<Command<'a>, AllocError> {
     command
         .arg(option(
@@ -163,7 +163,7 @@ fn with_selection<'a>(alloc: Global, command: Command<'a>) -> Result<Command<'a>
         .arg(weight_option(alloc))
 }
 
-/// Adds the options that say where symbols are.
+// Adds the options that say where symbols are.
 fn with_symbols<'a>(alloc: Global, command: Command<'a>) -> Result<Command<'a>, AllocError> {
     command
         .arg(option(
@@ -192,7 +192,7 @@ fn with_symbols<'a>(alloc: Global, command: Command<'a>) -> Result<Command<'a>, 
         ))
 }
 
-/// Adds the flags for the names in lines.
+// Adds the flags for the names in lines.
 fn with_names<'a>(alloc: Global, command: Command<'a>) -> Result<Command<'a>, AllocError> {
     command
         .arg(flag(alloc, PID, "Add the process id to the name of the thread"))?
@@ -205,7 +205,7 @@ fn with_names<'a>(alloc: Global, command: Command<'a>) -> Result<Command<'a>, Al
         .arg(flag(alloc, RAW, "Name frames by their addresses"))
 }
 
-/// Returns the command with its options.
+// Returns the command with its options.
 fn command_with_options<'a>(alloc: Global, name: &'a str) -> Result<Command<'a>, AllocError> {
     let svg = flag(alloc, SVG, "Write a flame graph, an SVG file for a browser");
     let command = command(alloc, name, ABOUT, RECORDING_HELP)?.arg(svg)?;
@@ -213,7 +213,7 @@ fn command_with_options<'a>(alloc: Global, name: &'a str) -> Result<Command<'a>,
     with_names(alloc, with_symbols(alloc, command)?)
 }
 
-/// Returns which samples are counted.
+// Returns which samples are counted.
 fn selection_of<'a>(matches: &ArgMatches<'a>) -> Selection<'a> {
     if matches.get_flag(ALL_EVENTS) {
         return Selection::All;
@@ -224,7 +224,7 @@ fn selection_of<'a>(matches: &ArgMatches<'a>) -> Selection<'a> {
     }
 }
 
-/// Returns what a sample counts.
+// Returns what a sample counts.
 fn weight_of(matches: &ArgMatches<'_>) -> Weight {
     match matches.get_str(WEIGHT) {
         Some(PERIOD) => Weight::Period,
@@ -232,7 +232,7 @@ fn weight_of(matches: &ArgMatches<'_>) -> Weight {
     }
 }
 
-/// Returns which ids follow the name of a thread.
+// Returns which ids follow the name of a thread.
 fn thread_ids_of(matches: &ArgMatches<'_>) -> ThreadIds {
     if matches.get_flag(TID) {
         ThreadIds::Thread
@@ -243,7 +243,7 @@ fn thread_ids_of(matches: &ArgMatches<'_>) -> ThreadIds {
     }
 }
 
-/// Returns which name a frame has.
+// Returns which name a frame has.
 fn name_kind_of(matches: &ArgMatches<'_>) -> NameKind {
     if matches.get_flag(RAW) {
         NameKind::Address
@@ -254,7 +254,7 @@ fn name_kind_of(matches: &ArgMatches<'_>) -> NameKind {
     }
 }
 
-/// Returns where symbols are.
+// Returns where symbols are.
 fn symbols_of<'a>(matches: &ArgMatches<'a>) -> SymbolOptions<'a> {
     SymbolOptions {
         symfs: matches.get_str(SYMFS),
@@ -264,7 +264,7 @@ fn symbols_of<'a>(matches: &ArgMatches<'a>) -> SymbolOptions<'a> {
     }
 }
 
-/// Returns what is written.
+// Returns what is written.
 fn format_of(matches: &ArgMatches<'_>) -> OutputFormat {
     if matches.get_flag(SVG) {
         OutputFormat::Svg
@@ -273,7 +273,7 @@ fn format_of(matches: &ArgMatches<'_>) -> OutputFormat {
     }
 }
 
-/// Returns what the arguments select.
+// Returns what the arguments select.
 fn options_of<'a>(matches: &ArgMatches<'a>) -> Options<'a> {
     Options {
         file: matches.get_str(FILE),

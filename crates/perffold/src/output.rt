@@ -13,7 +13,7 @@ use perfdata_stacks::flame::svg::write_flame_graph;
 use std::io;
 use std::io::{BufWriter, Write};
 
-/// Writes the lines with their counts.
+// Writes the lines with their counts.
 fn write_lines(rt: &HostRuntime, counts: &StackCounts) -> io::Result<()> {
     let mut out = BufWriter::new(rt.alloc(), rt.stdout())?;
     for (line, count) in counts.iter() {
@@ -23,7 +23,7 @@ fn write_lines(rt: &HostRuntime, counts: &StackCounts) -> io::Result<()> {
     out.flush()
 }
 
-/// Returns what a flame graph counts.
+// Returns what a flame graph counts.
 fn unit_of(weight: Weight) -> &'static str {
     match weight {
         Weight::Samples => "samples",
@@ -31,14 +31,14 @@ fn unit_of(weight: Weight) -> &'static str {
     }
 }
 
-/// Writes the flame graph of the lines.
+// Writes the flame graph of the lines.
 fn write_svg(rt: &HostRuntime, counts: &StackCounts, weight: Weight) -> io::Result<()> {
     let mut out = BufWriter::new(rt.alloc(), rt.stdout())?;
     write_flame_graph(rt.alloc(), counts, unit_of(weight), &mut out)?;
     out.flush()
 }
 
-/// Writes the lines, or their flame graph.
+// Writes the lines, or their flame graph.
 fn write_counts(
     rt: &HostRuntime,
     arguments: &Arguments<'_>,
@@ -50,7 +50,7 @@ fn write_counts(
     }
 }
 
-/// Fails if no sample has the event that `--event` names.
+// Fails if no sample has the event that `--event` names.
 fn check_event(lacks_event: bool) -> Result<(), InputError> {
     if lacks_event {
         Err(InputError::Io(io::Error::other("no sample has the event that --event names")))
@@ -59,14 +59,14 @@ fn check_event(lacks_event: bool) -> Result<(), InputError> {
     }
 }
 
-/// Writes the number of samples of other events on standard error, if it isn't 0.
+// Writes the number of samples of other events on standard error, if it isn't 0.
 fn print_other_events(rt: &HostRuntime, name: &str, samples: u64) {
     if samples != 0 {
         let _ = eprintln!(rt; "{name}: {samples} samples of other events aren't counted");
     }
 }
 
-/// Writes on standard error how many files with symbols weren't used or compared, if there are any.
+// Writes on standard error how many files with symbols weren't used or compared, if there are any.
 fn print_file_counts(rt: &HostRuntime, name: &str, counts: FileCounts) {
     let (different, unknown) = (counts.different, counts.unknown);
     if different != 0 || unknown != 0 {
@@ -76,14 +76,14 @@ fn print_file_counts(rt: &HostRuntime, name: &str, counts: FileCounts) {
     }
 }
 
-/// Writes on standard error how many files with symbols can't be read, if there are any.
+// Writes on standard error how many files with symbols can't be read, if there are any.
 fn print_unreadable(rt: &HostRuntime, name: &str, files: u64) {
     if files != 0 {
         let _ = eprintln!(rt; "{name}: {files} files with symbols can't be read");
     }
 }
 
-/// Writes the lines of the samples that were read, and fails with the error that ended them, if there is one.
+// Writes the lines of the samples that were read, and fails with the error that ended them, if there is one.
 fn finish(
     rt: &HostRuntime,
     name: &str,
@@ -105,7 +105,7 @@ fn finish(
     Ok(check_event(lacks_event)?)
 }
 
-/// Folds the samples of an input that was opened.
+// Folds the samples of an input that was opened.
 fn fold_opened(
     rt: &HostRuntime,
     name: &str,

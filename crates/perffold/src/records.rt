@@ -16,7 +16,7 @@ pub(crate) enum Records<'a> {
     InInputOrder(InMemoryRecords<'a>),
 }
 
-/// Returns whether the records that aren't samples have times.
+// Returns whether the records that aren't samples have times.
 fn has_times(file: &PerfFile) -> bool {
     for event in file.event_attributes() {
         let flags = EventFlags::from_bits_retain(event.attributes().flags.0);

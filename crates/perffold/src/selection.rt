@@ -46,12 +46,12 @@ impl<'a> Selection<'a> {
     }
 }
 
-/// Returns the name of an event.
+// Returns the name of an event.
 fn name_of(file: &PerfFile, index: usize) -> Option<&str> {
     file.event_attributes().get(index)?.name()
 }
 
-/// Returns whether an event has a name.
+// Returns whether an event has a name.
 fn has_name(file: &PerfFile, index: usize, name: &str) -> bool {
     match name_of(file, index) {
         Some(found) => found == name,
@@ -59,7 +59,7 @@ fn has_name(file: &PerfFile, index: usize, name: &str) -> bool {
     }
 }
 
-/// Returns whether two events have the same name.
+// Returns whether two events have the same name.
 fn have_one_name(file: &PerfFile, first: usize, second: usize) -> bool {
     match name_of(file, first) {
         Some(name) => has_name(file, second, name),

@@ -47,7 +47,7 @@ pub(crate) enum Lookup {
     },
 }
 
-/// The table of a file that the recording has the symbols of.
+// The table of a file that the recording has the symbols of.
 #[derive(Clone, Copy)]
 struct RecordedTable {
     index: usize,
@@ -72,14 +72,14 @@ pub(crate) struct Symbols<'a> {
     of_processes: BTreeMap<i32, Option<usize>>,
 }
 
-/// Reads a file into memory.
+// Reads a file into memory.
 fn read_all(rt: &HostRuntime, mut file: File) -> io::Result<Option<Vec<u8>>> {
     let mut bytes = Vec::new(rt.alloc());
     file.read_to_end(&mut bytes)?;
     Ok(Some(bytes))
 }
 
-/// Reads the kernel's list of symbols, if the command line names one.
+// Reads the kernel's list of symbols, if the command line names one.
 fn read_kernel<'a>(
     rt: &HostRuntime,
     path: Option<&'a str>,
@@ -93,7 +93,7 @@ fn read_kernel<'a>(
     }
 }
 
-/// Returns whether the symbols of a file start at offsets in it, as those of ELF and DEX files do.
+// Returns whether the symbols of a file start at offsets in it, as those of ELF and DEX files do.
 fn has_offsets(record: &SimpleperfFileRecord) -> bool {
     match &record.type_specific_msg {
         Some(
@@ -104,7 +104,7 @@ fn has_offsets(record: &SimpleperfFileRecord) -> bool {
     }
 }
 
-/// Returns the place in a table at which an address of a mapping with a file is looked up.
+// Returns the place in a table at which an address of a mapping with a file is looked up.
 fn table_lookup(index: Option<usize>, mapping: &Mapping) -> Lookup {
     match index {
         Some(index) => Lookup::Table {
@@ -115,7 +115,7 @@ fn table_lookup(index: Option<usize>, mapping: &Mapping) -> Lookup {
     }
 }
 
-/// Returns the place in a table at which an address without a file is looked up.
+// Returns the place in a table at which an address without a file is looked up.
 fn address_lookup(index: Option<usize>) -> Lookup {
     match index {
         Some(index) => Lookup::Table { index, shift: 0 },
@@ -150,14 +150,14 @@ impl<'a> Symbols<'a> {
         self.elf_files.counts
     }
 
-    /// Adds a table. Returns its index.
+    // Adds a table. Returns its index.
     fn add_table(&mut self, table: SymbolTable) -> Result<usize, AllocError> {
         let index = self.tables.len();
         self.tables.push(NamedTable::new(self.rt.alloc(), table))?;
         Ok(index)
     }
 
-    /// Adds the symbols of a file that the recording has.
+    // Adds the symbols of a file that the recording has.
     fn add_recorded(&mut self, record: &SimpleperfFileRecord) -> Result<(), AllocError> {
         let alloc = self.rt.alloc();
         let index = self.add_table(table_of_record(alloc, record)?)?;
@@ -210,7 +210,7 @@ impl<'a> Symbols<'a> {
         self.jitdumps.remove(pid);
     }
 
-    /// Returns the key of a mapping's file: its path and its build id.
+    // Returns the key of a mapping's file: its path and its build id.
     fn key_of(&self, mapping: &Mapping) -> Result<Vec<u8>, AllocError> {
         let mut key = mapping.path.to_vec(self.rt.alloc())?;
         key.push(0)?;
@@ -218,7 +218,7 @@ impl<'a> Symbols<'a> {
         Ok(key)
     }
 
-    /// Reads the symbols of a mapped file.
+    // Reads the symbols of a mapped file.
     fn read_file(&mut self, mapping: &Mapping) -> Result<Option<usize>, AllocError> {
         let recorded = self.build_ids.of_mapping(mapping);
         let Ok(path) = str::from_utf8(mapping.path.as_slice()) else {
@@ -233,7 +233,7 @@ impl<'a> Symbols<'a> {
         }
     }
 
-    /// Returns the index of the table of a mapped file.
+    // Returns the index of the table of a mapped file.
     fn of_file(&mut self, mapping: &Mapping) -> Result<Option<usize>, AllocError> {
         let key = self.key_of(mapping)?;
         if let Some(index) = self.of_files.get(key.as_slice()) {
@@ -244,7 +244,7 @@ impl<'a> Symbols<'a> {
         Ok(index)
     }
 
-    /// Reads the map of a process.
+    // Reads the map of a process.
     fn read_map(&mut self, pid: i32) -> Result<Option<usize>, AllocError> {
         let path = format!(in self.rt.alloc(); "/perf-{pid}.map")?;
         let Some(file) = self
@@ -264,7 +264,7 @@ impl<'a> Symbols<'a> {
         }
     }
 
-    /// Returns the index of the table of a process.
+    // Returns the index of the table of a process.
     fn of_process(&mut self, pid: i32) -> Result<Option<usize>, AllocError> {
         if let Some(index) = self.of_processes.get(&pid) {
             return Ok(*index);
@@ -326,7 +326,7 @@ impl<'a> Symbols<'a> {
         }
     }
 
-    /// Opens and reads the jitdump at a path.
+    // Opens and reads the jitdump at a path.
     fn read_jitdump(&mut self, path: &str) -> Result<Option<JitSymbols>, AllocError> {
         let alloc = self.rt.alloc();
         let Some(file) = self.elf_files.directories.files.open(self.rt, path)? else {
@@ -345,7 +345,7 @@ impl<'a> Symbols<'a> {
         }
     }
 
-    /// Reads the jitdump of a process, if there is one that wasn't read yet.
+    // Reads the jitdump of a process, if there is one that wasn't read yet.
     fn load_jitdump(&mut self, pid: i32) -> Result<(), AllocError> {
         let Some(path) = self.jitdumps.unread(pid) else {
             return Ok(());

@@ -9,7 +9,7 @@ use std::alloc::Global;
 use std::cmp::Ordering;
 use std::collections::HashMap;
 
-/// A mapped object and its key.
+// A mapped object and its key.
 type DsoEntry<'a> = (&'a DsoKey, &'a DsoInfo);
 
 /// Writes the build ids, ordered by path, and the symbol files.
@@ -23,7 +23,7 @@ pub(crate) fn show(alloc: Global, file: &PerfFile, report: &mut Report) {
     }
 }
 
-/// Writes the symbol files.
+// Writes the symbol files.
 fn show_symbol_files(files: &[SimpleperfFileRecord], report: &mut Report) {
     report.number("symbol files", files.len() as u64);
     for file in files {
@@ -32,7 +32,7 @@ fn show_symbol_files(files: &[SimpleperfFileRecord], report: &mut Report) {
     }
 }
 
-/// Writes the build ids, ordered by path.
+// Writes the build ids, ordered by path.
 fn show_build_ids(alloc: Global, ids: &HashMap<DsoKey, DsoInfo>, report: &mut Report) {
     report.number("build ids", ids.len() as u64);
     if let Some(objects) = report.value_or_note("build ids", sorted_by_path(alloc, ids)) {
@@ -46,12 +46,12 @@ fn show_build_ids(alloc: Global, ids: &HashMap<DsoKey, DsoInfo>, report: &mut Re
     }
 }
 
-/// Compares the paths of two objects.
+// Compares the paths of two objects.
 fn by_path(first: &DsoEntry<'_>, second: &DsoEntry<'_>) -> Ordering {
     first.1.path.cmp(&second.1.path)
 }
 
-/// Returns the objects, ordered by path.
+// Returns the objects, ordered by path.
 fn sorted_by_path(
     alloc: Global,
     ids: &HashMap<DsoKey, DsoInfo>,
@@ -61,7 +61,7 @@ fn sorted_by_path(
     Ok(Some(objects))
 }
 
-/// Returns the name of a mapped object's kind.
+// Returns the name of a mapped object's kind.
 fn dso_kind_name(key: &DsoKey) -> &'static str {
     match key {
         DsoKey::Kernel => "kernel",
@@ -73,7 +73,7 @@ fn dso_kind_name(key: &DsoKey) -> &'static str {
     }
 }
 
-/// Returns the name of the symbols of a file of this kind.
+// Returns the name of the symbols of a file of this kind.
 fn symbols_name(kind: u32) -> &'static str {
     match kind {
         DSO_KERNEL => "kernel symbols",

@@ -18,10 +18,10 @@ use std::alloc::{AllocError, Global};
 use std::cmp::Reverse;
 use std::collections::BTreeMap;
 
-/// Maximum number of mapped files in the report.
+// Maximum number of mapped files in the report.
 const MAX_FILES: usize = 20;
 
-/// A thread of a process.
+// A thread of a process.
 #[derive(Drop)]
 struct Thread {
     /// The last name, which a FORK copies from the parent and a COMM changes; empty if neither was read.
@@ -29,7 +29,7 @@ struct Thread {
     samples: u64,
 }
 
-/// A process.
+// A process.
 #[derive(Drop)]
 struct Process {
     samples: u64,
@@ -37,7 +37,7 @@ struct Process {
 }
 
 impl Process {
-    /// Creates a process without threads.
+    // Creates a process without threads.
     fn new(alloc: Global) -> Process {
         Process {
             samples: 0,
@@ -45,7 +45,7 @@ impl Process {
         }
     }
 
-    /// Returns a thread, which has no name if it is new.
+    // Returns a thread, which has no name if it is new.
     fn thread(&mut self, alloc: Global, tid: i32) -> Result<&mut Thread, AllocError> {
         Ok(
             self.threads.entry(tid)?.or_insert(Thread {
@@ -55,7 +55,7 @@ impl Process {
         )
     }
 
-    /// Returns the name of a thread, or an empty one.
+    // Returns the name of a thread, or an empty one.
     fn name_of(&self, tid: i32) -> &[u8] {
         match self.threads.get(&tid) {
             Some(thread) => thread.name.as_slice(),
@@ -64,7 +64,7 @@ impl Process {
     }
 }
 
-/// Counts of context switches.
+// Counts of context switches.
 #[derive(Clone, Copy)]
 struct SwitchCounts {
     into: u64,
@@ -133,7 +133,7 @@ impl Contents {
         }
     }
 
-    /// Adds a record by its type.
+    // Adds a record by its type.
     fn add_event(&mut self, alloc: Global, event: &EventRecord<'_>) -> Result<(), AllocError> {
         match event {
             EventRecord::Sample(sample) => self.add_sample(alloc, sample),
@@ -157,7 +157,7 @@ impl Contents {
         }
     }
 
-    /// Adds a sample to the counts of its thread and its processor.
+    // Adds a sample to the counts of its thread and its processor.
     fn add_sample(&mut self, alloc: Global, sample: &SampleRecord<'_>) -> Result<(), AllocError> {
         if let Some(task) = sample.task {
             self.add_task_sample(alloc, task.pid, task.tid)?;
@@ -169,7 +169,7 @@ impl Contents {
         Ok(())
     }
 
-    /// Adds the sizes of the parts of a sample.
+    // Adds the sizes of the parts of a sample.
     fn add_sizes(&mut self, sample: &SampleRecord<'_>) {
         if let Some(chain) = &sample.call_chain {
             self.frames = self.frames.saturating_add(frame_count(chain));
@@ -183,12 +183,12 @@ impl Contents {
         }
     }
 
-    /// Returns a process, which has no threads if it is new.
+    // Returns a process, which has no threads if it is new.
     fn process(&mut self, alloc: Global, pid: i32) -> Result<&mut Process, AllocError> {
         Ok(self.processes.entry(pid)?.or_insert(Process::new(alloc)))
     }
 
-    /// Adds a sample to the counts of a thread.
+    // Adds a sample to the counts of a thread.
     fn add_task_sample(&mut self, alloc: Global, pid: i32, tid: i32) -> Result<(), AllocError> {
         let process = self.process(alloc, pid)?;
         process.samples = process.samples.saturating_add(1);
@@ -197,7 +197,7 @@ impl Contents {
         Ok(())
     }
 
-    /// Names a thread.
+    // Names a thread.
     fn name_thread(
         &mut self,
         alloc: Global,
@@ -209,13 +209,13 @@ impl Contents {
         Ok(())
     }
 
-    /// Names a thread as a COMM record does.
+    // Names a thread as a COMM record does.
     fn set_name(&mut self, alloc: Global, comm: &CommOrExecRecord<'_>) -> Result<(), AllocError> {
         let name = to_vec(alloc, comm.name)?;
         self.name_thread(alloc, comm.pid, comm.tid, name)
     }
 
-    /// Returns the name of a thread, or an empty one.
+    // Returns the name of a thread, or an empty one.
     fn name_of(&self, pid: i32, tid: i32) -> &[u8] {
         match self.processes.get(&pid) {
             Some(process) => process.name_of(tid),
@@ -223,7 +223,7 @@ impl Contents {
         }
     }
 
-    /// Names a new thread as its parent, unless it has a name.
+    // Names a new thread as its parent, unless it has a name.
     fn copy_name(&mut self, alloc: Global, fork: &ForkOrExitRecord) -> Result<(), AllocError> {
         if !self.name_of(fork.pid, fork.tid).is_empty() {
             return Ok(());
@@ -232,13 +232,13 @@ impl Contents {
         self.name_thread(alloc, fork.pid, fork.tid, name)
     }
 
-    /// Adds a mapping of a file.
+    // Adds a mapping of a file.
     fn add_mapping(&mut self, alloc: Global, path: RawData<'_>) -> Result<(), AllocError> {
         self.mappings = self.mappings.saturating_add(1);
         count_one(&mut self.files, to_vec(alloc, path)?)
     }
 
-    /// Adds the build id of a mapped file, unless it has a path.
+    // Adds the build id of a mapped file, unless it has a path.
     fn add_build_id(
         &mut self,
         alloc: Global,
@@ -252,7 +252,7 @@ impl Contents {
         Ok(())
     }
 
-    /// Adds a mapping of a file, and the file's build id if the record has it.
+    // Adds a mapping of a file, and the file's build id if the record has it.
     fn add_mapping2(&mut self, alloc: Global, mapping: &Mmap2Record<'_>) -> Result<(), AllocError> {
         self.add_mapping(alloc, mapping.path)?;
         match mapping.file_id {
@@ -262,7 +262,7 @@ impl Contents {
     }
 }
 
-/// Returns the number of frames of a call chain.
+// Returns the number of frames of a call chain.
 fn frame_count(chain: &CallChain<'_>) -> u64 {
     let mut count = 0u64;
     for _ in chain.iter() {
@@ -271,7 +271,7 @@ fn frame_count(chain: &CallChain<'_>) -> u64 {
     count
 }
 
-/// Returns the number of counters whose values are given.
+// Returns the number of counters whose values are given.
 fn value_count(values: &ReadValues<'_>) -> u64 {
     match values {
         ReadValues::Single(_) => 1,
@@ -280,7 +280,7 @@ fn value_count(values: &ReadValues<'_>) -> u64 {
 }
 
 impl SwitchCounts {
-    /// Adds a context switch.
+    // Adds a context switch.
     fn add(&mut self, switch: &ContextSwitchRecord) {
         if switch.is_out {
             self.out = self.out.saturating_add(1);
@@ -293,15 +293,15 @@ impl SwitchCounts {
     }
 }
 
-/// A path, and the number of its mappings.
+// A path, and the number of its mappings.
 type FileEntry<'a> = (&'a Vec<u8>, &'a u64);
 
-/// The key of a file that orders files by decreasing number of mappings.
+// The key of a file that orders files by decreasing number of mappings.
 fn most_first(entry: &FileEntry<'_>) -> Reverse<u64> {
     Reverse(*entry.1)
 }
 
-/// Returns the mapped files, ordered by decreasing number of mappings and then by path.
+// Returns the mapped files, ordered by decreasing number of mappings and then by path.
 fn files_by_count(
     alloc: Global,
     files: &BTreeMap<Vec<u8>, u64>,
@@ -312,7 +312,7 @@ fn files_by_count(
     Ok(Some(entries))
 }
 
-/// Writes a process: its name, its samples and its threads.
+// Writes a process: its name, its samples and its threads.
 fn show_process(pid: i32, process: &Process, report: &mut Report) {
     report.item(Spaced("process", pid), Escaped(process.name_of(pid)));
     report.number_detail("samples", process.samples);
@@ -322,7 +322,7 @@ fn show_process(pid: i32, process: &Process, report: &mut Report) {
     }
 }
 
-/// Writes the processes.
+// Writes the processes.
 fn show_processes(contents: &Contents, report: &mut Report) {
     report.number("processes", contents.processes.len() as u64);
     for (pid, process) in contents.processes.iter() {
@@ -330,7 +330,7 @@ fn show_processes(contents: &Contents, report: &mut Report) {
     }
 }
 
-/// Writes the number of samples of each processor.
+// Writes the number of samples of each processor.
 fn show_processors(contents: &Contents, report: &mut Report) {
     report.number("samples by CPU", contents.samples_by_cpu.len() as u64);
     for (cpu, count) in contents.samples_by_cpu.iter() {
@@ -338,7 +338,7 @@ fn show_processors(contents: &Contents, report: &mut Report) {
     }
 }
 
-/// Writes the number of mappings and the files that have most of them.
+// Writes the number of mappings and the files that have most of them.
 fn show_mappings(alloc: Global, contents: &Contents, report: &mut Report) {
     report.number("mappings", contents.mappings);
     report.number("mapped files", contents.files.len() as u64);
@@ -350,7 +350,7 @@ fn show_mappings(alloc: Global, contents: &Contents, report: &mut Report) {
     }
 }
 
-/// Writes the build ids of mappings.
+// Writes the build ids of mappings.
 fn show_build_ids(contents: &Contents, report: &mut Report) {
     report.number("build ids of mappings", contents.build_ids.len() as u64);
     for (id, path) in contents.build_ids.iter() {
@@ -358,14 +358,14 @@ fn show_build_ids(contents: &Contents, report: &mut Report) {
     }
 }
 
-/// Writes the sizes of the parts of samples.
+// Writes the sizes of the parts of samples.
 fn show_sizes(contents: &Contents, report: &mut Report) {
     report.number("frames of call chains", contents.frames);
     report.number("counter values in samples", contents.counter_values);
     report.number("bytes of user stacks", contents.stack_bytes);
 }
 
-/// Writes the numbers of lost records, of switches and of bodies that can't be parsed.
+// Writes the numbers of lost records, of switches and of bodies that can't be parsed.
 fn show_losses(contents: &Contents, report: &mut Report) {
     report.number("lost records", contents.lost_records);
     report.number("lost samples", contents.lost_samples);

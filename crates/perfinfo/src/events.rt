@@ -17,7 +17,7 @@ pub(crate) fn show(file: &PerfFile, counts: &RecordCounts, report: &mut Report) 
     }
 }
 
-/// Writes an event: the fields of its attribute, its ids and its counts.
+// Writes an event: the fields of its attribute, its ids and its counts.
 fn show_event(
     index: usize,
     event: &AttributeDescription,
@@ -31,7 +31,7 @@ fn show_event(
     show_counts(counts, report);
 }
 
-/// Writes the fields of an attribute.
+// Writes the fields of an attribute.
 fn show_attr(attr: &PerfEventAttr, report: &mut Report) {
     report.detail("type", event_type_name(attr.type_));
     report.number_detail("type number", attr.type_ as u64);
@@ -42,7 +42,7 @@ fn show_attr(attr: &PerfEventAttr, report: &mut Report) {
     show_bits("flags", attr.flags.0, ATTR_FLAGS, report);
 }
 
-/// Returns the name of `period_or_freq`.
+// Returns the name of `period_or_freq`.
 fn period_name(attr: &PerfEventAttr) -> &'static str {
     if EventFlags::from_bits_retain(attr.flags.0).contains(EventFlags::FREQ) {
         "frequency"
@@ -51,12 +51,12 @@ fn period_name(attr: &PerfEventAttr) -> &'static str {
     }
 }
 
-/// Writes a field of an attribute that consists of bits with these names.
+// Writes a field of an attribute that consists of bits with these names.
 fn show_bits(field: &str, bits: u64, names: &'static str, report: &mut Report) {
     report.detail(field, BitNames { bits, names });
 }
 
-/// Displays the number of ids and then each id.
+// Displays the number of ids and then each id.
 #[derive(Clone, Copy)]
 struct IdList<'a>(&'a [u64]);
 
@@ -72,7 +72,7 @@ impl fmt::Display for IdList<'_> {
     }
 }
 
-/// Writes the counts of an event and the times of its first and last sample.
+// Writes the counts of an event and the times of its first and last sample.
 fn show_counts(counts: EventCounts, report: &mut Report) {
     report.number_detail("records", counts.records);
     report.number_detail("samples", counts.samples);

@@ -20,7 +20,7 @@ pub(crate) fn show(alloc: Global, file: &PerfFile, report: &mut Report) {
     show_meta_info(alloc, file, report);
 }
 
-/// Writes the feature sections that contain a string.
+// Writes the feature sections that contain a string.
 fn show_strings(file: &PerfFile, report: &mut Report) {
     report.string_line("host name", file.hostname());
     report.string_line("OS release", file.os_release());
@@ -38,7 +38,7 @@ pub(crate) fn byte_order_name(endian: Endianness) -> &'static str {
     }
 }
 
-/// Writes the numeric values and the byte order.
+// Writes the numeric values and the byte order.
 fn show_numbers(file: &PerfFile, report: &mut Report) {
     if let Some(cpus) = report.value_or_note("CPUs", file.nr_cpus()) {
         report.number("CPUs available", cpus.nr_cpus_available as u64);
@@ -50,14 +50,14 @@ fn show_numbers(file: &PerfFile, report: &mut Report) {
     report.word("written by perf stat", stat);
 }
 
-/// Writes the recording's command line, with spaces between the arguments.
+// Writes the recording's command line, with spaces between the arguments.
 fn show_command_line(alloc: Global, file: &PerfFile, report: &mut Report) {
     if let Some(arguments) = report.value_or_note("command line", file.cmdline(alloc)) {
         report.line("command line", CommandLine(arguments.as_slice()));
     }
 }
 
-/// Displays the arguments of a command line, with spaces between them.
+// Displays the arguments of a command line, with spaces between them.
 #[derive(Clone, Copy)]
 struct CommandLine<'a>(&'a [&'a str]);
 
@@ -72,7 +72,7 @@ impl fmt::Display for CommandLine<'_> {
     }
 }
 
-/// Writes the times of the first and the last sample from the sample time section.
+// Writes the times of the first and the last sample from the sample time section.
 fn show_times(file: &PerfFile, report: &mut Report) {
     if let Some(times) = report.value_or_note("sample times", file.sample_time_range()) {
         report.number("first sample in ns", times.first_sample_time);
@@ -80,7 +80,7 @@ fn show_times(file: &PerfFile, report: &mut Report) {
     }
 }
 
-/// Writes the clock of the timestamps.
+// Writes the clock of the timestamps.
 fn show_clock(file: &PerfFile, report: &mut Report) {
     report.number_line("clock tick in ns", file.clock_frequency());
     if let Some(clock) = report.value_or_note("clock", file.clock_data()) {
@@ -91,7 +91,7 @@ fn show_clock(file: &PerfFile, report: &mut Report) {
     }
 }
 
-/// Writes how the records are compressed.
+// Writes how the records are compressed.
 fn show_compression(file: &PerfFile, report: &mut Report) {
     if let Some(compression) = report.value_or_note("compression", file.compression_info()) {
         report.number("compression type", compression.type_ as u64);
@@ -102,7 +102,7 @@ fn show_compression(file: &PerfFile, report: &mut Report) {
     }
 }
 
-/// Writes the features, each with the size of its section in bytes.
+// Writes the features, each with the size of its section in bytes.
 fn show_features(file: &PerfFile, report: &mut Report) {
     report.number("features", file.features().len() as u64);
     for feature in file.features().iter() {
@@ -112,7 +112,7 @@ fn show_features(file: &PerfFile, report: &mut Report) {
     }
 }
 
-/// Writes the performance monitoring units, ordered by number.
+// Writes the performance monitoring units, ordered by number.
 fn show_pmu_mappings(alloc: Global, file: &PerfFile, report: &mut Report) {
     let section = file.pmu_mappings(alloc);
     if let Some(units) = report.value_or_note("PMU mappings", section) {
@@ -123,10 +123,10 @@ fn show_pmu_mappings(alloc: Global, file: &PerfFile, report: &mut Report) {
     }
 }
 
-/// A key and its value.
+// A key and its value.
 type Pair<'a> = (&'a &'a str, &'a &'a str);
 
-/// Writes simpleperf's meta info, ordered by key.
+// Writes simpleperf's meta info, ordered by key.
 fn show_meta_info(alloc: Global, file: &PerfFile, report: &mut Report) {
     let section = file.simpleperf_meta_info(alloc);
     if let Some(map) = report.value_or_note("meta info", section) {
@@ -134,7 +134,7 @@ fn show_meta_info(alloc: Global, file: &PerfFile, report: &mut Report) {
     }
 }
 
-/// Writes keys and their values, ordered by key.
+// Writes keys and their values, ordered by key.
 fn show_pairs(alloc: Global, map: &HashMap<&str, &str>, report: &mut Report) {
     if let Some(pairs) = report.value_or_note("meta info", sorted_pairs(alloc, map)) {
         report.number("meta info", pairs.len() as u64);
@@ -144,7 +144,7 @@ fn show_pairs(alloc: Global, map: &HashMap<&str, &str>, report: &mut Report) {
     }
 }
 
-/// Returns the pairs, ordered by key.
+// Returns the pairs, ordered by key.
 fn sorted_pairs<'a>(
     alloc: Global,
     map: &'a HashMap<&'a str, &'a str>,

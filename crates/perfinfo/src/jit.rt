@@ -15,17 +15,17 @@ use std::cmp::Reverse;
 use std::collections::BTreeMap;
 use std::io;
 
-/// Maximum number of largest functions in the report.
+// Maximum number of largest functions in the report.
 const MAX_FUNCTIONS: usize = 10;
 
-/// A function of a load record.
+// A function of a load record.
 #[derive(Drop)]
 struct JitFunction {
     size: u64,
     name: Vec<u8>,
 }
 
-/// The key of a function that orders functions by decreasing size.
+// The key of a function that orders functions by decreasing size.
 fn largest_first(function: &JitFunction) -> Reverse<u64> {
     Reverse(function.size)
 }
@@ -54,7 +54,7 @@ impl JitCounts {
         }
     }
 
-    /// Adds a function with `size` bytes of code to the counts.
+    // Adds a function with `size` bytes of code to the counts.
     fn add_function(
         &mut self,
         alloc: Global,
@@ -69,7 +69,7 @@ impl JitCounts {
         Ok(())
     }
 
-    /// Adds a record to the counts.
+    // Adds a record to the counts.
     fn add(&mut self, alloc: Global, raw: &JitDumpRawRecord<'_>) -> io::Result<()> {
         if let JitDumpRecord::CodeLoad(load) = raw.parse(alloc)? {
             self.add_function(alloc, load.code_bytes.len() as u64, load.function_name)?;
@@ -119,7 +119,7 @@ pub(crate) fn show<R: Source>(reader: &JitDumpReader<R>, counts: &JitCounts, rep
     show_functions(&counts.largest, report);
 }
 
-/// Writes the header.
+// Writes the header.
 fn show_header(header: &JitDumpHeader, report: &mut Report) {
     report.number("version", header.version as u64);
     report.number("machine number", header.elf_machine_arch as u64);
@@ -128,7 +128,7 @@ fn show_header(header: &JitDumpHeader, report: &mut Report) {
     report.number("flags", header.flags);
 }
 
-/// Writes the number of records of each type.
+// Writes the number of records of each type.
 fn show_types(counts: &JitCounts, report: &mut Report) {
     report.number("records by type", counts.per_type.len() as u64);
     for (record_type, count) in counts.per_type.iter() {
@@ -137,7 +137,7 @@ fn show_types(counts: &JitCounts, report: &mut Report) {
     }
 }
 
-/// Writes the sizes and names of functions.
+// Writes the sizes and names of functions.
 fn show_functions(functions: &[JitFunction], report: &mut Report) {
     report.number("largest functions", functions.len() as u64);
     for function in functions {

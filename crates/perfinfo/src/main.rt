@@ -31,17 +31,17 @@ use report::Report;
 use std::alloc::Global;
 use std::process::ExitCode;
 
-/// The program's name.
+// The program's name.
 const NAME: &str = "perfinfo";
 
-/// What the program does.
+// What the program does.
 const ABOUT: &str =
     "Summarizes a perf.data file, a pipe or a jitdump: the machine, the events, the records by type, processes and threads, mappings, lost records, context switches and build ids.";
 
-/// The bytes of an input in a buffer.
+// The bytes of an input in a buffer.
 type Source = CountedBuffer<InputBytes>;
 
-/// Reads the records of a file or pipe to their end or to the first error, and prints the report.
+// Reads the records of a file or pipe to their end or to the first error, and prints the report.
 fn report_recording(
     rt: &HostRuntime,
     opened: Result<PerfFileReader<Source>, linux_perf_data::Error>,
@@ -57,7 +57,7 @@ fn report_recording(
     printed
 }
 
-/// Prints the report on the metadata and the records of a file or pipe.
+// Prints the report on the metadata and the records of a file or pipe.
 fn print_report(
     rt: &HostRuntime,
     reader: &PerfFileReader<Source>,
@@ -73,7 +73,7 @@ fn print_report(
     report.finish()
 }
 
-/// Reads the records of a jitdump to the last complete one or to the first error, and prints the report.
+// Reads the records of a jitdump to the last complete one or to the first error, and prints the report.
 fn report_jitdump(
     rt: &HostRuntime,
     opened: Result<JitDumpReader<Source>, JitDumpError>,
@@ -86,7 +86,7 @@ fn report_jitdump(
     printed
 }
 
-/// Prints the report on the header and the records of a jitdump.
+// Prints the report on the header and the records of a jitdump.
 fn print_jit_report(
     rt: &HostRuntime,
     reader: &JitDumpReader<Source>,
@@ -97,7 +97,7 @@ fn print_jit_report(
     report.finish()
 }
 
-/// Prints the report on the input at a path.
+// Prints the report on the input at a path.
 fn report_input(rt: &HostRuntime, path: &str) -> Result<(), ProgramError> {
     let input = Input::open(rt, path).map_err(InputError::Io)?;
     let kind = input.kind.ok_or(InputError::UnknownFormat)?;
@@ -118,12 +118,12 @@ fn report_input(rt: &HostRuntime, path: &str) -> Result<(), ProgramError> {
     }
 }
 
-/// Parses the arguments.
+// Parses the arguments.
 fn parse(alloc: Global, words: &[String]) -> Result<ArgMatches<'_>, Error> {
     command(alloc, NAME, ABOUT, RECORDING_OR_JITDUMP_HELP)?.try_get_matches_from(words)
 }
 
-/// Reports on the input that the arguments name. Returns the exit status.
+// Reports on the input that the arguments name. Returns the exit status.
 fn run(rt: &HostRuntime, matches: &ArgMatches<'_>) -> u8 {
     let path = path_of(rt, matches.get_str(FILE));
     match report_input(rt, path) {

@@ -61,7 +61,7 @@ impl fmt::Display for BitNames {
     }
 }
 
-/// Names of the record types of jitdump files from 0.
+// Names of the record types of jitdump files from 0.
 const JIT_RECORD_NAMES: &str = "CODE_LOAD CODE_MOVE CODE_DEBUG_INFO CODE_CLOSE CODE_UNWINDING_INFO";
 
 /// Returns the name of a record type.

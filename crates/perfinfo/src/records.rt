@@ -39,7 +39,7 @@ impl EventCounts {
         last_sample: None,
     };
 
-    /// Adds a record to the counts.
+    // Adds a record to the counts.
     fn add(&mut self, summary: RecordSummary) {
         self.records = self.records.saturating_add(1);
         if summary.record_type == RecordType::SAMPLE.0 {
@@ -52,7 +52,7 @@ impl EventCounts {
     }
 }
 
-/// The values of a record that are counted.
+// The values of a record that are counted.
 #[derive(Clone, Copy)]
 struct RecordSummary {
     record_type: u32,
@@ -65,7 +65,7 @@ struct RecordSummary {
 }
 
 impl RecordSummary {
-    /// Returns the values of a record with this size of aux data.
+    // Returns the values of a record with this size of aux data.
     fn new(place: &RecordPlace, file_record: &PerfFileRecord<'_>, aux_size: u64) -> RecordSummary {
         RecordSummary {
             record_type: file_record.record_type().0,
@@ -113,7 +113,7 @@ impl RecordCounts {
             .unwrap_or(EventCounts::ZERO)
     }
 
-    /// Adds a record to the counts of its event.
+    // Adds a record to the counts of its event.
     fn count_for_event(&mut self, index: usize, summary: RecordSummary) -> Result<(), AllocError> {
         if self.per_event.len() <= index {
             self.per_event
@@ -125,7 +125,7 @@ impl RecordCounts {
         Ok(())
     }
 
-    /// Adds a record to all counts.
+    // Adds a record to all counts.
     fn add(&mut self, summary: RecordSummary) -> Result<(), AllocError> {
         if let Some(index) = summary.attr_index {
             self.count_for_event(index, summary)?;
@@ -169,8 +169,8 @@ impl RecordCounts {
     }
 }
 
-/// Returns the size in bytes of the aux data of an auxtrace record, or 0 for other records. Fails if an
-/// auxtrace record can't be parsed.
+// Returns the size in bytes of the aux data of an auxtrace record, or 0 for other records. Fails if an
+// auxtrace record can't be parsed.
 fn aux_data_size(alloc: Global, user: &RawUserRecord<'_>) -> Result<u64, Error> {
     if user.record_type != UserRecordType::PERF_AUXTRACE {
         return Ok(0);
@@ -181,14 +181,14 @@ fn aux_data_size(alloc: Global, user: &RawUserRecord<'_>) -> Result<u64, Error> 
     }
 }
 
-/// Returns the format of the records of an event.
+// Returns the format of the records of an event.
 fn event_format(file: &PerfFile, index: usize) -> Option<EventFormat> {
     let event = file.event_attributes().get(index)?;
     Some(EventFormat::new(event.attributes(), file.endian()))
 }
 
-/// Adds the body of a record to the counts. Returns the size in bytes of the aux data of an auxtrace record,
-/// or 0 for other records.
+// Adds the body of a record to the counts. Returns the size in bytes of the aux data of an auxtrace record,
+// or 0 for other records.
 fn count_body(
     alloc: Global,
     file: &PerfFile,
@@ -206,7 +206,7 @@ fn count_body(
     }
 }
 
-/// Reads the next record, adds its body to the counts and returns its summary, or `None` at the end.
+// Reads the next record, adds its body to the counts and returns its summary, or `None` at the end.
 fn next_summary<R: Source>(
     alloc: Global,
     records: &mut PerfRecordIter<R>,
@@ -229,7 +229,7 @@ pub(crate) fn show(counts: &RecordCounts, report: &mut Report) {
     report.number("bytes of records", counts.end);
 }
 
-/// Writes the number of records of each type.
+// Writes the number of records of each type.
 fn show_types(counts: &RecordCounts, report: &mut Report) {
     report.number("records by type", counts.per_type.len() as u64);
     for (record_type, count) in counts.per_type.iter() {

@@ -46,7 +46,7 @@ impl Report {
         })
     }
 
-    /// Writes a line with this indentation.
+    // Writes a line with this indentation.
     fn write_indented<N: Display + Drop, V: Display + Drop>(
         &mut self,
         indent: &str,
@@ -91,7 +91,7 @@ impl Report {
         self.detail(name, value);
     }
 
-    /// Counts a section that can't be read, and writes a line with the error.
+    // Counts a section that can't be read, and writes a line with the error.
     fn note(&mut self, name: &str, error: &Error) {
         self.unreadable_sections = self.unreadable_sections.saturating_add(1);
         self.line(name, Unreadable(error));
@@ -146,7 +146,7 @@ impl Report {
     }
 }
 
-/// Displays why a section can't be read.
+// Displays why a section can't be read.
 #[derive(Clone, Copy)]
 struct Unreadable<'a>(&'a Error);
 

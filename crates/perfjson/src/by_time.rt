@@ -8,7 +8,7 @@ use perfdata_order::in_memory::InMemoryOrderedRecords;
 use std::alloc::Global;
 use std::io::Write;
 
-/// Writes the line of the next record in order of time. Returns whether there is one.
+// Writes the line of the next record in order of time. Returns whether there is one.
 fn list_next<L: RecordLine, W: Write>(
     records: &mut InMemoryOrderedRecords<'_>,
     file: &mut PerfFile,

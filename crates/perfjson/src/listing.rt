@@ -11,7 +11,7 @@ use perfdata_listing::{CountingBufWriter, ListCause, ListFault, list_file_by, li
 use std::io::Write;
 use std::rt::Stdout;
 
-/// Standard output in a buffer.
+// Standard output in a buffer.
 type Output = CountingBufWriter<Stdout>;
 
 /// Lists the input at a path.
@@ -29,12 +29,12 @@ pub(crate) fn list_input(
     }
 }
 
-/// Returns standard output in a buffer.
+// Returns standard output in a buffer.
 fn output(rt: &HostRuntime) -> Result<Output, InputError> {
     CountingBufWriter::new(rt.alloc(), rt.stdout()).map_err(|_| InputError::OutOfMemory)
 }
 
-/// Lists an input in its own order.
+// Lists an input in its own order.
 fn list_in_place(
     rt: &HostRuntime,
     byte_limit: usize,
@@ -54,7 +54,7 @@ fn list_in_place(
     finish(listed, position, &mut out)
 }
 
-/// Lists an input in order of time. The input is read into memory.
+// Lists an input in order of time. The input is read into memory.
 fn list_input_by_time(
     rt: &HostRuntime,
     byte_limit: usize,
@@ -73,7 +73,7 @@ fn list_input_by_time(
     finish(listed, position, &mut out)
 }
 
-/// Returns the number of lines of a listing.
+// Returns the number of lines of a listing.
 fn lines_of(listed: &Result<u64, ListFault>) -> u64 {
     match listed {
         Ok(lines) => *lines,
@@ -81,8 +81,8 @@ fn lines_of(listed: &Result<u64, ListFault>) -> u64 {
     }
 }
 
-/// Flushes the lines, unless the output has failed. Fails with the error of the listing, or else with that of
-/// the flush.
+// Flushes the lines, unless the output has failed. Fails with the error of the listing, or else with that of
+// the flush.
 fn finish(
     listed: Result<u64, ListFault>,
     position: Position,
@@ -99,7 +99,7 @@ fn finish(
     }
 }
 
-/// Flushes the lines before an error of the input.
+// Flushes the lines before an error of the input.
 fn flush_before(error: InputError, out: &mut Output) -> Result<(), ProgramError> {
     out.flush().map_err(ProgramError::Output)?;
     Err(error.into())

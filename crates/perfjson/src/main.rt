@@ -13,10 +13,10 @@ use perfdata_cli::error::print_error;
 use perfdata_cli::input::{display_name, path_of};
 use std::process::ExitCode;
 
-/// The program's name.
+// The program's name.
 const NAME: &str = "perfjson";
 
-/// Lists the input that the options name. Returns the exit status.
+// Lists the input that the options name. Returns the exit status.
 fn run(rt: &HostRuntime, options: &Options<'_>) -> u8 {
     let path = path_of(rt, options.file);
     match list_input(rt, options, path) {

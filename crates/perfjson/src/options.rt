@@ -3,16 +3,16 @@ use clap::{Arg, ArgAction, Command, Error, value_parser};
 use perfdata_cli::command_line::{FILE, RECORDING_HELP, command};
 use std::alloc::{AllocError, Global};
 
-/// What the program does.
+// What the program does.
 const ABOUT: &str = "Writes each record of a perf.data file or a pipe as a line of JSON.";
 
-/// The id of the option of the byte limit.
+// The id of the option of the byte limit.
 const BYTES: &str = "bytes";
 
-/// The id of the flag for the order of time.
+// The id of the flag for the order of time.
 const BY_TIME: &str = "by-time";
 
-/// Number of bytes that are written of bytes that are no text, without `--bytes`.
+// Number of bytes that are written of bytes that are no text, without `--bytes`.
 const DEFAULT_BYTE_LIMIT: usize = 64;
 
 /// What the arguments select.
@@ -26,7 +26,7 @@ pub struct Options<'a> {
     pub is_by_time: bool,
 }
 
-/// Returns the command with its options.
+// Returns the command with its options.
 fn command_with_options<'a>(alloc: Global, name: &'a str) -> Result<Command<'a>, AllocError> {
     let by_time = Arg::new(alloc, BY_TIME)
         .long(BY_TIME)

@@ -14,7 +14,7 @@ pub struct Dump<R> {
     rest: R,
 }
 
-/// Whether the bytes contain a complete header, or can't be the start of one.
+// Whether the bytes contain a complete header, or can't be the start of one.
 fn ends_header(bytes: &[u8]) -> bool {
     match JitDumpHeader::parse(RawData::Single(bytes)) {
         Err(JitDumpError::NotEnoughBytesForHeader) => false,

@@ -13,11 +13,11 @@ use perfdata_listing::{
 use std::fs::File;
 use std::process::ExitCode;
 
-/// The text on standard error for invalid arguments.
+// The text on standard error for invalid arguments.
 const USAGE: &[u8] = b"usage: perflist file PATH | pipe | jit PATH\n";
 
-/// Lists a perf.data file on standard output. Returns the number of its records, or the number of lines that
-/// were written before an error.
+// Lists a perf.data file on standard output. Returns the number of its records, or the number of lines that
+// were written before an error.
 fn run_file(rt: &HostRuntime, path: &str) -> Result<u64, u64> {
     let Ok(file) = open_file(rt, path) else {
         return Err(0);
@@ -29,7 +29,7 @@ fn run_file(rt: &HostRuntime, path: &str) -> Result<u64, u64> {
     flush_listing(listed, &mut out)
 }
 
-/// Lists the pipe on standard input, with the results of `run_file`.
+// Lists the pipe on standard input, with the results of `run_file`.
 fn run_pipe(rt: &HostRuntime) -> Result<u64, u64> {
     let Ok(input) = open_stdin(rt) else {
         return Err(0);
@@ -41,7 +41,7 @@ fn run_pipe(rt: &HostRuntime) -> Result<u64, u64> {
     flush_listing(listed, &mut out)
 }
 
-/// Lists a jitdump, with the results of `run_file`. The path names a file or a pipe.
+// Lists a jitdump, with the results of `run_file`. The path names a file or a pipe.
 fn run_jit(rt: &HostRuntime, path: &str) -> Result<u64, u64> {
     let Ok(file) = File::open(rt, path) else {
         return Err(0);
@@ -56,7 +56,7 @@ fn run_jit(rt: &HostRuntime, path: &str) -> Result<u64, u64> {
     flush_listing(listed, &mut out)
 }
 
-/// Reports how the listing ended, and returns the exit status.
+// Reports how the listing ended, and returns the exit status.
 fn exit_status(rt: &HostRuntime, outcome: Result<u64, u64>) -> u8 {
     finish(outcome, &mut rt.stderr()).unwrap_or(2)
 }

@@ -10,10 +10,10 @@ use perfdata_base::source::{Script, Step};
 use std::alloc::Global;
 use std::io::ErrorKind;
 
-/// The largest number of seeks that an opening does.
+// The largest number of seeks that an opening does.
 const MAX_SEEKS: usize = 1000;
 
-/// The size of a result for which memory is there before a call, in bytes.
+// The size of a result for which memory is there before a call, in bytes.
 const RESULT_SIZE: usize = 4096;
 
 /// The bytes of a call, their byte order, and what a source of them does at its reads and seeks.

@@ -4,10 +4,10 @@ use crate::cases::case_error::{CaseError, CaseResult};
 use perfdata_base::raw::Endianness;
 use std::alloc::Global;
 
-/// The largest size of an input in bytes.
+// The largest size of an input in bytes.
 const MAX_SIZE: usize = 64 << 20;
 
-/// The largest depth of functions and definitions in one another.
+// The largest depth of functions and definitions in one another.
 const MAX_DEPTH: usize = 50;
 
 /// A name for a part of an input. Commas stand between the parameters.

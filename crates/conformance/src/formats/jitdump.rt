@@ -8,10 +8,10 @@ use std::fmt::Write;
 use std::io;
 use std::mem::swap;
 
-/// The number of bytes of a function name from which on the offset of the code may exceed 64 bits.
+// The number of bytes of a function name from which on the offset of the code may exceed 64 bits.
 const NAME_LIMIT: usize = 1 << 32;
 
-/// The size of the result of a call for which memory is there before the reader is opened, in bytes.
+// The size of the result of a call for which memory is there before the reader is opened, in bytes.
 const RESULT_SIZE: usize = 512;
 
 /// Makes the call of a case, if this module has it.

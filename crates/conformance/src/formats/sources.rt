@@ -67,10 +67,10 @@ fn push_raw_call<T: FileOrder>(
     }
 }
 
-/// The types of sources, unless a case names some.
+// The types of sources, unless a case names some.
 const KINDS: &str = "slice,raw,cursor,vec,script,counted,buffered";
 
-/// A reader of std that does the steps of a script, and counts its reads and seeks.
+// A reader of std that does the steps of a script, and counts its reads and seeks.
 #[derive(Drop)]
 struct CountingReader {
     script: Script,

@@ -12,7 +12,7 @@ use std::alloc::Global;
 use std::fmt::Write;
 use std::io::Cursor;
 
-/// The largest number of records of a case.
+// The largest number of records of a case.
 const MAX_RECORDS: usize = 1_000_000;
 
 // The result of a call for the next record.

@@ -10,7 +10,7 @@ pub trait SourceCall {
     fn push<C: PlacedSource + Drop>(&self, source: C, out: &mut String) -> CaseResult;
 }
 
-/// The largest number of bytes that a source returns one by one.
+// The largest number of bytes that a source returns one by one.
 const MAX_SINGLE_BYTES: usize = 70_000;
 
 /// Whether the source of a call returns its bytes without a pause or an error.

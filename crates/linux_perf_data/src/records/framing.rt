@@ -22,7 +22,7 @@ use perfdata_parts::constants::{
 };
 use perfdata_parts::error::{Error, ReadError, unsupported};
 
-/// The size of a record header in bytes, as a `u16`.
+// The size of a record header in bytes, as a `u16`.
 const HEADER_SIZE: u16 = PerfEventHeader::STRUCT_SIZE as u16;
 
 // The size in bytes of the body after a record header, without aux data.

@@ -5,7 +5,7 @@ use crate::flame::open_boxes::OpenBoxes;
 use crate::flame::span::Span;
 use std::alloc::{AllocError, Global};
 
-/// What is between the names of a sorted line. No name contains it, and it sorts before all of their bytes.
+// What is between the names of a sorted line. No name contains it, and it sorts before all of their bytes.
 const SEPARATOR: u8 = 0;
 
 /// A line with its count, in which `SEPARATOR` is between the names.
@@ -41,7 +41,7 @@ pub(crate) struct FlameBoxes {
     open: OpenBoxes,
 }
 
-/// Returns a line with the separator between the names.
+// Returns a line with the separator between the names.
 fn sorted_line(alloc: Global, line: &[u8], count: u64) -> Result<SortedLine, AllocError> {
     let mut names = line.to_vec(alloc)?;
     for byte in names.iter_mut() {
@@ -52,7 +52,7 @@ fn sorted_line(alloc: Global, line: &[u8], count: u64) -> Result<SortedLine, All
     Ok(SortedLine { names, count })
 }
 
-/// Returns the lines, ordered by the names of their frames.
+// Returns the lines, ordered by the names of their frames.
 fn sorted_lines(alloc: Global, counts: &StackCounts) -> Result<Vec<SortedLine>, AllocError> {
     let mut lines = Vec::new(alloc);
     for (line, count) in counts.iter() {
@@ -62,7 +62,7 @@ fn sorted_lines(alloc: Global, counts: &StackCounts) -> Result<Vec<SortedLine>, 
     Ok(lines)
 }
 
-/// Returns the number of names with which both lines start.
+// Returns the number of names with which both lines start.
 fn shared_names(first: &[u8], second: &[u8]) -> usize {
     let first_names = first.split(|byte| *byte == SEPARATOR);
     let second_names = second.split(|byte| *byte == SEPARATOR);
@@ -88,7 +88,7 @@ impl FlameBoxes {
         Ok(boxes)
     }
 
-    /// Returns the number of names that a line shares with the line before it.
+    // Returns the number of names that a line shares with the line before it.
     fn shared_with_previous(&self, line: usize) -> usize {
         let previous = line.checked_sub(1).and_then(|index| self.lines.get(index));
         match (previous, self.lines.get(line)) {
@@ -97,7 +97,7 @@ impl FlameBoxes {
         }
     }
 
-    /// Closes the boxes inside the outermost ones, of which `depth` stay open.
+    // Closes the boxes inside the outermost ones, of which `depth` stay open.
     fn close_down_to(&mut self, depth: usize) -> Result<(), AllocError> {
         for _ in depth..self.open.len() {
             if let (Some(span), Some(name)) = (self.open.close(), self.names.pop()) {
@@ -108,7 +108,7 @@ impl FlameBoxes {
         Ok(())
     }
 
-    /// Opens the boxes of the names of a line after the first `shared` ones.
+    // Opens the boxes of the names of a line after the first `shared` ones.
     fn open_from(&mut self, line: usize, shared: usize) -> Result<(), AllocError> {
         let Some(sorted) = self.lines.get(line) else {
             return Ok(());
@@ -125,7 +125,7 @@ impl FlameBoxes {
         Ok(())
     }
 
-    /// Adds a line: closes the boxes that don't contain it, and opens its own.
+    // Adds a line: closes the boxes that don't contain it, and opens its own.
     fn add_line(&mut self, line: usize) -> Result<(), AllocError> {
         let shared = self.shared_with_previous(line);
         self.close_down_to(shared)?;

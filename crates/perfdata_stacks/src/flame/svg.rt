@@ -11,31 +11,31 @@ use std::fmt::{Display, Formatter};
 use std::io::Write;
 use std::{fmt, io};
 
-/// The distance of the graph from the left and the right side, in pixels.
+// The distance of the graph from the left and the right side, in pixels.
 const MARGIN: u64 = 10;
 
-/// The distance of the graph from the upper side, in pixels.
+// The distance of the graph from the upper side, in pixels.
 const TOP: u64 = 34;
 
-/// The distance of the graph from the lower side, in pixels.
+// The distance of the graph from the lower side, in pixels.
 const BOTTOM: u64 = 10;
 
-/// The height of a row of boxes, in pixels.
+// The height of a row of boxes, in pixels.
 const ROW_HEIGHT: u64 = 18;
 
-/// The width of a character, in hundredths of a pixel.
+// The width of a character, in hundredths of a pixel.
 const CHARACTER_WIDTH: u64 = 723;
 
-/// The distance of a name from the sides of its box, in hundredths of a pixel.
+// The distance of a name from the sides of its box, in hundredths of a pixel.
 const NAME_MARGIN: u64 = 300;
 
-/// The smallest number of characters of a name for which it is written into its box.
+// The smallest number of characters of a name for which it is written into its box.
 const MIN_CHARACTERS: u64 = 3;
 
-/// The name of the box of all samples.
+// The name of the box of all samples.
 const ALL: &[u8] = b"all";
 
-/// Displays hundredths as a number with two decimal places.
+// Displays hundredths as a number with two decimal places.
 #[derive(Clone, Copy)]
 struct Hundredths(u64);
 
@@ -45,7 +45,7 @@ impl Display for Hundredths {
     }
 }
 
-/// A box in the picture, in hundredths of a pixel but for its row.
+// A box in the picture, in hundredths of a pixel but for its row.
 #[derive(Clone, Copy)]
 struct Place {
     left: u64,
@@ -54,7 +54,7 @@ struct Place {
     row: u64,
 }
 
-/// What is the same for all boxes.
+// What is the same for all boxes.
 #[derive(Clone, Copy)]
 struct Picture<'a> {
     /// The sum of all weights.
@@ -65,7 +65,7 @@ struct Picture<'a> {
     unit: &'a str,
 }
 
-/// Returns a color between yellow and red, which depends on the name alone (FNV-1a).
+// Returns a color between yellow and red, which depends on the name alone (FNV-1a).
 fn color_of(name: &[u8]) -> u32 {
     let mut hash = 0x811c_9dc5u32;
     for byte in name {
@@ -78,7 +78,7 @@ fn color_of(name: &[u8]) -> u32 {
 }
 
 impl Picture<'_> {
-    /// Returns the place of samples at a depth.
+    // Returns the place of samples at a depth.
     fn place(&self, span: Span, depth: u64) -> Place {
         let left = share(span.start, self.total, GRAPH_WIDTH);
         let right = share(span.end, self.total, GRAPH_WIDTH);
@@ -89,7 +89,7 @@ impl Picture<'_> {
         }
     }
 
-    /// Writes what is shown for a box under the pointer: its name, its weight and its share of all weights.
+    // Writes what is shown for a box under the pointer: its name, its weight and its share of all weights.
     fn write_title<W: Write>(&self, name: &[u8], weight: u64, out: &mut W) -> io::Result<()> {
         let text = XmlText {
             bytes: name,
@@ -100,7 +100,7 @@ impl Picture<'_> {
         writeln!(out, "<g><title>{text}\n{weight} {unit}, {percent}%</title>")
     }
 
-    /// Writes a box, unless it is narrower than a hundredth of a pixel.
+    // Writes a box, unless it is narrower than a hundredth of a pixel.
     fn write_box<W: Write>(
         &self,
         name: &[u8],
@@ -119,17 +119,17 @@ impl Picture<'_> {
     }
 }
 
-/// Returns the position of the upper side of a row, in pixels.
+// Returns the position of the upper side of a row, in pixels.
 fn top_of(row: u64) -> u64 {
     row.saturating_mul(ROW_HEIGHT).saturating_add(TOP)
 }
 
-/// Returns a position in the graph as one in the picture, in hundredths of a pixel.
+// Returns a position in the graph as one in the picture, in hundredths of a pixel.
 fn in_picture(position: u64) -> Hundredths {
     Hundredths(position.saturating_add(MARGIN * 100))
 }
 
-/// Writes the rectangle of a box.
+// Writes the rectangle of a box.
 fn write_rectangle<W: Write>(place: Place, color: u32, out: &mut W) -> io::Result<()> {
     let (x, y) = (in_picture(place.left), top_of(place.row));
     let (width, height) = (Hundredths(place.width), ROW_HEIGHT - 1);
@@ -139,12 +139,12 @@ fn write_rectangle<W: Write>(place: Place, color: u32, out: &mut W) -> io::Resul
     )
 }
 
-/// Returns the number of characters that fit into a box.
+// Returns the number of characters that fit into a box.
 fn characters_in(place: Place) -> u64 {
     place.width.saturating_sub(2 * NAME_MARGIN) / CHARACTER_WIDTH
 }
 
-/// Writes as much of the name of a box as fits, if that is enough.
+// Writes as much of the name of a box as fits, if that is enough.
 fn write_name<W: Write>(place: Place, name: &[u8], out: &mut W) -> io::Result<()> {
     let limit = characters_in(place);
     if limit < MIN_CHARACTERS {
@@ -157,7 +157,7 @@ fn write_name<W: Write>(place: Place, name: &[u8], out: &mut W) -> io::Result<()
     write_text(place, name, limit.saturating_sub(2), "..", out)
 }
 
-/// Writes the first characters of a name, and what follows them.
+// Writes the first characters of a name, and what follows them.
 fn write_text<W: Write>(
     place: Place,
     name: &[u8],
@@ -174,7 +174,7 @@ fn write_text<W: Write>(
     writeln!(out, r#"<text x="{x}" y="{y}">{text}{end}</text>"#)
 }
 
-/// Writes what precedes the boxes.
+// Writes what precedes the boxes.
 fn write_start<W: Write>(height: u64, out: &mut W) -> io::Result<()> {
     let width = GRAPH_WIDTH / 100 + 2 * MARGIN;
     out.write_all(START.as_bytes())?;
@@ -185,14 +185,14 @@ fn write_start<W: Write>(height: u64, out: &mut W) -> io::Result<()> {
     out.write_all(STYLE.as_bytes())
 }
 
-/// Writes what follows the boxes.
+// Writes what follows the boxes.
 fn write_end<W: Write>(out: &mut W) -> io::Result<()> {
     out.write_all(b"</g>\n<script><![CDATA[")?;
     out.write_all(SCRIPT.as_bytes())?;
     out.write_all(b"]]></script>\n</svg>\n")
 }
 
-/// Writes the boxes.
+// Writes the boxes.
 fn write_boxes<W: Write>(picture: &Picture<'_>, boxes: &FlameBoxes, out: &mut W) -> io::Result<()> {
     for flame_box in boxes.boxes.iter() {
         let FlameBox { name, depth, span } = *flame_box;

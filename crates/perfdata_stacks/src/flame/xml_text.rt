@@ -13,7 +13,7 @@ pub(crate) struct XmlText<'a> {
     pub(crate) limit: usize,
 }
 
-/// Returns whether no XML document may contain a character.
+// Returns whether no XML document may contain a character.
 fn is_forbidden(character: char) -> bool {
     match character {
         '\t' | '\n' | '\r' => false,
@@ -22,7 +22,7 @@ fn is_forbidden(character: char) -> bool {
     }
 }
 
-/// Writes a character.
+// Writes a character.
 fn write_character<W: Write>(character: char, f: &mut Formatter<W>) -> fmt::Result {
     match character {
         '&' => f.write_str("&amp;"),

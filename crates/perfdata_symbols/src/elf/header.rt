@@ -10,25 +10,25 @@ use perfdata_base::source::{PlacedSource, fill};
 use std::alloc::Global;
 use std::io::SeekFrom;
 
-/// The magic of an ELF file.
+// The magic of an ELF file.
 const MAGIC: [u8; 4] = [0x7f, b'E', b'L', b'F'];
 
-/// The size of the file header of a 64-bit file in bytes, which is the larger one.
+// The size of the file header of a 64-bit file in bytes, which is the larger one.
 const MAX_HEADER_SIZE: usize = 64;
 
-/// The size of the file header of a 32-bit file in bytes.
+// The size of the file header of a 32-bit file in bytes.
 const HEADER_SIZE_32: usize = 52;
 
-/// The number of program headers is in the first section header (`PN_XNUM`).
+// The number of program headers is in the first section header (`PN_XNUM`).
 const MANY_SEGMENTS: u16 = 0xffff;
 
-/// The index of the section with the names is in the first section header (`SHN_XINDEX`).
+// The index of the section with the names is in the first section header (`SHN_XINDEX`).
 const LARGE_INDEX: u16 = 0xffff;
 
-/// A segment that is loaded (`PT_LOAD`).
+// A segment that is loaded (`PT_LOAD`).
 const LOAD: u32 = 1;
 
-/// A segment of notes (`PT_NOTE`).
+// A segment of notes (`PT_NOTE`).
 const NOTE_SEGMENT: u32 = 4;
 
 /// The type of `.symtab` (`SHT_SYMTAB`).

@@ -6,13 +6,13 @@ use crate::elf::header::{NOTE_SECTION, Section};
 use crate::elf::input::{Encoding, Entry};
 use std::alloc::AllocError;
 
-/// The type of a note with the build id (`NT_GNU_BUILD_ID`), whose owner is `GNU`.
+// The type of a note with the build id (`NT_GNU_BUILD_ID`), whose owner is `GNU`.
 const BUILD_ID: u32 = 3;
 
-/// The owner of the note, with its NUL.
+// The owner of the note, with its NUL.
 const OWNER: [u8; 4] = [b'G', b'N', b'U', 0];
 
-/// The size of the fields before the owner of a note, in bytes.
+// The size of the fields before the owner of a note, in bytes.
 const NOTE_HEADER_SIZE: usize = 12;
 
 // A range of notes in the file.

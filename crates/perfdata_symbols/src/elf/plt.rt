@@ -8,18 +8,18 @@ use crate::error::{ElfError, ElfTable};
 use crate::ranked::{RankedSymbol, RankedSymbols};
 use crate::symbol::Symbol;
 
-/// The machines whose tables have entries of other sizes (`EM_ARM`, `EM_AARCH64`).
+// The machines whose tables have entries of other sizes (`EM_ARM`, `EM_AARCH64`).
 const ARM: u16 = 40;
 
 const AARCH64: u16 = 183;
 
-/// The usual size of an entry in bytes.
+// The usual size of an entry in bytes.
 const USUAL_ENTRY_SIZE: u64 = 16;
 
-/// The bytes after the name of a function in that of its entry.
+// The bytes after the name of a function in that of its entry.
 const SUFFIX: [u8; 4] = [b'@', b'p', b'l', b't'];
 
-/// How many times the bytes of the string table the names of entries may have.
+// How many times the bytes of the string table the names of entries may have.
 const MAX_NAME_SHARE: usize = 8;
 
 // The size of the part before the first entry, and the size of an entry, in bytes.

@@ -9,13 +9,13 @@ use crate::error::{ElfError, ElfTable};
 use crate::ranked::RankedSymbol;
 use crate::symbol::Symbol;
 
-/// The bindings of global and weak symbols (`STB_GLOBAL`, `STB_WEAK`).
+// The bindings of global and weak symbols (`STB_GLOBAL`, `STB_WEAK`).
 const GLOBAL: u8 = 1;
 
 const WEAK: u8 = 2;
 
-/// The types of labels, objects, functions and functions that choose a function (`STT_NOTYPE`, `STT_OBJECT`,
-/// `STT_FUNC`, `STT_GNU_IFUNC`).
+// The types of labels, objects, functions and functions that choose a function (`STT_NOTYPE`, `STT_OBJECT`,
+// `STT_FUNC`, `STT_GNU_IFUNC`).
 const NO_TYPE: u8 = 0;
 
 const OBJECT: u8 = 1;
@@ -24,17 +24,17 @@ const FUNCTION: u8 = 2;
 
 const INDIRECT_FUNCTION: u8 = 10;
 
-/// Visibilities of symbols that other files don't see (`STV_INTERNAL`, `STV_HIDDEN`).
+// Visibilities of symbols that other files don't see (`STV_INTERNAL`, `STV_HIDDEN`).
 const INTERNAL: u8 = 1;
 
 const HIDDEN: u8 = 2;
 
-/// The sections of symbols that are in another file or have no section (`SHN_UNDEF`, `SHN_ABS`).
+// The sections of symbols that are in another file or have no section (`SHN_UNDEF`, `SHN_ABS`).
 const UNDEFINED: u16 = 0;
 
 const ABSOLUTE: u16 = 0xfff1;
 
-/// The 32-bit machine of Arm (`EM_ARM`). Bit 0 of a function's value there says in which mode it runs.
+// The 32-bit machine of Arm (`EM_ARM`). Bit 0 of a function's value there says in which mode it runs.
 const ARM: u16 = 40;
 
 // What the symbols of a file refer to.

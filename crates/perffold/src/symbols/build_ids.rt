@@ -7,7 +7,7 @@ use perfdata_spaces::mapping::Mapping;
 use std::alloc::Global;
 use std::collections::HashMap;
 
-/// The size of a record header in bytes.
+// The size of a record header in bytes.
 const HEADER_SIZE: usize = 8;
 
 /// The recorded build ids, by path.

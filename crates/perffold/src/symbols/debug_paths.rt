@@ -20,7 +20,7 @@ pub(crate) struct DebugPath {
     pub(crate) path: String,
 }
 
-/// Returns the path of the directory of a file, with a slash at the end.
+// Returns the path of the directory of a file, with a slash at the end.
 fn directory_of(path: &str) -> &str {
     match path.rsplit_once('/') {
         Some((directory, _name)) => path.get(..directory.len().saturating_add(1)).unwrap_or("/"),
@@ -28,7 +28,7 @@ fn directory_of(path: &str) -> &str {
     }
 }
 
-/// Adds the paths of the debug file that a mapped file in this directory names.
+// Adds the paths of the debug file that a mapped file in this directory names.
 fn add_linked(
     alloc: Global,
     directory: &str,
@@ -50,8 +50,8 @@ fn add_linked(
     Ok(())
 }
 
-/// Returns the path of the debug file with a build id: `/.build-id/`, two digits, `/`, the other digits and
-/// `.debug`.
+// Returns the path of the debug file with a build id: `/.build-id/`, two digits, `/`, the other digits and
+// `.debug`.
 fn build_id_path(alloc: Global, id: &[u8]) -> Result<String, AllocError> {
     let mut path = String::from_str(alloc, "/.build-id/")?;
     for (index, byte) in id.iter().enumerate() {

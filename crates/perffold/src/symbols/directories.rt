@@ -7,13 +7,13 @@ use std::io::ErrorKind;
 use std::path::{Path, PathBuf};
 use std::{fs, io};
 
-/// The directories of the kernel, in which no file is opened.
+// The directories of the kernel, in which no file is opened.
 const KERNEL_DIRECTORIES: [&str; 3] = ["/proc", "/sys", "/dev"];
 
-/// The directory of debug files.
+// The directory of debug files.
 const DEBUG_DIRECTORY: &str = "/usr/lib/debug";
 
-/// The directory of perf-PID.map files.
+// The directory of perf-PID.map files.
 const MAP_DIRECTORY: &str = "/tmp";
 
 /// An error of a path of the command line.
@@ -32,7 +32,7 @@ pub(crate) struct Directory {
     limit: Option<PathBuf>,
 }
 
-/// Returns whether a path is in a directory of the kernel.
+// Returns whether a path is in a directory of the kernel.
 fn is_of_kernel(path: Path<'_>) -> bool {
     KERNEL_DIRECTORIES
         .iter()
@@ -49,7 +49,7 @@ pub(crate) fn found<T: Drop>(opened: io::Result<Option<T>>) -> Result<Option<T>,
 }
 
 impl Directory {
-    /// Returns the directory at a path, or at this path below another directory, which no link leaves.
+    // Returns the directory at a path, or at this path below another directory, which no link leaves.
     fn below(rt: &HostRuntime, root: Option<&str>, path: &str) -> io::Result<Directory> {
         let limit = match root {
             Some(root) => Some(fs::canonicalize(rt, root)?),
@@ -62,7 +62,7 @@ impl Directory {
         })
     }
 
-    /// Returns a directory of the command line.
+    // Returns a directory of the command line.
     fn named(rt: &HostRuntime, path: &str, is_limited: bool) -> io::Result<Directory> {
         let canonical = fs::canonicalize(rt, path)?;
         Ok(Directory {
@@ -71,7 +71,7 @@ impl Directory {
         })
     }
 
-    /// Returns whether a file at a path without links may be opened.
+    // Returns whether a file at a path without links may be opened.
     fn contains(&self, path: Path<'_>) -> bool {
         match &self.limit {
             Some(limit) => path.starts_with(limit) && !is_of_kernel(path),
@@ -79,7 +79,7 @@ impl Directory {
         }
     }
 
-    /// Opens the regular file at a path.
+    // Opens the regular file at a path.
     fn open_file(&self, rt: &HostRuntime, path: &str) -> io::Result<Option<File>> {
         let prefix = self.prefix.as_str();
         let linked = format!(in rt.alloc(); "{prefix}{path}")?;
@@ -93,8 +93,8 @@ impl Directory {
         Ok(Some(File::open(rt, &path)?))
     }
 
-    /// Opens the file at a path, which starts with a slash. Returns `None` if it can't be opened, if it isn't a
-    /// regular file, or if it is where no file is read, with all links of the path followed.
+    /// Opens the file at a path, which starts with a slash. Returns `None` if it can't be opened, if it isn't
+    /// a regular file, or if it is where no file is read, with all links of the path followed.
     pub(crate) fn open(&self, rt: &HostRuntime, path: &str) -> Result<Option<File>, AllocError> {
         found(self.open_file(rt, path))
     }
@@ -111,7 +111,7 @@ pub(crate) struct Directories {
     pub(crate) maps: Directory,
 }
 
-/// Returns the directory of the command line, or the default one.
+// Returns the directory of the command line, or the default one.
 fn named_or_default<'a>(
     rt: &HostRuntime,
     symfs: Option<&'a str>,

@@ -8,7 +8,7 @@ use std::alloc::AllocError;
 use std::fs::File;
 use std::io::{BufReader, ErrorKind};
 
-/// An ELF file whose headers are read.
+// An ELF file whose headers are read.
 type Elf = ElfFile<CountedBuffer<File>>;
 
 /// Numbers of files.
@@ -30,7 +30,7 @@ pub(crate) struct ElfFiles<'a> {
     pub(crate) counts: FileCounts,
 }
 
-/// Returns whether a build id is another one with zeros after it. Old recordings don't have its size.
+// Returns whether a build id is another one with zeros after it. Old recordings don't have its size.
 fn is_extended(long: &[u8], short: &[u8]) -> bool {
     match long.strip_prefix(short) {
         Some(rest) => rest.iter().all(|byte| *byte == 0),
@@ -38,12 +38,12 @@ fn is_extended(long: &[u8], short: &[u8]) -> bool {
     }
 }
 
-/// Returns whether the build id of a file is the recorded one.
+// Returns whether the build id of a file is the recorded one.
 fn is_recorded(id: &[u8], recorded: &[u8]) -> bool {
     !id.is_empty() && (is_extended(id, recorded) || is_extended(recorded, id))
 }
 
-/// Returns whether a debug file has more symbols than the mapped file.
+// Returns whether a debug file has more symbols than the mapped file.
 fn is_preferred(debug: &Elf, mapped: &Elf) -> bool {
     debug.symbol_section() == Some(SymbolSection::Full)
         || mapped.symbol_section() != Some(SymbolSection::Full)
@@ -67,7 +67,7 @@ impl<'a> ElfFiles<'a> {
         self.counts.unreadable = self.counts.unreadable.saturating_add(1);
     }
 
-    /// Counts a file that can't be read for this reason, if it is an ELF file. Fails if memory has run out.
+    // Counts a file that can't be read for this reason, if it is an ELF file. Fails if memory has run out.
     fn count_error(&mut self, error: ElfError) -> Result<(), AllocError> {
         match error {
             ElfError::Memory => Err(AllocError),
@@ -80,7 +80,7 @@ impl<'a> ElfFiles<'a> {
         }
     }
 
-    /// Returns what was read, or `None` if it can't be.
+    // Returns what was read, or `None` if it can't be.
     fn readable<T: Drop>(&mut self, read: Result<T, ElfError>) -> Result<Option<T>, AllocError> {
         match read {
             Ok(value) => Ok(Some(value)),
@@ -91,7 +91,7 @@ impl<'a> ElfFiles<'a> {
         }
     }
 
-    /// Reads the headers of a file.
+    // Reads the headers of a file.
     fn open(&mut self, file: File) -> Result<Option<Elf>, AllocError> {
         let alloc = self.rt.alloc();
         let Ok(reader) = BufReader::new(alloc, file) else {
@@ -100,7 +100,7 @@ impl<'a> ElfFiles<'a> {
         self.readable(ElfFile::open(alloc, CountedBuffer::new(reader)))
     }
 
-    /// Returns the build id of a file, which is empty if it has none or if it can't be read.
+    // Returns the build id of a file, which is empty if it has none or if it can't be read.
     fn build_id(&mut self, elf: &mut Elf) -> Result<Vec<u8>, AllocError> {
         let alloc = self.rt.alloc();
         match self.readable(elf.build_id(alloc))? {
@@ -109,7 +109,7 @@ impl<'a> ElfFiles<'a> {
         }
     }
 
-    /// Opens a file whose build id is the recorded one, if that is known.
+    // Opens a file whose build id is the recorded one, if that is known.
     fn open_recorded(&mut self, file: File, recorded: &[u8]) -> Result<Option<Elf>, AllocError> {
         let Some(mut elf) = self.open(file)? else {
             return Ok(None);
@@ -121,7 +121,7 @@ impl<'a> ElfFiles<'a> {
         Ok(None)
     }
 
-    /// Opens the mapped file.
+    // Opens the mapped file.
     fn open_mapped(&mut self, path: &str, recorded: &[u8]) -> Result<Option<Elf>, AllocError> {
         match self.directories.files.open(self.rt, path)? {
             Some(file) => self.open_recorded(file, recorded),
@@ -129,7 +129,7 @@ impl<'a> ElfFiles<'a> {
         }
     }
 
-    /// Opens a debug file.
+    // Opens a debug file.
     fn open_debug(&mut self, path: &DebugPath, recorded: &[u8]) -> Result<Option<Elf>, AllocError> {
         let directory = match path.place {
             DebugPlace::Files => &self.directories.files,
@@ -141,7 +141,7 @@ impl<'a> ElfFiles<'a> {
         }
     }
 
-    /// Returns the first debug file with all symbols, or else the first with those for the dynamic linker.
+    // Returns the first debug file with all symbols, or else the first with those for the dynamic linker.
     fn first_with_symbols(
         &mut self,
         paths: &[DebugPath],
@@ -161,7 +161,7 @@ impl<'a> ElfFiles<'a> {
         Ok(dynamic)
     }
 
-    /// Returns the name of the debug file in a mapped file.
+    // Returns the name of the debug file in a mapped file.
     fn debug_link(&mut self, mapped: &mut Elf) -> Result<Option<DebugLink>, AllocError> {
         let link = mapped.debug_link(self.rt.alloc());
         match self.readable(link)? {
@@ -170,7 +170,7 @@ impl<'a> ElfFiles<'a> {
         }
     }
 
-    /// Returns the symbols of a mapped file and its debug file.
+    // Returns the symbols of a mapped file and its debug file.
     fn merged_table(&mut self, mut mapped: Elf, mut debug: Elf) -> Result<SymbolTable, ElfError> {
         let alloc = self.rt.alloc();
         let mut symbols = debug.symbols(alloc, mapped.segments())?;
@@ -178,7 +178,7 @@ impl<'a> ElfFiles<'a> {
         Ok(symbols.into_table(alloc)?)
     }
 
-    /// Returns the symbols of a mapped file.
+    // Returns the symbols of a mapped file.
     fn own_table(&mut self, mut mapped: Elf) -> Result<SymbolTable, ElfError> {
         let alloc = self.rt.alloc();
         let segments = Vec::from_slice(alloc, mapped.segments())?;
@@ -187,7 +187,7 @@ impl<'a> ElfFiles<'a> {
         Ok(symbols.into_table(alloc)?)
     }
 
-    /// Returns the symbols of a mapped file that was opened.
+    // Returns the symbols of a mapped file that was opened.
     fn table_of(&mut self, mapped: Elf, debug: Option<Elf>) -> Result<SymbolTable, ElfError> {
         match debug {
             Some(debug) if is_preferred(&debug, &mapped) => self.merged_table(mapped, debug),

@@ -6,12 +6,12 @@ use perfdata_symbols::JitSymbols;
 use std::alloc::{AllocError, Global};
 use std::collections::BTreeMap;
 
-/// The start and the end of the name of a jitdump, with the process id between them.
+// The start and the end of the name of a jitdump, with the process id between them.
 const NAME_START: &[u8] = b"jit-";
 
 const NAME_END: &[u8] = b".dump";
 
-/// The jitdump of a process.
+// The jitdump of a process.
 #[derive(Drop)]
 struct JitDump {
     path: Vec<u8>,
@@ -28,7 +28,7 @@ pub(crate) struct JitDumps {
     of_processes: BTreeMap<i32, JitDump>,
 }
 
-/// Returns whether a path is that of a jitdump.
+// Returns whether a path is that of a jitdump.
 fn is_jitdump(path: &[u8]) -> bool {
     let name = match path.iter().rposition(|byte| *byte == b'/') {
         Some(at) => path.get(at.saturating_add(1)..).unwrap_or(path),

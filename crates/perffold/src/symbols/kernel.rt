@@ -15,17 +15,17 @@ pub(crate) const KERNEL_PATH: &[u8] = b"[kernel.kallsyms]";
 pub(crate) struct KernelSymbols {
     table: SymbolTable,
     numbers: SymbolNumbers,
-    /// What is added to an address of the recording for that of the list, modulo 2^64, once the kernel's mapping
-    /// is known.
+    /// What is added to an address of the recording for that of the list, modulo 2^64, once the kernel's
+    /// mapping is known.
     shift: Option<u64>,
 }
 
-/// Returns whether a symbol has an address. The kernel writes zeros for users without rights.
+// Returns whether a symbol has an address. The kernel writes zeros for users without rights.
 fn has_addresses(table: &SymbolTable) -> bool {
     table.symbols().iter().any(|symbol| symbol.start != 0)
 }
 
-/// Reads a list of symbols.
+// Reads a list of symbols.
 fn read_kallsyms(rt: &HostRuntime, path: &str) -> io::Result<SymbolTable> {
     let table = parse_kallsyms(rt.alloc(), fs::read(rt, path)?)?;
     if has_addresses(&table) {
@@ -58,7 +58,7 @@ impl KernelSymbols {
         }
     }
 
-    /// Returns whether the symbol at an address is that of a module.
+    // Returns whether the symbol at an address is that of a module.
     fn is_of_module(&self, mapping: &Mapping, address: u64) -> bool {
         match (self.shift, self.table.find(address)) {
             (None | Some(0), Some(symbol)) => symbol.start >= mapping.start,
@@ -66,8 +66,9 @@ impl KernelSymbols {
         }
     }
 
-    /// Returns the number of the name of the symbol at an address of a mapping, or `None` if there is none. The
-    /// list has the symbols of modules too, at the addresses of the recording if the kernel wasn't restarted.
+    /// Returns the number of the name of the symbol at an address of a mapping, or `None` if there is none.
+    /// The list has the symbols of modules too, at the addresses of the recording if the kernel wasn't
+    /// restarted.
     pub(crate) fn at(
         &mut self,
         mapping: &Mapping,

@@ -20,14 +20,14 @@ impl SymbolNumbers {
         }
     }
 
-    /// Returns the number of a name.
+    // Returns the number of a name.
     fn number_of(&mut self, name: &[u8], names: &mut NameTable) -> Result<usize, AllocError> {
         self.text.clear();
         push_name(&mut self.text, name)?;
         names.number(self.text.as_slice())
     }
 
-    /// Sets the number of the name of a symbol.
+    // Sets the number of the name of a symbol.
     fn set(&mut self, index: usize, number: usize) -> Result<(), AllocError> {
         if self.of_symbols.len() <= index {
             self.of_symbols.resize(index.saturating_add(1), None)?;
@@ -38,7 +38,7 @@ impl SymbolNumbers {
         Ok(())
     }
 
-    /// Returns the number of the name of a symbol of the table, or `None` if it has no name.
+    // Returns the number of the name of a symbol of the table, or `None` if it has no name.
     fn of_symbol(
         &mut self,
         index: usize,
