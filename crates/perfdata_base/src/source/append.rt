@@ -3,7 +3,8 @@ ghost use Rattle.std.specs.Prelude.{◌≡◌, ◌+◌, ◌<◌, ◌≤◌, IfEr
 ghost use Rattle.std.specs.declared.io.ErrorKind.TheVariants.{UnexpectedEof};
 ghost use Rattle.perfdata_base.specs.Source.{PausesOnlyIfIncomplete, PausesOnlyOnError, AppendsUpTo};
 ghost use Rattle.perfdata_base.specs.Source.{AppendsExactly, IsIoErrorOf};
-ghost use Rattle.perfdata_base.specs.declared.source.append.AppendError.TheVariants.{Memory, Source as FromSource};
+ghost use Rattle.perfdata_base.specs.declared.source.append.AppendError.TheVariants.{Memory};
+ghost use Rattle.perfdata_base.specs.declared.source.append.AppendError.TheVariants.{Source as FromSource};
 
 use crate::source::{Source, fill, unexpected_eof};
 use std::alloc::{AllocError, AllocFailed};

@@ -19,7 +19,8 @@ use std::io::{Read, Result, Seek, SeekFrom};
 ///
 /// Once a seek has reported the position, later seeks go by an offset from it. A `BufReader` performs such a
 /// seek inside its buffer if the buffer contains the target. If the target is the current position, the
-/// reader isn't called. See [`CountedBuffer`](crate::source::CountedBuffer) for a source that exposes the buffer of its reader.
+/// reader isn't called. A [`CountedBuffer`](crate::source::CountedBuffer) also exposes the buffer of its
+/// reader.
 #[derive(Drop)]
 pub struct Counted<R> {
     reader: R,
