@@ -28,7 +28,7 @@ saturated bytes sum at small is = elim (cases_eq at sum) [
 ]
 
 module _ (bytes : List ℕ) (reader : InMemoryReader) (opened : ParsesFileInMemory bytes (Ok reader)) where
-  abbrev opens : FileOpensAt memory_state (at_start bytes) reader.perf_file reader.records.iter
+  abbrev opens : FileOpensAt memory_state (at_start bytes) reader.perf_file reader.records.records
   opens = opened.0.file_opened
 
   abbrev first : ℕ
@@ -40,7 +40,7 @@ module _ (bytes : List ℕ) (reader : InMemoryReader) (opened : ParsesFileInMemo
   -- the bytes from the first record on
   from_first : drop first bytes ≡ drop base bytes
   from_first =
-      let it = reader.records.iter in
+      let it = reader.records.records in
       let start = opened.0.at_first_record.offset in
       let placed : (iter_source_state memory_state it).bytes ≡ Some (drop (first + it.offset) (input_of reader.records)) = reader.records.in_place opened.0.at_first_record.stage_running in
       let at : drop (first + it.offset) (input_of reader.records) ≡ drop first bytes = ap (λ n. drop n (input_of reader.records)) (let e : first + it.offset ≡ first = omega (arith, start) in e) ∙ ap (drop first) opened.1 in
@@ -51,16 +51,16 @@ module _ (bytes : List ℕ) (reader : InMemoryReader) (opened : ParsesFileInMemo
   from_offset offset = sym (drop-drop offset first bytes) ∙ ap (drop offset) from_first ∙ drop-drop offset base bytes
 
   -- the bytes from a position on, where the cursor is
-  pub bytes_at : (position : RecordPosition) (source : Cursor (Bor (List ℕ))) → cursor_inner source ≡ cursor_inner reader.records.iter.source → cursor_position source ≡ min (first + position.offset) (2 ^ 64 - 1) → length bytes < 2 ^ 63
-      → (input_source_state reader.records.iter.input (memory_state source)).bytes ≡ Some (drop (first + position.offset) bytes)
+  pub bytes_at : (position : RecordPosition) (source : Cursor (Bor (List ℕ))) → cursor_inner source ≡ cursor_inner reader.records.records.source → cursor_position source ≡ min (first + position.offset) (2 ^ 64 - 1) → length bytes < 2 ^ 63
+      → (input_source_state reader.records.records.input (memory_state source)).bytes ≡ Some (drop (first + position.offset) bytes)
   bytes_at position source inner at small =
-      let view = section_view reader.records.iter.input opened.0.in_section.0 (memory_state source) opened.0.in_section.1 in
-      let all : (cursor_inner source).now ≡ bytes = ap (λ i. i.now) inner ∙ file_bytes bytes reader.perf_file reader.records.iter opened.0 in
+      let view = section_view reader.records.records.input opened.0.in_section.0 (memory_state source) opened.0.in_section.1 in
+      let all : (cursor_inner source).now ≡ bytes = ap (λ i. i.now) inner ∙ file_bytes bytes reader.perf_file reader.records.records opened.0 in
       ap (λ s. s.bytes) view ∙ ap (λ l. Some (drop (cursor_position source) l)) all ∙ ap (λ l. Some l) (saturated bytes (first + position.offset) (cursor_position source) small at)
 
   -- an iterator like that of the reader, but at a position
-  module _ (position : RecordPosition) (moved : MemoryIter) (input : moved.input ≡ reader.records.iter.input) (offset : moved.offset ≡ position.offset) (known : (input_source_state reader.records.iter.input (memory_state moved.source)).bytes ≡ Some (drop (first + position.offset) bytes)) where
-    pub moved_parsed : moved.stage ≡ reader.records.iter.stage → moved.endian ≡ reader.records.iter.endian → moved.attribute_lookup ≡ reader.records.iter.attribute_lookup → moved.round ≡ round_at position → moved.offset < 2 ^ 64 → FileParsedAt bytes position reader.perf_file moved
+  module _ (position : RecordPosition) (moved : MemoryIter) (input : moved.input ≡ reader.records.records.input) (offset : moved.offset ≡ position.offset) (known : (input_source_state reader.records.records.input (memory_state moved.source)).bytes ≡ Some (drop (first + position.offset) bytes)) where
+    pub moved_parsed : moved.stage ≡ reader.records.records.stage → moved.endian ≡ reader.records.records.endian → moved.attribute_lookup ≡ reader.records.records.attribute_lookup → moved.round ≡ round_at position → moved.offset < 2 ^ 64 → FileParsedAt bytes position reader.perf_file moved
     moved_parsed stage endian lookup round fits = record {
       header = opens.header;
       describes = opens.describes;
@@ -70,7 +70,7 @@ module _ (bytes : List ℕ) (reader : InMemoryReader) (opened : ParsesFileInMemo
         offset_fits = fits;
         round = round;
         same_endian = endian ∙ opened.0.at_first_record.same_endian;
-        represents = subst (λ l. Represents moved.endian l (attributes_of_file reader.perf_file)) (sym lookup) (subst (λ e. Represents e reader.records.iter.attribute_lookup (attributes_of_file reader.perf_file)) (sym endian) opened.0.at_first_record.represents);
+        represents = subst (λ l. Represents moved.endian l (attributes_of_file reader.perf_file)) (sym lookup) (subst (λ e. Represents e reader.records.records.attribute_lookup (attributes_of_file reader.perf_file)) (sym endian) opened.0.at_first_record.represents);
         bytes_known = ap (λ i. (input_source_state i (memory_state moved.source)).bytes) input ∙ known ∙ ap (λ l. Some l) (from_offset position.offset);
         section_size = ap section_size_in input ∙ opens.section_size;
       };

@@ -36,12 +36,12 @@ marker_at_most_if_end_overflows walk n whole overflows = λ may_start p starts.
     absurd (omega (arith, long, length-take-le n bytes whole.1, fits, overflows))
 
 -- what the walk says, of the records in memory
-pub marker_at_most_of_records : (records : InMemoryRecords) (walk : FileWalk) → IsWalkOf records.iter walk → WalkStartsWithMarkerAtMost walk → StartsWithMarkerAtMost records
+pub marker_at_most_of_records : (records : InMemoryRecords) (walk : FileWalk) → IsWalkOf records.records walk → WalkStartsWithMarkerAtMost walk → StartsWithMarkerAtMost records
 marker_at_most_of_records records walk is only = λ running size section may_start rest p bytes starts.
-    let order = records.iter.endian in
-    let start = records.iter.offset in
+    let order = records.records.endian in
+    let start = records.records.offset in
     let size_is : size ≡ walk.section_size = same_Some size walk.section_size (sym section ∙ ap section_size_in is.section) in
-    let rest_is : rest ≡ walk.remaining.now = same_Some rest (drop (cursor_position records.iter.source) (cursor_inner records.iter.source).now) (sym bytes) ∙ sym is.remaining in
+    let rest_is : rest ≡ walk.remaining.now = same_Some rest (drop (cursor_position records.records.source) (cursor_inner records.records.source).now) (sym bytes) ∙ sym is.remaining in
     let may : walk.offset < walk.section_size = (let same = is.offset in omega (arith, same, size_is, may_start)) in
     let by_rest : StartsWithRecord order start walk.remaining.now p = subst (λ l. StartsWithRecord order start l p) rest_is starts in
     let by_offset : StartsWithRecord order walk.offset walk.remaining.now p = subst (λ o. StartsWithRecord order o walk.remaining.now p) (sym is.offset) by_rest in

@@ -90,12 +90,12 @@ one_call_more old now new file now_file file' (h ∷ hs) place r (next, (next_fi
     (next, (next_file, first, one_call_more next now new next_file now_file file' hs place r more step))
 
 records_from : (old now : InMemoryRecords) (file file' : PerfFile) (records : List RecordView) (before : Vec ℕ Global) → ReturnsRecordsInMemory old file records now file'
-    → (buffer : Vec ℕ Global) × ReturnsRecords memory_state (with_buffer old.iter before) file records (with_buffer now.iter buffer) file'
-records_from old now file file' [] before (same, same_file) = (before, (ap (λ r. with_buffer r.iter before) same, same_file))
+    → (buffer : Vec ℕ Global) × ReturnsRecords memory_state (with_buffer old.records before) file records (with_buffer now.records buffer) file'
+records_from old now file file' [] before (same, same_file) = (before, (ap (λ r. with_buffer r.records before) same, same_file))
 records_from old now file file' (h ∷ hs) before (next, (next_file, (place, (r, step, is)), more)) =
     let rest = records_from next now next_file file' hs step.buffer more in
-    let first = subst (λ v. ReturnsRecord memory_state (with_buffer old.iter before) file v (with_buffer next.iter step.buffer) next_file) (sym is) (returns_from old.iter (with_buffer next.iter step.buffer) file next_file (record_view_of place r) before step.returns) in
-    (rest.0, (with_buffer next.iter step.buffer, (next_file, first, rest.1)))
+    let first = subst (λ v. ReturnsRecord memory_state (with_buffer old.records before) file v (with_buffer next.records step.buffer) next_file) (sym is) (returns_from old.records (with_buffer next.records step.buffer) file next_file (record_view_of place r) before step.returns) in
+    (rest.0, (with_buffer next.records step.buffer, (next_file, first, rest.1)))
 
 -- the iterator with its own buffer
 same_buffer : (it : MemoryIter) → with_buffer it it.body ≡ it
@@ -103,15 +103,15 @@ same_buffer it = refl
 
 pub same_records : ReturnsSameRecords
 same_records old now file file' records all =
-    let from = records_from old now file file' records old.iter.body all in
-    (from.0, subst (λ it. ReturnsRecords memory_state it file records (with_buffer now.iter from.0) file') (same_buffer old.iter) from.1)
+    let from = records_from old now file file' records old.records.body all in
+    (from.0, subst (λ it. ReturnsRecords memory_state it file records (with_buffer now.records from.0) file') (same_buffer old.records) from.1)
 
 pub same_end : ReturnsSameEnd
 same_end now new file file' buffer runs ended = record {
   stage_ended = ended.stage_ended;
   not_failed = ended.not_failed;
-  if_ended = λ stage. let same : now.iter.stage ≡ Ended = stage in absurd cc;
-  if_running = λ _. reaches_from now.iter new.iter buffer (ended.if_running runs);
+  if_ended = λ stage. let same : now.records.stage ≡ Ended = stage in absurd cc;
+  if_running = λ _. reaches_from now.records new.records buffer (ended.if_running runs);
   file_unchanged = ended.file_unchanged;
 }
 
@@ -119,8 +119,8 @@ pub same_error : ReturnsSameError
 same_error now new file file' e buffer runs failed = record {
   stage_failed = failed.stage_failed;
   not_ended = failed.not_ended;
-  if_failed = λ stage. let same : now.iter.stage ≡ Failed = stage in absurd cc;
+  if_failed = λ stage. let same : now.records.stage ≡ Failed = stage in absurd cc;
   only_if_failed = failed.only_if_failed;
-  if_running = λ _. stops_from now.iter new.iter file e buffer (failed.if_running runs);
+  if_running = λ _. stops_from now.records new.records file e buffer (failed.if_running runs);
   same_file = failed.same_file;
 }

@@ -52,24 +52,24 @@ moved_iter it source position offset fits fits' inner at =
 
 -- records with equal iterators
 pub same_records : (P : InMemoryRecords → Type 0) (records : InMemoryRecords) (a b : MemoryIter) → a ≡ b → (in_a : IsInPlace a records.input.now records.first_record_offset) (in_b : IsInPlace b records.input.now records.first_record_offset)
-    → P (record records { iter = a; in_place = in_a }) → P (record records { iter = b; in_place = in_b })
+    → P (record records { records = a; in_place = in_a }) → P (record records { records = b; in_place = in_b })
 same_records P records a b same in_a in_b holds =
     let one : IsProp (IsInPlace a records.input.now records.first_record_offset) = hlevel props in
-    subst (λ it. (placed : IsInPlace it records.input.now records.first_record_offset) → P (record records { iter = it; in_place = placed })) same
-    (λ placed. subst (λ p. P (record records { iter = a; in_place = p })) (one in_a placed) holds) in_b
+    subst (λ it. (placed : IsInPlace it records.input.now records.first_record_offset) → P (record records { records = it; in_place = placed })) same
+    (λ placed. subst (λ p. P (record records { records = a; in_place = p })) (one in_a placed) holds) in_b
 
 -- any two proofs that the walk is ahead
 pub same_at_walk : (P : InMemoryRecords → Type 0) (records : InMemoryRecords) (walk : FileWalk) (a b : IsWalkAhead records walk) → P (records_at_walk records walk a) → P (records_at_walk records walk b)
 same_at_walk P records walk a b holds =
-    let it = records.iter in
+    let it = records.records in
     let one : IsProp (it.round ≤ walk.offset) = hlevel props in
     same_records P records (iter_at it (position_of_walk it walk) walk.offset a.rounds_fit) (iter_at it (position_of_walk it walk) walk.offset b.rounds_fit) (λ i. iter_at it (position_of_walk it walk) walk.offset (one a.rounds_fit b.rounds_fit i)) a.in_place b.in_place holds
 
 -- ---- the start
 
-pub walk_starts : (records : InMemoryRecords) (walk : FileWalk) → IsWalkOf records.iter walk → IsWalkAhead records walk
+pub walk_starts : (records : InMemoryRecords) (walk : FileWalk) → IsWalkOf records.records walk → IsWalkAhead records walk
 walk_starts records walk is =
-    let it = records.iter in
+    let it = records.records in
     let rounds = it.rounds_fit in
     let offset = is.offset in
     let rounds_fit : it.round ≤ walk.offset = omega (arith, rounds, offset) in
@@ -84,9 +84,9 @@ walk_starts records walk is =
     }
 
 -- what is so of the records is so of the records at the start of the walk
-pub at_start : (P : InMemoryRecords → Type 0) (records : InMemoryRecords) (walk : FileWalk) (is : IsWalkOf records.iter walk) → P records → P (records_at_walk records walk (walk_starts records walk is))
+pub at_start : (P : InMemoryRecords → Type 0) (records : InMemoryRecords) (walk : FileWalk) (is : IsWalkOf records.records walk) → P records → P (records_at_walk records walk (walk_starts records walk is))
 at_start P records walk is holds =
-    let it = records.iter in
+    let it = records.records in
     let ahead = walk_starts records walk is in
     let long = ap length is.remaining in
     let at : position_of_walk it walk ≡ cursor_position it.source = omega (arith, long) in
@@ -96,7 +96,7 @@ at_start P records walk is holds =
 
 -- the records with another state of the lookup
 abbrev pub records_with_lookup : InMemoryRecords → AttributeLookup → InMemoryRecords
-records_with_lookup records lookup = record records { iter = with_lookup records.iter lookup; in_place = records.in_place }
+records_with_lookup records lookup = record records { records = with_lookup records.records lookup; in_place = records.in_place }
 
 -- the position after the record
 pub position_after : (it : MemoryIter) (walk walk' : FileWalk) (next : WholeRecord) → length walk.remaining.now ≤ length (remaining_in it) → next.length ≤ length walk.remaining.now → walk'.remaining.now ≡ drop next.length walk.remaining.now → position_of_walk it walk' ≡ position_of_walk it walk + next.length
@@ -117,7 +117,7 @@ record_bytes_consumed it walk walk' next lookup fits fits' rest after whole =
 -- the walk is ahead by one record more
 pub walk_moves : (records : InMemoryRecords) (walk walk' : FileWalk) (next : WholeRecord) (lookup : AttributeLookup) → IsWalkAhead records walk → IsNextRecord walk next → MovesPast walk next walk' → IfSome walk.only_parse_info (HasOnly lookup) → IsWalkAhead (records_with_lookup records lookup) walk'
 walk_moves records walk walk' next lookup ahead is_next moves only =
-    let it = records.iter in
+    let it = records.records in
     let new = with_lookup it lookup in
     let is = ahead.is_walk in
     let n = next.length in
@@ -184,13 +184,13 @@ record_taken_by_walk old new walk next found file is is_next consumes input endi
 
 -- the records at the position of the walk take the same record
 pub record_of_walk : (records : InMemoryRecords) (walk walk' : FileWalk) (next : WholeRecord) (found : RecordInfo) (lookup : AttributeLookup) (file : PerfFile) (ahead : IsWalkAhead records walk) (ahead' : IsWalkAhead (records_with_lookup records lookup) walk') → IsNextRecord walk next → MovesPast walk next walk' → walk'.offset < 2 ^ 64
-    → IdentifiesRecord records.iter.attribute_lookup walk.offset walk.round next.header (slice_range walk.remaining.now 8 next.length) found lookup → KeepsAttributes records.iter.attribute_lookup lookup
-    → RecordTaken (records_at_walk records walk ahead).iter file found (slice_range walk.remaining.now 8 next.length) (records_at_walk (records_with_lookup records lookup) walk' ahead').iter file
+    → IdentifiesRecord records.records.attribute_lookup walk.offset walk.round next.header (slice_range walk.remaining.now 8 next.length) found lookup → KeepsAttributes records.records.attribute_lookup lookup
+    → RecordTaken (records_at_walk records walk ahead).records file found (slice_range walk.remaining.now 8 next.length) (records_at_walk (records_with_lookup records lookup) walk' ahead').records file
 record_of_walk records walk walk' next found lookup file ahead ahead' is_next moves fits identifies keeps =
-    let it = records.iter in
+    let it = records.records in
     let is = ahead.is_walk in
     let offset = moves.offset_is in
     let whole = is_next.whole.1 in
     let after = position_after it walk walk' next ahead.within whole moves.remaining_is in
     let consumes = record_bytes_consumed it walk walk' next lookup ahead.rounds_fit ahead'.rounds_fit is.remaining after whole in
-    record_taken_by_walk (records_at_walk records walk ahead).iter (records_at_walk (records_with_lookup records lookup) walk' ahead').iter walk next found file is is_next consumes refl refl refl offset (omega (arith, fits, offset)) refl identifies keeps
+    record_taken_by_walk (records_at_walk records walk ahead).records (records_at_walk (records_with_lookup records lookup) walk' ahead').records walk next found file is is_next consumes refl refl refl offset (omega (arith, fits, offset)) refl identifies keeps

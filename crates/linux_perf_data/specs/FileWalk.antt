@@ -84,11 +84,11 @@ MovesIter old walk new = (rounds_fit : old.round ≤ walk.offset) → new ≡ it
 
 -- The walk has taken the records that follow. The iterator of these records is where the walk started.
 pub record IsWalkAhead (records : InMemoryRecords) (walk : FileWalk) : Type 0 where
-  pub rounds_fit : records.iter.round ≤ walk.offset
-  pub in_place : IsInPlace (iter_at records.iter (position_of_walk records.iter walk) walk.offset rounds_fit) records.input.now records.first_record_offset
-  pub within : length walk.remaining.now ≤ length (remaining_in records.iter)
-  pub is_walk : IsWalkOf (iter_at records.iter (position_of_walk records.iter walk) walk.offset rounds_fit) walk
+  pub rounds_fit : records.records.round ≤ walk.offset
+  pub in_place : IsInPlace (iter_at records.records (position_of_walk records.records walk) walk.offset rounds_fit) records.input.now records.first_record_offset
+  pub within : length walk.remaining.now ≤ length (remaining_in records.records)
+  pub is_walk : IsWalkOf (iter_at records.records (position_of_walk records.records walk) walk.offset rounds_fit) walk
 
 -- The records that follow the walk.
 abbrev pub records_at_walk : (records : InMemoryRecords) (walk : FileWalk) → IsWalkAhead records walk → InMemoryRecords
-records_at_walk records walk ahead = record records { iter = iter_at records.iter (position_of_walk records.iter walk) walk.offset ahead.rounds_fit; in_place = ahead.in_place }
+records_at_walk records walk ahead = record records { records = iter_at records.records (position_of_walk records.records walk) walk.offset ahead.rounds_fit; in_place = ahead.in_place }

@@ -21,7 +21,7 @@ use Rattle.linux_perf_data.specs.declared.perf_file.PerfFile.{PerfFile}
 use Rattle.linux_perf_data.specs.Input.{section_size_in}
 use Rattle.linux_perf_data.specs.RecordFraming.{AuxDataRead, AuxDataError, ReadsRecordBody}
 use Rattle.linux_perf_data.specs.RecordViews.{record_view_with}
-use Rattle.linux_perf_data.specs.Iter.{iter_source_state, section_size_of, ReturnsRecord, ReturnsEnd, ReturnsError, ConsumesMetadata}
+use Rattle.linux_perf_data.specs.Iter.{iter_source_state, ReturnsRecord, ReturnsEnd, ReturnsError, ConsumesMetadata}
 use Rattle.linux_perf_data.specs.IterSteps.{RawRecordRead, RawRecordTruncated, RawRecordError, ProcessesRecord}
 
 -- A cursor over bytes in memory, as a source.

@@ -20,7 +20,7 @@ use Rattle.linux_perf_data.specs.PerfFile.{attributes_of_file, endian_of_file}
 
 -- The position of the next record, or of the markers before it.
 abbrev pub position_of : InMemoryRecords → RecordPosition
-position_of records = record { offset = records.iter.offset; round = records.iter.round }
+position_of records = record { offset = records.records.offset; round = records.records.round }
 
 -- The number of markers before a position. There are fewer of them than bytes.
 abbrev pub round_at : RecordPosition → ℕ
@@ -50,5 +50,5 @@ pub record FileParsedAt (bytes : List ℕ) (position : RecordPosition) (file : P
 
 -- The result of a reader that starts at a position. The errors are those of the file.
 abbrev pub ParsesFileAt : List ℕ → RecordPosition → Result InMemoryReader Error → Type 0
-ParsesFileAt bytes position (Ok r) = FileParsedAt bytes position r.perf_file r.records.iter × (input_of r.records ≡ bytes)
+ParsesFileAt bytes position (Ok r) = FileParsedAt bytes position r.perf_file r.records.records × (input_of r.records ≡ bytes)
 ParsesFileAt bytes position (Err e) = FileParseError (memory_source_at bytes 0) e

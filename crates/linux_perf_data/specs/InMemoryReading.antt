@@ -43,33 +43,33 @@ pub record IsSliceOfInput (records : InMemoryRecords) (place : RecordPlace) (r :
 -- slice of the input.
 pub record ReturnsRecordInMemory (old : InMemoryRecords) (file : PerfFile) (place : RecordPlace) (r : PerfFileRecord) (new : InMemoryRecords) (file' : PerfFile) : Type 0 where
   pub buffer : Vec ℕ Global
-  pub returns : ReturnsRecord memory_state old.iter file (record_view_of place r) (with_buffer new.iter buffer) file'
+  pub returns : ReturnsRecord memory_state old.records file (record_view_of place r) (with_buffer new.records buffer) file'
   pub in_input : IsSliceOfInput old place r
 
 -- The result of a call. The end and the errors are those of a streaming iterator over the same bytes.
 abbrev pub ReturnsNextInMemory : InMemoryRecords → PerfFile → Result (Option (RecordPlace × PerfFileRecord)) Error → InMemoryRecords → PerfFile → Type 0
 ReturnsNextInMemory old file (Ok (Some r)) new file' = ReturnsRecordInMemory old file r.0 r.1 new file'
-ReturnsNextInMemory old file (Ok None) new file' = ReturnsEnd memory_state old.iter file new.iter file'
-ReturnsNextInMemory old file (Err e) new file' = ReturnsError memory_state old.iter file e new.iter file'
+ReturnsNextInMemory old file (Ok None) new file' = ReturnsEnd memory_state old.records file new.records file'
+ReturnsNextInMemory old file (Err e) new file' = ReturnsError memory_state old.records file e new.records file'
 
 -- Memory runs out in a pipe only.
 abbrev pub NeedsMemoryInPipeOnly : {A : Type 0} → InMemoryRecords → Result A Error → Type 0
 NeedsMemoryInPipeOnly old (Ok next) = Unit {0}
-NeedsMemoryInPipeOnly old (Err e) = e ≡ Memory → section_size_of memory_state old.iter ≡ None
+NeedsMemoryInPipeOnly old (Err e) = e ≡ Memory → section_size_of memory_state old.records ≡ None
 
 -- Memory runs out only for a whole metadata record of a pipe.
 abbrev pub NeedsMemoryForMetadataOnly : {A : Type 0} → InMemoryRecords → Result A Error → InMemoryRecords → Type 0
 NeedsMemoryForMetadataOnly old (Ok next) new = Unit {0}
-NeedsMemoryForMetadataOnly old (Err e) new = e ≡ Memory → ConsumesMetadata memory_state old.iter new.iter
+NeedsMemoryForMetadataOnly old (Err e) new = e ≡ Memory → ConsumesMetadata memory_state old.records new.records
 
 -- A file was parsed, as a streaming reader of the same bytes parses it.
 abbrev pub ParsesFileInMemory : List ℕ → Result InMemoryReader Error → Type 0
-ParsesFileInMemory bytes (Ok r) = FileParsed memory_state (memory_source_at bytes 0) r.perf_file r.records.iter × (input_of r.records ≡ bytes)
+ParsesFileInMemory bytes (Ok r) = FileParsed memory_state (memory_source_at bytes 0) r.perf_file r.records.records × (input_of r.records ≡ bytes)
 ParsesFileInMemory bytes (Err e) = FileParseError (memory_source_at bytes 0) e
 
 -- A pipe was parsed, as a streaming reader of the same bytes parses it.
 abbrev pub ParsesPipeInMemory : List ℕ → Result InMemoryReader Error → Type 0
-ParsesPipeInMemory bytes (Ok r) = PipeParsed memory_state (memory_source_at bytes 0) r.perf_file r.records.iter × (input_of r.records ≡ bytes)
+ParsesPipeInMemory bytes (Ok r) = PipeParsed memory_state (memory_source_at bytes 0) r.perf_file r.records.records × (input_of r.records ≡ bytes)
 ParsesPipeInMemory bytes (Err e) = PipeParseError memory_state (memory_source_at bytes 0) e
 
 -- A call returned a record with this view.
@@ -93,12 +93,12 @@ OneCallMoreInMemory = (old now new : InMemoryRecords) (file now_file file' : Per
 -- A streaming reader of the same bytes returns the same records, and then has the same state but for its buffer.
 abbrev pub ReturnsSameRecords : Type 0
 ReturnsSameRecords = (old now : InMemoryRecords) (file file' : PerfFile) (records : List RecordView) → ReturnsRecordsInMemory old file records now file'
-    → (buffer : Vec ℕ Global) × ReturnsRecords memory_state old.iter file records (with_buffer now.iter buffer) file'
+    → (buffer : Vec ℕ Global) × ReturnsRecords memory_state old.records file records (with_buffer now.records buffer) file'
 
 -- In this state, it returns the same end.
 abbrev pub ReturnsSameEnd : Type 0
-ReturnsSameEnd = (now new : InMemoryRecords) (file file' : PerfFile) (buffer : Vec ℕ Global) → now.iter.stage ≡ Running → ReturnsEnd memory_state now.iter file new.iter file' → ReturnsEnd memory_state (with_buffer now.iter buffer) file new.iter file'
+ReturnsSameEnd = (now new : InMemoryRecords) (file file' : PerfFile) (buffer : Vec ℕ Global) → now.records.stage ≡ Running → ReturnsEnd memory_state now.records file new.records file' → ReturnsEnd memory_state (with_buffer now.records buffer) file new.records file'
 
 -- In this state, it returns the same error.
 abbrev pub ReturnsSameError : Type 0
-ReturnsSameError = (now new : InMemoryRecords) (file file' : PerfFile) (e : Error) (buffer : Vec ℕ Global) → now.iter.stage ≡ Running → ReturnsError memory_state now.iter file e new.iter file' → ReturnsError memory_state (with_buffer now.iter buffer) file e new.iter file'
+ReturnsSameError = (now new : InMemoryRecords) (file file' : PerfFile) (e : Error) (buffer : Vec ℕ Global) → now.records.stage ≡ Running → ReturnsError memory_state now.records file e new.records file' → ReturnsError memory_state (with_buffer now.records buffer) file e new.records file'

@@ -69,8 +69,8 @@ with_prefix (e ∷ es) (o ∷ os) = e ∷ with_prefix es os
 
 -- In a file in which a record may start here: if the remaining bytes start with a whole record, it is a marker.
 abbrev pub StartsWithMarkerAtMost : InMemoryRecords → Type 0
-StartsWithMarkerAtMost records = records.iter.stage ≡ Running → (size : ℕ) → section_size_of memory_state records.iter ≡ Some size → records.iter.offset < size
-    → (rest p : List ℕ) → (memory_state records.iter.source).bytes ≡ Some rest → StartsWithRecord records.iter.endian records.iter.offset rest p → record_type_of records.iter.endian p ≡ finished_round
+StartsWithMarkerAtMost records = records.records.stage ≡ Running → (size : ℕ) → section_size_of memory_state records.records ≡ Some size → records.records.offset < size
+    → (rest p : List ℕ) → (memory_state records.records.source).bytes ≡ Some rest → StartsWithRecord records.records.endian records.records.offset rest p → record_type_of records.records.endian p ≡ finished_round
 
 -- The next record was returned, and this is its entry. No `PerfFile` is changed.
 pub record TakesEntry (old : InMemoryRecords) (entry : RecordEntry) (new : InMemoryRecords) : Type 0 where

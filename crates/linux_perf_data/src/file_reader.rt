@@ -13,7 +13,7 @@ use crate::records::input::Input;
 use crate::records::iter::Stage;
 pub use crate::records::iter::{PerfRecordIter, RecordPlace};
 use perfdata_base::source::{PlacedSource, Source};
-use perfdata_parts::error::Error;
+use perfdata_sections::error::Error;
 use std::alloc::Global;
 
 /// An opened file or pipe: its metadata, and an iterator over its records.

@@ -31,8 +31,8 @@ use crate::perf_file::PerfFile;
 use crate::records::iter::{PerfRecordIter, RecordPlace};
 use perfdata_base::event::PerfEventHeader;
 use perfdata_base::raw::RawData;
-use perfdata_parts::error::Error;
-use perfdata_parts::record::PerfFileRecord;
+use perfdata_records::record::PerfFileRecord;
+use perfdata_sections::error::Error;
 use std::alloc::Global;
 use std::io::Cursor;
 
@@ -49,10 +49,10 @@ pub(crate) mod whole_record;
 /// A record borrows the bytes of the input and not the iterator, so records may be kept.
 #[derive(Drop)]
 pub struct InMemoryRecords<'a> {
-    iter: PerfRecordIter<Cursor<&'a [u8]>>,
+    records: PerfRecordIter<Cursor<&'a [u8]>>,
     input: &'a [u8],
     first_record_offset: u64,
-    ghost in_place: { IsInPlace iter input.now first_record_offset } by { Prim.hlevel props },
+    ghost in_place: { IsInPlace records input.now first_record_offset } by { Prim.hlevel props },
 }
 
 impl<'a> InMemoryRecords<'a> {
@@ -95,12 +95,15 @@ impl<'a> InMemoryRecords<'a> {
     {
         // For the prover: a slice is shorter than 2^63 bytes.
         let _size = self.input.len();
-        match take_record(&mut self.iter, perf_file)? {
-            Some((found, body)) => {
-                let endian = self.iter.endian;
-                let places = *self.iter.attribute_lookup.parse_info_of(found.attr_index());
+        match take_record(&mut self.records, perf_file)? {
+            Some((info, body)) => {
+                let endian = self.records.endian;
+                let parse_info = *self
+                    .records
+                    .attribute_lookup
+                    .parse_info_of(info.attr_index());
                 let body = RawData::Single(body);
-                Ok(Some((found.place, found.into_record(places, endian, body))))
+                Ok(Some((info.place, info.into_record(parse_info, endian, body))))
             }
             None => Ok(None),
         }
@@ -130,7 +133,7 @@ impl<'a> InMemoryReader<'a> {
         let reader = PerfFileReader::parse_file(alloc, Cursor::new(bytes))?;
         let first_record_offset = reader.record_iter.source.position();
         let records = InMemoryRecords {
-            iter: reader.record_iter,
+            records: reader.record_iter,
             input: bytes,
             first_record_offset,
         };
@@ -153,7 +156,7 @@ impl<'a> InMemoryReader<'a> {
         let position = reader.record_iter.source.position();
         let first_record_offset = position.saturating_sub(PerfEventHeader::STRUCT_SIZE as u64);
         let records = InMemoryRecords {
-            iter: reader.record_iter,
+            records: reader.record_iter,
             input: bytes,
             first_record_offset,
         };

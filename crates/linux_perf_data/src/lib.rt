@@ -46,22 +46,21 @@ pub use perf_file::PerfFile;
 pub use perfdata_base::features::{Feature, FeatureSet, FeatureSetIter};
 pub use perfdata_base::raw::Endianness;
 pub use perfdata_base::{event, features, header, place, raw, section, source};
-pub use perfdata_parts::auxtrace::Auxtrace;
-pub use perfdata_parts::dso_info::DsoInfo;
-pub use perfdata_parts::dso_key::DsoKey;
-pub use perfdata_parts::error::{Error, ReadError};
-pub use perfdata_parts::feature_sections::{
-    AttributeDescription, CompressionInfo, NrCpus, SampleTimeRange,
-};
-pub use perfdata_parts::record::{
+pub use perfdata_records::auxtrace::Auxtrace;
+pub use perfdata_records::dso_info::DsoInfo;
+pub use perfdata_records::dso_key::DsoKey;
+pub use perfdata_records::record::{
     HeaderAttr, HeaderFeature, PerfFileRecord, RawUserRecord, UserRecord, UserRecordType,
 };
-pub use perfdata_parts::simpleperf::{
+pub use perfdata_records::thread_map::ThreadMap;
+pub use perfdata_records::{auxtrace, build_id_event, dso_info, dso_key, record, thread_map};
+pub use perfdata_sections::error::{Error, ReadError};
+pub use perfdata_sections::feature_sections::{
+    AttributeDescription, CompressionInfo, NrCpus, SampleTimeRange,
+};
+pub use perfdata_sections::{constants, error, feature_sections};
+pub use perfdata_simpleperf::simpleperf::{
     SimpleperfDexFileInfo, SimpleperfElfFileInfo, SimpleperfFileRecord, SimpleperfKernelModuleInfo,
     SimpleperfSymbol, SimpleperfTypeSpecificInfo, simpleperf_dso_type,
 };
-pub use perfdata_parts::thread_map::ThreadMap;
-pub use perfdata_parts::{
-    auxtrace, build_id_event, constants, dso_info, dso_key, error, feature_sections, protobuf,
-    record, simpleperf, thread_map,
-};
+pub use perfdata_simpleperf::{protobuf, simpleperf};

@@ -27,13 +27,13 @@ use crate::file::opening::feature_bytes;
 use indexmap::IndexMap;
 use perfdata_base::features::{Feature, FeatureSet};
 use perfdata_base::raw::Endianness;
-use perfdata_parts::dso_info::DsoInfo;
-use perfdata_parts::dso_key::DsoKey;
-use perfdata_parts::error::Error;
-use perfdata_parts::feature_sections::{
+use perfdata_records::dso_info::DsoInfo;
+use perfdata_records::dso_key::DsoKey;
+use perfdata_sections::error::Error;
+use perfdata_sections::feature_sections::{
     AttributeDescription, ClockData, CompressionInfo, NrCpus, PmuMappings, SampleTimeRange,
 };
-use perfdata_parts::simpleperf::{
+use perfdata_simpleperf::simpleperf::{
     SimpleperfFileRecord, parse_file_section, parse_file2_section, parse_meta_info_map,
 };
 use std::alloc::Global;

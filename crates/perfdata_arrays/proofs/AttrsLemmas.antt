@@ -102,7 +102,7 @@ writes_prefix all status entries entries' names ids names' ids' index name_offse
 pub reads_file_attrs : (bytes : List ℕ) (reader : InMemoryReader) → ParsesFileInMemory bytes (Ok reader)
     → (entries entries' : List Attr) (names ids names' ids' : List ℕ) (outcome : AttrsResult) → WritesAttrsOrPrefix (descriptions_of_file reader.perf_file) Success entries names ids outcome entries' names' ids' → ReadsFileAttrs bytes entries names ids outcome entries' names' ids'
 reads_file_attrs bytes reader opened entries entries' names ids names' ids' outcome written =
-    let opens : FileOpensAt memory_state (at_start bytes) reader.perf_file reader.records.iter = opened.0.file_opened in
+    let opens : FileOpensAt memory_state (at_start bytes) reader.perf_file reader.records.records = opened.0.file_opened in
     inl (reader.perf_file, (opens.header, opens.describes, written))
 
 pub file_attrs_error : (bytes : List ℕ) (entries : List Attr) (names ids : List ℕ) (outcome : AttrsResult) (e : Error) (status : Status) → outcome ≡ no_attrs_with status → status ≡ error_status e → (e ≢ Memory → IsFileError (at_start bytes) e)

@@ -32,7 +32,7 @@ pipe_features_error bytes outcome e status none is cause =
 
 pub reads_file_features : (bytes : List ℕ) (reader : InMemoryReader) → ParsesFileInMemory bytes (Ok reader) → (outcome : FeaturesResult) → outcome.status ≡ Success → AreBitsOf (features_of_file reader.perf_file) outcome.features → ReadsFileFeatures bytes outcome
 reads_file_features bytes reader opened outcome is bits =
-    let opens : FileOpensAt memory_state (at_start bytes) reader.perf_file reader.records.iter = opened.0.file_opened in
+    let opens : FileOpensAt memory_state (at_start bytes) reader.perf_file reader.records.records = opened.0.file_opened in
     inl (is, (reader.perf_file, (opens.header, opens.describes, bits)))
 
 pub reads_pipe_features : (bytes : List ℕ) (reader : InMemoryReader) (opened : ParsesPipeInMemory bytes (Ok reader))

@@ -30,7 +30,7 @@ pipe_feature_error bytes n old outcome e is has none cause = inr ((e, is, cause)
 pub reads_file_feature : (bytes : List ℕ) (reader : InMemoryReader) → ParsesFileInMemory bytes (Ok reader) → (n : ℕ) (before : List ℕ) (outcome : FeatureResult) (after : List ℕ)
     → outcome.status ≡ Success → CopiesFeature (feature_data_in_file reader.perf_file n) before outcome after → ReadsFileFeature bytes n before outcome after
 reads_file_feature bytes reader opened n before outcome after is copied =
-    let opens : FileOpensAt memory_state (at_start bytes) reader.perf_file reader.records.iter = opened.0.file_opened in
+    let opens : FileOpensAt memory_state (at_start bytes) reader.perf_file reader.records.records = opened.0.file_opened in
     inl (is, (reader.perf_file, (opens.header, opens.describes, copied)))
 
 pub reads_pipe_feature : (bytes : List ℕ) (reader : InMemoryReader) (opened : ParsesPipeInMemory bytes (Ok reader))

@@ -76,7 +76,7 @@ no_attributes order bound size records is = ap (λ b. attributes_in_views order 
     go (h ∷ hs) = go hs
 
 -- memory doesn't run out in a file
-never_memory : {A : Type 0} (input : InMemoryRecords) (size : ℕ) (r : Result A Error) → section_size_of memory_state input.iter ≡ Some size → NeedsMemoryInPipeOnly input r → (e : Error) → r ≡ Err e → e ≢ Memory
+never_memory : {A : Type 0} (input : InMemoryRecords) (size : ℕ) (r : Result A Error) → section_size_of memory_state input.records ≡ Some size → NeedsMemoryInPipeOnly input r → (e : Error) → r ≡ Err e → e ≢ Memory
 never_memory input size (Ok x) section needs e is memory = absurd cc
 never_memory input size (Err x) section needs e is memory =
     let same : x ≡ e = cc in
@@ -196,7 +196,7 @@ module _ (bytes : List ℕ) (from : RecordPosition) where
 
   module _ (reader : InMemoryReader) (parsed : ParsesFileAt bytes from (Ok reader)) where
     abbrev it : MemoryIter
-    it = reader.records.iter
+    it = reader.records.records
 
     abbrev file : PerfFile
     file = reader.perf_file
@@ -227,16 +227,16 @@ module _ (bytes : List ℕ) (from : RecordPosition) where
         inr (omega (arith, ap length same, length-drop (first + it.offset) (input_of reader.records), length-drop (base + from.offset) bytes, ap length parsed.1, start, long, length-append step.markers one, length-append step.header_bytes h.body, eight))
 
     module _ (before after : List RecordEntry) (walked : PageWalk) (new : InMemoryRecords) (file' : PerfFile) (w : WalksPage reader.records file before walked new file' after) where
-      streamed : (buffer : Vec ℕ Global) × ReturnsRecords memory_state it file w.records (with_buffer w.input_at_end.iter buffer) w.file_at_end
+      streamed : (buffer : Vec ℕ Global) × ReturnsRecords memory_state it file w.records (with_buffer w.input_at_end.records buffer) w.file_at_end
       streamed = same_records reader.records w.input_at_end file w.file_at_end w.records w.returned
 
       abbrev now : MemoryIter
-      now = with_buffer w.input_at_end.iter streamed.0
+      now = with_buffer w.input_at_end.records streamed.0
 
       next_is : walked.next ≡ next bytes header file from it at now w.file_at_end w.records streamed.1
       next_is = w.next
 
-      with_own_buffer : {A : Type 0} (r : Result A Error) → w.input_at_end.iter.stage ≡ Running → WalkEnds w.input_at_end.iter w.file_at_end r new.iter file' → WalkEnds now w.file_at_end r new.iter file'
+      with_own_buffer : {A : Type 0} (r : Result A Error) → w.input_at_end.records.stage ≡ Running → WalkEnds w.input_at_end.records w.file_at_end r new.records file' → WalkEnds now w.file_at_end r new.records file'
       with_own_buffer (Ok _) runs ended = same_end w.input_at_end new w.file_at_end file' streamed.0 runs ended
       with_own_buffer (Err e) runs failed = same_error w.input_at_end new w.file_at_end file' e streamed.0 runs failed
 
@@ -252,7 +252,7 @@ module _ (bytes : List ℕ) (from : RecordPosition) where
         | inr ended ↦
             let here = at_next bytes header file from it at now w.file_at_end w.records streamed.1 in
             let q = next bytes header file from it at now w.file_at_end w.records streamed.1 in
-            let found = ends_at bytes header file q now here new.iter w.file_at_end file' walked.end (own_next bytes header file from it at now w.file_at_end w.records streamed.1)
+            let found = ends_at bytes header file q now here new.records w.file_at_end file' walked.end (own_next bytes header file from it at now w.file_at_end w.records streamed.1)
             (with_own_buffer walked.end here.stage_running ended.1) (never_memory w.input_at_end header.data_section.size walked.end here.section_size ended.2) in
             inr (ended.0, (found.0, subst (λ p. RemainFrom p [] found.0) (sym next_is) found.1, found.2))
       ]

@@ -100,7 +100,7 @@ module _ (bytes : List ℕ) (reader : InMemoryReader) (parsed : ParsesPipeInMemo
   file = reader.perf_file
 
   abbrev it : MemoryIter
-  it = reader.records.iter
+  it = reader.records.records
 
   abbrev old : State
   old = memory_source_at bytes 0
@@ -233,7 +233,7 @@ module _ (bytes : List ℕ) (reader : InMemoryReader) (parsed : ParsesPipeInMemo
     pub walk_ends : PipeEnds w.records (walk_status walked.end) file'
     walk_ends =
         let s = streams_records reader.records w.input_at_end new file w.file_at_end file' w.records walked.end w.returned w.ends w.memory in
-        pipe_ends s.iter_at_end new.iter s.file_at_end file' w.records s.returned walked.end s.ends s.memory
+        pipe_ends s.iter_at_end new.records s.file_at_end file' w.records s.returned walked.end s.ends s.memory
 
     -- the bytes are that pipe
     abbrev pub is_pipe_with_records : (status : Status) → status ≡ walk_status walked.end → IsPipeWithRecords bytes w.records file' status

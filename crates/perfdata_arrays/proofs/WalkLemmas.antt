@@ -67,20 +67,20 @@ calls-append old now new file now_file file' [] later (same, same_file) more = s
 calls-append old now new file now_file file' (h ∷ hs) later (next, (next_file, one, rest)) more = (next, (next_file, one, calls-append next now new next_file now_file file' hs later rest more))
 
 -- each record moves the offset
-pub offset-after : (old now : InMemoryRecords) (file file' : PerfFile) (records : List RecordView) → ReturnsRecordsInMemory old file records now file' → old.iter.offset + length records ≤ now.iter.offset
-offset-after old now file file' [] (same, same_file) = (let e = ap (λ i. i.iter.offset) same in omega (arith, e))
+pub offset-after : (old now : InMemoryRecords) (file file' : PerfFile) (records : List RecordView) → ReturnsRecordsInMemory old file records now file' → old.records.offset + length records ≤ now.records.offset
+offset-after old now file file' [] (same, same_file) = (let e = ap (λ i. i.records.offset) same in omega (arith, e))
 offset-after old now file file' (h ∷ hs) (next, (next_file, (place, (r, step, is)), more)) =
     let rest = offset-after next now next_file file' hs more in
     let moved = step.returns.offset in
     let start = step.returns.record_offset in
     omega (arith, rest, moved, start)
 
-offset-fits : (old now : InMemoryRecords) (file file' : PerfFile) (h : RecordView) (hs : List RecordView) → ReturnsRecordsInMemory old file (h ∷ hs) now file' → now.iter.offset < 2 ^ 64
-offset-fits old now file file' h [] (next, (next_file, (place, (r, step, is)), (same, same_file))) = (let at = ap (λ i. i.iter.offset) same in let fits = step.returns.offset_fits in omega (arith, at, fits))
+offset-fits : (old now : InMemoryRecords) (file file' : PerfFile) (h : RecordView) (hs : List RecordView) → ReturnsRecordsInMemory old file (h ∷ hs) now file' → now.records.offset < 2 ^ 64
+offset-fits old now file file' h [] (next, (next_file, (place, (r, step, is)), (same, same_file))) = (let at = ap (λ i. i.records.offset) same in let fits = step.returns.offset_fits in omega (arith, at, fits))
 offset-fits old now file file' h (k ∷ ks) (next, (next_file, one, more)) = offset-fits next now next_file file' k ks more
 
 -- a count of records fits in 64 bits, as their offsets do
-pub count-fits : (old now : InMemoryRecords) (file file' : PerfFile) (records : List RecordView) (count : ℕ) → ReturnsRecordsInMemory old file records now file' → count < 2 ^ 64 → count + length records ≤ now.iter.offset → count + length records < 2 ^ 64
+pub count-fits : (old now : InMemoryRecords) (file file' : PerfFile) (records : List RecordView) (count : ℕ) → ReturnsRecordsInMemory old file records now file' → count < 2 ^ 64 → count + length records ≤ now.records.offset → count + length records < 2 ^ 64
 count-fits old now file file' [] count returned fits below = omega (arith, fits)
 count-fits old now file file' (h ∷ hs) count returned fits below = (let end = offset-fits old now file file' h hs returned in omega (arith, end, below))
 
@@ -88,7 +88,7 @@ count-fits old now file file' (h ∷ hs) count returned fits below = (let end = 
 
 -- The records that a walk returned so far are counted, and their entries are written over `array`.
 pub record ReadSoFar (old : InMemoryRecords) (file : PerfFile) (start : ℕ) (array : List RecordEntry) (count : ℕ) (now : InMemoryRecords) (now_file : PerfFile) (entries : List RecordEntry) : Type 0 where
-  pub count_below_offset : count ≤ now.iter.offset
+  pub count_below_offset : count ≤ now.records.offset
   pub same_input : KeepsInput old now
   pub records : List RecordView
   pub count_is : count ≡ length records
@@ -188,31 +188,31 @@ pub record StreamsRecords {A : Type 0} (it : MemoryIter) (file : PerfFile) (reco
   pub ends : WalkEnds iter_at_end file_at_end end new file'
   pub memory : NeedsMetadata iter_at_end end new
 
-runs_after : (old now : InMemoryRecords) (file file' : PerfFile) (h : RecordView) (hs : List RecordView) → ReturnsRecordsInMemory old file (h ∷ hs) now file' → now.iter.stage ≡ Running
-runs_after old now file file' h [] (next, (next_file, (place, (r, step, is)), (same, same_file))) = ap (λ i. i.iter.stage) same ∙ step.returns.stage_running
+runs_after : (old now : InMemoryRecords) (file file' : PerfFile) (h : RecordView) (hs : List RecordView) → ReturnsRecordsInMemory old file (h ∷ hs) now file' → now.records.stage ≡ Running
+runs_after old now file file' h [] (next, (next_file, (place, (r, step, is)), (same, same_file))) = ap (λ i. i.records.stage) same ∙ step.returns.stage_running
 runs_after old now file file' h (k ∷ ks) (next, (next_file, one, more)) = runs_after next now next_file file' k ks more
 
-ends_with_buffer : {A : Type 0} (now new : InMemoryRecords) (file file' : PerfFile) (buffer : Vec ℕ Global) (end : Result A Error) → now.iter.stage ≡ Running → WalkEnds now.iter file end new.iter file' → WalkEnds (with_buffer now.iter buffer) file end new.iter file'
+ends_with_buffer : {A : Type 0} (now new : InMemoryRecords) (file file' : PerfFile) (buffer : Vec ℕ Global) (end : Result A Error) → now.records.stage ≡ Running → WalkEnds now.records file end new.records file' → WalkEnds (with_buffer now.records buffer) file end new.records file'
 ends_with_buffer now new file file' buffer (Ok _) runs ended = same_end now new file file' buffer runs ended
 ends_with_buffer now new file file' buffer (Err e) runs failed = same_error now new file file' e buffer runs failed
 
-metadata_with_buffer : {A : Type 0} (now new : InMemoryRecords) (buffer : Vec ℕ Global) (end : Result A Error) → NeedsMemoryForMetadataOnly now end new → NeedsMetadata (with_buffer now.iter buffer) end new.iter
+metadata_with_buffer : {A : Type 0} (now new : InMemoryRecords) (buffer : Vec ℕ Global) (end : Result A Error) → NeedsMemoryForMetadataOnly now end new → NeedsMetadata (with_buffer now.records buffer) end new.records
 metadata_with_buffer now new buffer (Ok _) memory = tt
 metadata_with_buffer now new buffer (Err e) memory = λ is.
     (let m = memory is in
     record { in_pipe = m.in_pipe; markers = m.markers; valid_markers = m.valid_markers; raw_record = m.raw_record; is_record = m.is_record; metadata_type = m.metadata_type; consumes = m.consumes })
 
-metadata_of_iter : {A : Type 0} (now new : InMemoryRecords) (end : Result A Error) → NeedsMemoryForMetadataOnly now end new → NeedsMetadata now.iter end new.iter
+metadata_of_iter : {A : Type 0} (now new : InMemoryRecords) (end : Result A Error) → NeedsMemoryForMetadataOnly now end new → NeedsMetadata now.records end new.records
 metadata_of_iter now new (Ok _) memory = tt
 metadata_of_iter now new (Err e) memory = memory
 
-pub streams_records : {A : Type 0} (old now new : InMemoryRecords) (file now_file file' : PerfFile) (records : List RecordView) (end : Result A Error) → ReturnsRecordsInMemory old file records now now_file → WalkEnds now.iter now_file end new.iter file' → NeedsMemoryForMetadataOnly now end new → StreamsRecords old.iter file records end new.iter file'
+pub streams_records : {A : Type 0} (old now new : InMemoryRecords) (file now_file file' : PerfFile) (records : List RecordView) (end : Result A Error) → ReturnsRecordsInMemory old file records now now_file → WalkEnds now.records now_file end new.records file' → NeedsMemoryForMetadataOnly now end new → StreamsRecords old.records file records end new.records file'
 streams_records old now new file now_file file' [] end (same, same_file) ends memory =
-    record { iter_at_end = now.iter; file_at_end = now_file; returned = (ap (λ i. i.iter) same, same_file); ends = ends; memory = metadata_of_iter now new end memory }
+    record { iter_at_end = now.records; file_at_end = now_file; returned = (ap (λ i. i.records) same, same_file); ends = ends; memory = metadata_of_iter now new end memory }
 streams_records old now new file now_file file' (h ∷ hs) end all ends memory =
     let from = same_records old now file now_file (h ∷ hs) all in
     record {
-      iter_at_end = with_buffer now.iter from.0;
+      iter_at_end = with_buffer now.records from.0;
       file_at_end = now_file;
       returned = from.1;
       ends = ends_with_buffer now new now_file file' from.0 end (runs_after old now file now_file h hs all) ends;

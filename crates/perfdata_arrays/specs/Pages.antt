@@ -36,7 +36,7 @@ pub record WalksPage (old : InMemoryRecords) (file : PerfFile) (before : List Re
   pub fits : length records ≤ length before
   pub written : after ≡ with_prefix (record_entries_at (first_record_offset_of old) records) before
   pub body_bytes_at : HasBodiesAt (input_of old) (first_record_offset_of old) records
-  pub ends : ((walked.end ≡ Ok tt) × (length records ≡ length before)) ⊎ ((length records < length before) × WalkEnds input_at_end.iter file_at_end walked.end new.iter file' × NeedsMemoryInPipeOnly input_at_end walked.end)
+  pub ends : ((walked.end ≡ Ok tt) × (length records ≡ length before)) ⊎ ((length records < length before) × WalkEnds input_at_end.records file_at_end walked.end new.records file' × NeedsMemoryInPipeOnly input_at_end walked.end)
 
 -- ---- positions
 

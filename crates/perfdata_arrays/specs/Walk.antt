@@ -46,5 +46,5 @@ pub record WalksRecords (old : InMemoryRecords) (file : PerfFile) (start : ℕ) 
   pub count : walked.count ≡ length records
   pub written : after ≡ with_prefix_from start (record_entries_at (first_record_offset_of old) records) before
   pub body_bytes_at : HasBodiesAt (input_of old) (first_record_offset_of old) records
-  pub ends : WalkEnds input_at_end.iter file_at_end walked.end new.iter file'
+  pub ends : WalkEnds input_at_end.records file_at_end walked.end new.records file'
   pub memory : NeedsMemoryForMetadataOnly input_at_end walked.end new

@@ -13,7 +13,7 @@ use crate::array::copy_at;
 use crate::status::{Status, status_of_error};
 use linux_perf_data::{Error, Feature};
 use perfdata_base::raw::Endianness;
-use perfdata_parts::simpleperf::{
+use perfdata_simpleperf::simpleperf::{
     SimpleperfFileRecord, SimpleperfSymbol, SimpleperfTypeSpecificInfo, parse_file_section,
     parse_file2_section,
 };

@@ -54,23 +54,27 @@ struct EventAttribute<'a> {
 }
 
 // The attribute with this index.
-fn attribute_at(file: &PerfFile, index: usize) -> Option<&AttributeDescription>
-    ensures { option_copied result ≡ slice_get (descriptions_of_file file.now) index }
+fn attribute_at(perf_file: &PerfFile, index: usize) -> Option<&AttributeDescription>
+    ensures { option_copied result ≡ slice_get (descriptions_of_file perf_file.now) index }
 {
-    file.event_attributes().get(index)
+    perf_file.event_attributes().get(index)
 }
 
 impl<'a> EventAttribute<'a> {
     ghost use Rattle.perfdata_json.specs.Line.{format_at, name_at};
 
-    // The attribute of a record, by its index in `file`. `None` if `file` doesn't contain it.
-    fn find(file: &'a PerfFile, attr_index: usize, endian: Endianness) -> Option<EventAttribute<'a>>
+    // The attribute of a record, by its index in `perf_file`. `None` if that doesn't contain it.
+    fn find(
+        perf_file: &'a PerfFile,
+        attr_index: usize,
+        endian: Endianness,
+    ) -> Option<EventAttribute<'a>>
         ensures name { option_map (λ found. option_map (λ s. s.now) found.name) result
-            ≡ name_at (descriptions_of_file file.now) attr_index }
+            ≡ name_at (descriptions_of_file perf_file.now) attr_index }
         ensures format { option_map (λ found. found.format) result
-            ≡ format_at (descriptions_of_file file.now) attr_index endian }
+            ≡ format_at (descriptions_of_file perf_file.now) attr_index endian }
     {
-        let description = attribute_at(file, attr_index)?;
+        let description = attribute_at(perf_file, attr_index)?;
         Some(EventAttribute {
             name: description.name(),
             format: EventFormat::new(description.attributes(), endian),
@@ -194,18 +198,19 @@ impl BodyWriter {
         }
     }
 
-    /// Writes the JSON of a record's line. `file` contains the record's attribute. Fails if memory runs out.
+    // Writes the JSON of a record's line. `perf_file` contains the record's attribute. Fails if memory
+    // runs out.
     pub(crate) fn write_record(
         &self,
         out: &mut LineSerializer,
-        file: &PerfFile,
+        perf_file: &PerfFile,
         place: RecordPlace,
         record: &PerfFileRecord<'_>,
     ) -> Result<(), AllocError> {
         match record {
             PerfFileRecord::EventRecord { attr_index, event } => {
                 let endian = event.parse_info.endian;
-                let Some(attribute) = EventAttribute::find(file, *attr_index, endian) else {
+                let Some(attribute) = EventAttribute::find(perf_file, *attr_index, endian) else {
                     return self.unparsed(out, &Envelope::new(place, record, None), event.body);
                 };
                 let line = Envelope::new(place, record, attribute.name);

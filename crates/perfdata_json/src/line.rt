@@ -67,13 +67,13 @@ impl<'a> Envelope<'a> {
     /// absent.
     pub(crate) fn new(
         place: RecordPlace,
-        file_record: &PerfFileRecord<'_>,
+        record: &PerfFileRecord<'_>,
         event: Option<&'a str>,
     ) -> Envelope<'a>
-        ensures members { HasMembersOf (record_view_of place file_record.now) result }
+        ensures members { HasMembersOf (record_view_of place «record».now) result }
         ensures same_event { result.event ≡ event.entry }
     {
-        match file_record {
+        match record {
             PerfFileRecord::EventRecord {
                 attr_index,
                 event: raw,
@@ -156,8 +156,8 @@ impl RecordLine for JsonLine {
     fn set(
         &mut self,
         place: RecordPlace,
-        file_record: &PerfFileRecord<'_>,
-        file: &PerfFile,
+        record: &PerfFileRecord<'_>,
+        perf_file: &PerfFile,
     ) -> Result<(), Error> {
         let writer = BodyWriter {
             alloc: self.alloc,
@@ -167,7 +167,7 @@ impl RecordLine for JsonLine {
         json.clear();
         let printed = mem::replace(&mut self.printed, String::new(self.alloc));
         let mut out = LineSerializer::new(json, printed);
-        let written = writer.write_record(&mut out, file, place, file_record);
+        let written = writer.write_record(&mut out, perf_file, place, record);
         let (json, printed) = out.into_buffers();
         self.bytes = json;
         self.printed = printed;

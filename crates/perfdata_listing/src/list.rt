@@ -45,21 +45,21 @@ pub struct ListFault {
     pub cause: ListCause,
 }
 
-/// Writes the line of a record. `file` contains the record's attribute, and `line` is set to the line.
+/// Writes the line of a record. `perf_file` contains the record's attribute, and `line` is set to the line.
 ///
 /// Fails if memory runs out, and nothing of the line is written then, or if the writer fails, and a prefix of
 /// the line is written then.
 pub fn write_record<L: RecordLine, W: Write>(
     place: RecordPlace,
-    file_record: &PerfFileRecord<'_>,
-    file: &PerfFile,
+    record: &PerfFileRecord<'_>,
+    perf_file: &PerfFile,
     line: &mut L,
     out: &mut W,
 ) -> Result<(), ListCause>
-    ensures { WritesRecord L.is_line L.allocates (record_view_of place file_record.now)
+    ensures { WritesRecord L.is_line L.allocates (record_view_of place «record».now)
         (W.contents out.old) result (W.contents out.new) }
 {
-    match line.set(place, file_record, file) {
+    match line.set(place, record, perf_file) {
         Ok(()) => match write_line(out, line.as_bytes()) {
             Ok(()) => Ok(()),
             Err(error) => Err(ListCause::Write(error)),
@@ -70,17 +70,17 @@ pub fn write_record<L: RecordLine, W: Write>(
 
 // Writes the line of the next record. Returns whether there is one.
 fn list_next<R: Source, L: RecordLine, W: Write>(
-    iter: &mut PerfRecordIter<R>,
-    file: &mut PerfFile,
+    records: &mut PerfRecordIter<R>,
+    perf_file: &mut PerfFile,
     line: &mut L,
     out: &mut W,
 ) -> Result<bool, ListCause>
-    ensures { ListsNext L.is_line L.allocates R.state iter.old file.old (W.contents out.old) result
-        (W.contents out.new) iter.new file.new }
+    ensures { ListsNext L.is_line L.allocates R.state records.old perf_file.old (W.contents out.old) result
+        (W.contents out.new) records.new perf_file.new }
 {
-    match iter.next_record(file) {
+    match records.next_record(perf_file) {
         Ok(Some((place, record))) => {
-            match write_record(place, &record, file, line, out) {
+            match write_record(place, &record, perf_file, line, out) {
                 Ok(()) => Ok(true),
                 Err(cause) => Err(cause),
             }
@@ -93,33 +93,33 @@ fn list_next<R: Source, L: RecordLine, W: Write>(
 // Does what `list_next` does for a live input. Either the writer has no pending bytes, or the next record is
 // buffered.
 fn list_next_live<R: Source, L: RecordLine, W: FlushPending>(
-    iter: &mut PerfRecordIter<R>,
-    file: &mut PerfFile,
+    records: &mut PerfRecordIter<R>,
+    perf_file: &mut PerfFile,
     line: &mut L,
     out: &mut W,
 ) -> Result<bool, ListCause>
-    requires flushed { MayBlock R.state iter.old (W.pending out.old) }
-    ensures { ListsNext L.is_line L.allocates R.state iter.old file.old (W.contents out.old) result
-        (W.contents out.new) iter.new file.new }
+    requires flushed { MayBlock R.state records.old (W.pending out.old) }
+    ensures { ListsNext L.is_line L.allocates R.state records.old perf_file.old (W.contents out.old) result
+        (W.contents out.new) records.new perf_file.new }
 {
-    list_next(iter, file, line, out)
+    list_next(records, perf_file, line, out)
 }
 
 // Writes a line for each remaining record. Returns the number of lines.
 fn list_records<R: Source, L: RecordLine, W: Write>(
-    iter: &mut PerfRecordIter<R>,
-    file: &mut PerfFile,
+    records: &mut PerfRecordIter<R>,
+    perf_file: &mut PerfFile,
     line: &mut L,
     out: &mut W,
 ) -> Result<u64, ListFault>
-    requires not_failed { HasNotFailed iter.old }
-    requires matching_file { HasMatchingFile R.state iter.old file.old }
-    ensures { ListsRecords L.is_line L.allocates R.state iter.old file.old (W.contents out.old) result
-        (W.contents out.new) iter.new file.new }
+    requires not_failed { HasNotFailed records.old }
+    requires matching_file { HasMatchingFile R.state records.old perf_file.old }
+    ensures { ListsRecords L.is_line L.allocates R.state records.old perf_file.old (W.contents out.old) result
+        (W.contents out.new) records.new perf_file.new }
 {
     let mut lines = 0u64;
     'records: loop {
-        match list_next(iter, file, line, out) {
+        match list_next(records, perf_file, line, out) {
             Ok(true) => lines += 1,
             Ok(false) => return Ok(lines),
             Err(cause) => return Err(ListFault { lines, cause }),
@@ -130,14 +130,14 @@ fn list_records<R: Source, L: RecordLine, W: Write>(
 /// Flushes the pending lines unless the next record is buffered. No line is pending while the input blocks.
 /// Fails if the flush fails.
 pub fn flush_before_blocking<R: Source, W: FlushPending>(
-    iter: &PerfRecordIter<R>,
+    records: &PerfRecordIter<R>,
     out: &mut W,
 ) -> io::Result<()>
     ensures contents_kept { Keeps (W.contents out.old) (W.contents out.new) }
-    ensures flushed { OnOk result (MayBlock R.state iter.now (W.pending out.new)) }
-    ensures on_error { OnErr result (¬ IsFinished R.state iter.now) }
+    ensures flushed { OnOk result (MayBlock R.state records.now (W.pending out.new)) }
+    ensures on_error { OnErr result (¬ IsFinished R.state records.now) }
 {
-    if iter.is_next_buffered() {
+    if records.is_next_buffered() {
         return Ok(());
     }
     out.flush_pending()
@@ -146,28 +146,28 @@ pub fn flush_before_blocking<R: Source, W: FlushPending>(
 // Writes a line for each remaining record of a live input. Returns the number of lines. Pending lines are
 // flushed before each call for a record that isn't buffered.
 fn list_live_records<R: Source, L: RecordLine, W: FlushPending>(
-    iter: &mut PerfRecordIter<R>,
-    file: &mut PerfFile,
+    records: &mut PerfRecordIter<R>,
+    perf_file: &mut PerfFile,
     line: &mut L,
     out: &mut W,
 ) -> Result<u64, ListFault>
-    requires not_failed { HasNotFailed iter.old }
-    requires matching_file { HasMatchingFile R.state iter.old file.old }
-    ensures lists { ListsLiveRecords L.is_line L.allocates R.state iter.old file.old
-        (W.contents out.old) result (W.contents out.new) iter.new file.new }
-    ensures flushes { FlushesBeforeBlocking L.is_line L.allocates R.state W.pending W.contents iter.old
-        file.old out.old result out.new iter.new file.new }
+    requires not_failed { HasNotFailed records.old }
+    requires matching_file { HasMatchingFile R.state records.old perf_file.old }
+    ensures lists { ListsLiveRecords L.is_line L.allocates R.state records.old perf_file.old
+        (W.contents out.old) result (W.contents out.new) records.new perf_file.new }
+    ensures flushes { FlushesBeforeBlocking L.is_line L.allocates R.state W.pending W.contents records.old
+        perf_file.old out.old result out.new records.new perf_file.new }
 {
     let mut lines = 0u64;
     'records: loop {
-        match flush_before_blocking(iter, out) {
+        match flush_before_blocking(records, out) {
             Ok(()) => {}
             Err(error) => {
                 let cause = ListCause::Write(error);
                 return Err(ListFault { lines, cause });
             }
         }
-        match list_next_live(iter, file, line, out) {
+        match list_next_live(records, perf_file, line, out) {
             Ok(true) => lines += 1,
             Ok(false) => return Ok(lines),
             Err(cause) => return Err(ListFault { lines, cause }),
@@ -187,9 +187,9 @@ pub fn list_file_by<C: PlacedSource + Drop, L: RecordLine, W: Write>(
 {
     match PerfFileReader::parse_file(alloc, source) {
         Ok(reader) => {
-            let mut file = reader.perf_file;
-            let mut iter = reader.record_iter;
-            list_records(&mut iter, &mut file, line, out)
+            let mut perf_file = reader.perf_file;
+            let mut records = reader.record_iter;
+            list_records(&mut records, &mut perf_file, line, out)
         }
         Err(error) => {
             let cause = ListCause::Perf(error);
@@ -210,9 +210,9 @@ pub fn list_pipe_by<R: Source + Drop, L: RecordLine, W: Write>(
 {
     match PerfFileReader::parse_pipe(alloc, source) {
         Ok(reader) => {
-            let mut file = reader.perf_file;
+            let mut perf_file = reader.perf_file;
             let mut records = reader.record_iter;
-            list_records(&mut records, &mut file, line, out)
+            list_records(&mut records, &mut perf_file, line, out)
         }
         Err(error) => {
             let cause = ListCause::Perf(error);
@@ -235,9 +235,9 @@ pub fn list_live_pipe_by<R: Source + Drop, L: RecordLine, W: FlushPending>(
 {
     match PerfFileReader::parse_pipe(alloc, source) {
         Ok(reader) => {
-            let mut file = reader.perf_file;
-            let mut iter = reader.record_iter;
-            list_live_records(&mut iter, &mut file, line, out)
+            let mut perf_file = reader.perf_file;
+            let mut records = reader.record_iter;
+            list_live_records(&mut records, &mut perf_file, line, out)
         }
         Err(error) => {
             let cause = ListCause::Perf(error);

@@ -21,14 +21,15 @@ pub trait RecordLine {
     // The text of the line, including its newline.
     ghost text: { Self → List ℕ };
 
-    /// Sets it to the line of a record. `file` contains the record's attribute. Fails if memory runs out.
+    /// Sets it to the line of a record. `perf_file` contains the record's attribute. Fails if memory
+    /// runs out.
     fn set(
         &mut self,
         place: RecordPlace,
-        file_record: &PerfFileRecord<'_>,
-        file: &PerfFile,
+        record: &PerfFileRecord<'_>,
+        perf_file: &PerfFile,
     ) -> Result<(), Error>
-        ensures on_ok { OnOk result (is_line (record_view_of place file_record.now) (text self.new)) }
+        ensures on_ok { OnOk result (is_line (record_view_of place «record».now) (text self.new)) }
         ensures on_error { IfErr result (λ error. IsTrue allocates × (error ≡ Memory)) };
 
     /// The bytes of the line, including its newline.
@@ -37,17 +38,17 @@ pub trait RecordLine {
 }
 
 // The fields of a record's line.
-fn record_fields(place: RecordPlace, file_record: &PerfFileRecord<'_>) -> RecordFields
-    ensures { fields_text result ≡ record_line (record_view_of place file_record.now) }
+fn record_fields(place: RecordPlace, record: &PerfFileRecord<'_>) -> RecordFields
+    ensures { fields_text result ≡ record_line (record_view_of place «record».now) }
 {
     RecordFields {
         offset: place.offset,
         round: place.round,
         timestamp: place.timestamp,
-        attr_index: file_record.attr_index().map(|index| index as u64),
-        record_type: file_record.record_type().0,
-        misc: file_record.misc(),
-        body_length: file_record.body().len() as u64,
+        attr_index: record.attr_index().map(|index| index as u64),
+        record_type: record.record_type().0,
+        misc: record.misc(),
+        body_length: record.body().len() as u64,
     }
 }
 
@@ -62,10 +63,10 @@ impl RecordLine for Line {
     fn set(
         &mut self,
         place: RecordPlace,
-        file_record: &PerfFileRecord<'_>,
+        record: &PerfFileRecord<'_>,
         _file: &PerfFile,
     ) -> Result<(), Error> {
-        self.set_record(record_fields(place, file_record));
+        self.set_record(record_fields(place, record));
         Ok(())
     }
 

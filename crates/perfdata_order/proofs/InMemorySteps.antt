@@ -149,16 +149,16 @@ ended_runs stage ended running = cc
 pub failed_runs : (stage : Stage) → stage ≡ Failed → stage ≡ Running → ⊥
 failed_runs stage failed running = cc
 
-pub still_stopped : (first next : InMemoryOrderedRecords) → next.records ≡ first.records → first.records.iter.stage ≢ Running → next.records.iter.stage ≢ Running
-still_stopped first next same stopped running = stopped (sym (ap (λ r. r.iter.stage) same) ∙ running)
+pub still_stopped : (first next : InMemoryOrderedRecords) → next.records ≡ first.records → first.records.records.stage ≢ Running → next.records.records.stage ≢ Running
+still_stopped first next same stopped running = stopped (sym (ap (λ r. r.records.stage) same) ∙ running)
 
 -- Nothing is read after the end or an error.
-pub nothing_read : (steps : List Step) (first last : InMemoryOrderedRecords) (file file' : PerfFile) → first.records.iter.stage ≢ Running → TakesSteps steps first file last file' → read_in steps ≡ []
+pub nothing_read : (steps : List Step) (first last : InMemoryOrderedRecords) (file file' : PerfFile) → first.records.records.stage ≢ Running → TakesSteps steps first file last file' → read_in steps ≡ []
 nothing_read [] first last file file' stopped taken = refl
 nothing_read (reads key place r ∷ steps) first last file file' stopped (next, (next_file, step, rest)) = absurd (stopped step.returned.returns.was_running)
 nothing_read (passes place r ∷ steps) first last file file' stopped (next, (next_file, step, rest)) = nothing_read steps next last next_file file' (still_stopped first next step.0.same_records stopped) rest
-nothing_read (reads_end ∷ steps) first last file file' stopped (next, (next_file, step, rest)) = nothing_read steps next last next_file file' (λ running. ended_runs next.records.iter.stage step.ended.stage_ended running) rest
-nothing_read (reads_error e ∷ steps) first last file file' stopped (next, (next_file, step, rest)) = nothing_read steps next last next_file file' (λ running. failed_runs next.records.iter.stage step.failed.stage_failed running) rest
+nothing_read (reads_end ∷ steps) first last file file' stopped (next, (next_file, step, rest)) = nothing_read steps next last next_file file' (λ running. ended_runs next.records.records.stage step.ended.stage_ended running) rest
+nothing_read (reads_error e ∷ steps) first last file file' stopped (next, (next_file, step, rest)) = nothing_read steps next last next_file file' (λ running. failed_runs next.records.records.stage step.failed.stage_failed running) rest
 nothing_read (sorts (inserts key entry) ∷ steps) first last file file' stopped (next, (next_file, step, rest)) = nothing_read steps next last next_file file' (still_stopped first next step.0.same_records stopped) rest
 nothing_read (sorts ends_round ∷ steps) first last file file' stopped (next, (next_file, step, rest)) = nothing_read steps next last next_file file' (still_stopped first next step.0.same_records stopped) rest
 nothing_read (sorts ends_all ∷ steps) first last file file' stopped (next, (next_file, step, rest)) = nothing_read steps next last next_file file' (still_stopped first next step.0.same_records stopped) rest
@@ -186,9 +186,9 @@ read_from (reads key place r ∷ steps) first last file file' (next, (next_file,
     (more.0, (more.1.0, (next.records, (next_file, (place, (r, step.returned, refl)), more.1.1))))
 read_from (passes place r ∷ steps) first last file file' (next, (next_file, step, rest)) = from_same first next file next_file (read_in steps) step.0.same_records step.1 (read_from steps next last next_file file' rest)
 read_from (reads_end ∷ steps) first last file file' (next, (next_file, step, rest)) =
-    none_from first.records file (read_in steps) (nothing_read steps next last next_file file' (λ running. ended_runs next.records.iter.stage step.ended.stage_ended running) rest)
+    none_from first.records file (read_in steps) (nothing_read steps next last next_file file' (λ running. ended_runs next.records.records.stage step.ended.stage_ended running) rest)
 read_from (reads_error e ∷ steps) first last file file' (next, (next_file, step, rest)) =
-    none_from first.records file (read_in steps) (nothing_read steps next last next_file file' (λ running. failed_runs next.records.iter.stage step.failed.stage_failed running) rest)
+    none_from first.records file (read_in steps) (nothing_read steps next last next_file file' (λ running. failed_runs next.records.records.stage step.failed.stage_failed running) rest)
 read_from (sorts (inserts key entry) ∷ steps) first last file file' (next, (next_file, step, rest)) = from_same first next file next_file (read_in steps) step.0.same_records step.1 (read_from steps next last next_file file' rest)
 read_from (sorts ends_round ∷ steps) first last file file' (next, (next_file, step, rest)) = from_same first next file next_file (read_in steps) step.0.same_records step.1 (read_from steps next last next_file file' rest)
 read_from (sorts ends_all ∷ steps) first last file file' (next, (next_file, step, rest)) = from_same first next file next_file (read_in steps) step.0.same_records step.1 (read_from steps next last next_file file' rest)

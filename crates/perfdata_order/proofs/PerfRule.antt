@@ -176,10 +176,10 @@ none_pending (Failure e) final = refl
 record Ahead (s : InMemoryOrderedRecords) (timed : List Timed) : Type 0 where
   from_round : All (λ y. s.round ≤ y.0) timed
   rule : KeepsRoundRule nat_cmp timed
-  stopped : IsFinal s.pending → s.records.iter.stage ≢ Running
+  stopped : IsFinal s.pending → s.records.records.stage ≢ Running
 
 -- The same records are ahead after the step.
-same_ahead : (s t : InMemoryOrderedRecords) (before after : List Timed) → t.round ≡ s.round → before ≡ after → (IsFinal t.pending → t.records.iter.stage ≢ Running) → Ahead s before → Ahead t after
+same_ahead : (s t : InMemoryOrderedRecords) (before after : List Timed) → t.round ≡ s.round → before ≡ after → (IsFinal t.pending → t.records.records.stage ≢ Running) → Ahead s before → Ahead t after
 same_ahead s t before after same_round same stopped h = record {
   from_round = subst (λ k. All (λ y. k ≤ y.0) after) (sym same_round) (subst (λ es. All (λ y. s.round ≤ y.0) es) same h.from_round);
   rule = subst (λ es. KeepsRoundRule nat_cmp es) same h.rule;
@@ -192,10 +192,10 @@ same_follows n s t ys before after same_round same f = subst (λ k. Follows n k 
 not_final : (q p : Pending) → q ≡ p → (IsFinal p → ⊥) → IsFinal q → ⊥
 not_final q p same never final = never (subst (λ x. IsFinal x) same final)
 
-kept_stop : (s t : InMemoryOrderedRecords) → t.pending ≡ s.pending → t.records ≡ s.records → (IsFinal s.pending → s.records.iter.stage ≢ Running) → IsFinal t.pending → t.records.iter.stage ≢ Running
+kept_stop : (s t : InMemoryOrderedRecords) → t.pending ≡ s.pending → t.records ≡ s.records → (IsFinal s.pending → s.records.records.stage ≢ Running) → IsFinal t.pending → t.records.records.stage ≢ Running
 kept_stop s t pending same stopped final = still_stopped s t same (stopped (subst (λ x. IsFinal x) pending final))
 
-all_ended : (n : ℕ) (steps : List Step) (s next : InMemoryOrderedRecords) → ahead s steps ≡ ahead next steps → Ahead s (ahead s steps) → (IsFinal next.pending → next.records.iter.stage ≢ Running)
+all_ended : (n : ℕ) (steps : List Step) (s next : InMemoryOrderedRecords) → ahead s steps ≡ ahead next steps → Ahead s (ahead s steps) → (IsFinal next.pending → next.records.records.stage ≢ Running)
     → ((s.round + 2 ≤ next.round) × All (λ y. next.round ≤ y.0) (ahead s steps)) ⊎ ((next.round ≡ s.round) × IsFinal s.pending) → (IsFinal s.pending → read_in steps ≡ [])
     → (Ahead next (ahead next steps) → Follows (n + 2) next.round (inserted_in_rounds (n + 2) (calls_in steps)) (ahead next steps)) → Follows n s.round (inserted_in_rounds (n + 2) (calls_in steps)) (ahead s steps)
 all_ended n steps s next same h stop (inl (later, all)) none more =
@@ -225,12 +225,12 @@ follows n (passes place r ∷ steps) s t f g (next, (next_file, step, rest)) ris
 follows n (reads_end ∷ steps) s t f g (next, (next_file, step, rest)) rise h =
     let same : ahead s (reads_end ∷ steps) ≡ ahead next steps =
     ap (λ p. pending_timed p ++ timed_of (read_in steps)) step.nothing_pending ∙ ap (λ p. pending_timed p ++ timed_of (read_in steps)) (sym step.pending) in
-    let after = same_ahead s next (ahead s (reads_end ∷ steps)) (ahead next steps) step.same_order.round same (λ final running. ended_runs next.records.iter.stage step.ended.stage_ended running) h in
+    let after = same_ahead s next (ahead s (reads_end ∷ steps)) (ahead next steps) step.same_order.round same (λ final running. ended_runs next.records.records.stage step.ended.stage_ended running) h in
     same_follows n s next (inserted_in_rounds n (calls_in steps)) (ahead s (reads_end ∷ steps)) (ahead next steps) step.same_order.round same (follows n steps next t next_file g rest (rise_after reads_end steps s next f next_file step rise) after)
 follows n (reads_error e ∷ steps) s t f g (next, (next_file, step, rest)) rise h =
     let same : ahead s (reads_error e ∷ steps) ≡ ahead next steps =
     ap (λ p. pending_timed p ++ timed_of (read_in steps)) step.nothing_pending ∙ ap (λ p. pending_timed p ++ timed_of (read_in steps)) (sym step.pending) in
-    let after = same_ahead s next (ahead s (reads_error e ∷ steps)) (ahead next steps) step.same_order.round same (λ final running. failed_runs next.records.iter.stage step.failed.stage_failed running) h in
+    let after = same_ahead s next (ahead s (reads_error e ∷ steps)) (ahead next steps) step.same_order.round same (λ final running. failed_runs next.records.records.stage step.failed.stage_failed running) h in
     same_follows n s next (inserted_in_rounds n (calls_in steps)) (ahead s (reads_error e ∷ steps)) (ahead next steps) step.same_order.round same (follows n steps next t next_file g rest (rise_after (reads_error e) steps s next f next_file step rise) after)
 follows n (sorts (inserts key entry) ∷ steps) s t f g (next, (next_file, step, rest)) rise h =
     let more : ahead s (sorts (inserts key entry) ∷ steps) ≡ (entry.0.round, (key, entry)) ∷ timed_of (read_in steps) = ap (λ p. pending_timed p ++ timed_of (read_in steps)) step.0.was_pending in

@@ -154,7 +154,7 @@ rounds_placed a b key place r was (inr (inr all)) = record {
 
 -- ---- what a record that was read shows of the offset
 
-pub offset_rises : (old new : InMemoryRecords) (file file' : PerfFile) (place : RecordPlace) (r : PerfFileRecord) → ReturnsRecordInMemory old file place r new file' → (old.iter.offset + 8 ≤ new.iter.offset) × (new.iter.offset < 2 ^ 64)
+pub offset_rises : (old new : InMemoryRecords) (file file' : PerfFile) (place : RecordPlace) (r : PerfFileRecord) → ReturnsRecordInMemory old file place r new file' → (old.records.offset + 8 ≤ new.records.offset) × (new.records.offset < 2 ^ 64)
 offset_rises old new file file' place r returned =
     let call = returned.returns in
     (omega (arith, call.record_offset, call.offset), call.offset_fits)
@@ -247,7 +247,7 @@ end_returned a b c f g p same is held = record {
 
 -- What is left to do: bytes to read, and a record to place.
 abbrev pub work_of : InMemoryOrderedRecords → ℕ
-work_of s = 2 * (2 ^ 64 - s.records.iter.offset) + pending_records s.pending
+work_of s = 2 * (2 ^ 64 - s.records.records.offset) + pending_records s.pending
 
 -- A record that was placed is pending only if it has no time.
 none_after : (key : Option ℕ) (place : RecordPlace) (r : PerfFileRecord) (p : InMemoryOrderedRecords) → AfterPlacing (Record key place r) p → HasNoUntimed p.pending → p.pending ≡ Nothing
@@ -269,14 +269,14 @@ falls_by_read old new n m rises fits none = omega arith
 pub work_falls : (s b p : InMemoryOrderedRecords) (f g : PerfFile) → ReadsPending s f b g → AfterPlacing b.pending p → p.records ≡ b.records → HasNoUntimed p.pending → p.pending ≢ End → ((e : Error) → p.pending ≢ Failure e) → work_of p < work_of s
 work_falls s b p f g (inl (pending, same, same_file)) after same_records no_untimed not_end not_failed =
     let placed = placed_record s.pending p pending (subst (λ q. AfterPlacing q.pending p) same after) no_untimed not_end not_failed in
-    falls_by_record s.records.iter.offset p.records.iter.offset (pending_records s.pending) (pending_records p.pending)
-    (sym (ap (λ r. r.iter.offset) same_records ∙ ap (λ q. q.records.iter.offset) same)) placed.0 (ap pending_records placed.1)
+    falls_by_record s.records.records.offset p.records.records.offset (pending_records s.pending) (pending_records p.pending)
+    (sym (ap (λ r. r.records.offset) same_records ∙ ap (λ q. q.records.records.offset) same)) placed.0 (ap pending_records placed.1)
 work_falls s b p f g (inr (inl (key, (place, (r, read))))) after same_records no_untimed not_end not_failed =
     let rises = offset_rises s.records b.records f g place r read.returned in
     let nothing = none_after key place r p (subst (λ q. AfterPlacing q p) read.pending after) no_untimed in
-    let same = ap (λ r. r.iter.offset) same_records in
-    falls_by_read s.records.iter.offset p.records.iter.offset (pending_records s.pending) (pending_records p.pending)
-    (subst (λ n. s.records.iter.offset + 8 ≤ n) (sym same) rises.0) (subst (λ n. n < 2 ^ 64) (sym same) rises.1) (ap pending_records nothing)
+    let same = ap (λ r. r.records.offset) same_records in
+    falls_by_read s.records.records.offset p.records.records.offset (pending_records s.pending) (pending_records p.pending)
+    (subst (λ n. s.records.records.offset + 8 ≤ n) (sym same) rises.0) (subst (λ n. n < 2 ^ 64) (sym same) rises.1) (ap pending_records nothing)
 work_falls s b p f g (inr (inr (inl read))) after same_records no_untimed not_end not_failed =
     let placed = subst (λ q. AfterPlacing q p) read.pending after in absurd (not_end placed.0)
 work_falls s b p f g (inr (inr (inr (e, read)))) after same_records no_untimed not_end not_failed =

@@ -31,10 +31,11 @@ pub(crate) struct RecordInfo {
 impl RecordInfo {
     ghost use Rattle.perfdata_order.specs.HeldRecord.{view_with};
 
-    pub(crate) fn of(place: RecordPlace, found: &PerfFileRecord<'_>) -> RecordInfo
-        ensures { view_with result (bytes_of (file_record_body found.now)) ≡ record_view_of place found.now }
+    pub(crate) fn of(place: RecordPlace, record: &PerfFileRecord<'_>) -> RecordInfo
+        ensures { view_with result (bytes_of (file_record_body «record».now))
+            ≡ record_view_of place «record».now }
     {
-        match found {
+        match record {
             PerfFileRecord::EventRecord { attr_index, event } => RecordInfo {
                 place,
                 misc: event.misc,

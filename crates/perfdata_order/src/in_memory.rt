@@ -112,16 +112,16 @@ impl<'a> InMemoryOrderedRecords<'a> {
         &mut self,
         key: u64,
         place: RecordPlace,
-        found: PerfFileRecord<'a>,
+        record: PerfFileRecord<'a>,
     ) -> Result<(), AllocError>
-        requires { self.old.pending ≡ Pending.Record (Some key) place found }
+        requires { self.old.pending ≡ Pending.Record (Some key) place «record» }
         ensures { PlacesPending self.old result self.new }
     {
         match self.end_rounds(place.round) {
             Ok(()) => {}
             Err(error) => return Err(error),
         }
-        match self.sorter.insert_unordered(key, (place, found)) {
+        match self.sorter.insert_unordered(key, (place, record)) {
             Ok(()) => {
                 self.pending = Pending::Nothing;
                 Ok(())

@@ -257,11 +257,11 @@ fn read_record<R: Source>(
     requires capacity { 65536 ≤ vec_capacity body.old }
     ensures { ReadsRecord R.state records.old perf_file.old result body.new.items records.new perf_file.new }
 {
-    let Some((place, found)) = records.next_record(perf_file)? else {
+    let Some((place, record)) = records.next_record(perf_file)? else {
         return Ok(None);
     };
-    let info = RecordInfo::of(place, &found);
-    copy_body(body, found.body())?;
+    let info = RecordInfo::of(place, &record);
+    copy_body(body, record.body())?;
     Ok(Some(info))
 }
 

@@ -36,7 +36,7 @@ module _ {E : Type 0} (IsOf : EntryRelation E) where
     file = reader.perf_file
 
     abbrev it : MemoryIter
-    it = reader.records.iter
+    it = reader.records.records
 
     abbrev base : ℕ
     base = (header_of bytes from reader parsed).data_section.offset
@@ -61,7 +61,7 @@ module _ {E : Type 0} (IsOf : EntryRelation E) where
       entries_of_file = subst (λ f. AreEntriesOf IsOf (endian_of_file file) f (first_record_offset_of reader.records) records own) (λ i. λ before. unchanged bytes from reader parsed before i) are
 
       pub first_at : (records ≡ []) ⊎ (first_record_offset_of reader.records ≡ base)
-      first_at = (let s = streamed bytes from reader parsed records now now_file all in first_is_base records (with_buffer now.iter s.0) now_file s.1)
+      first_at = (let s = streamed bytes from reader parsed records now now_file all in first_is_base records (with_buffer now.records s.0) now_file s.1)
 
       page_is : (end : Option (Result (Unit {0}) Error)) → EndsEntries (length own) (length entries) now now_file end new file' → IsEntryPage IsOf bytes from (length entries) own (entry_page_status end) (position_of now)
       page_is None full = record {

@@ -43,8 +43,8 @@ module _ {E : Type 0} (IsOf : EntryRelation E) where
     pub same_first : first_record_offset_of now ≡ first_record_offset_of start
     pub attributes_are : attributes_of_file now_file ≡ attributes_after start file records
     pub same_file_endian : endian_of_file now_file ≡ endian_of_file file
-    pub same_endian : now.iter.endian ≡ start.iter.endian
-    pub same_section : section_size_of memory_state now.iter ≡ section_size_of memory_state start.iter
+    pub same_endian : now.records.endian ≡ start.records.endian
+    pub same_section : section_size_of memory_state now.records ≡ section_size_of memory_state start.records
     pub own : List E
     pub are_entries : AreEntriesOf IsOf (endian_of_file file) (attributes_after start file) (first_record_offset_of start) records own
     pub count_is : count ≡ length own
@@ -73,10 +73,10 @@ module _ {E : Type 0} (IsOf : EntryRelation E) where
     attributes_next : attributes_of_file new_file ≡ attributes_after start file (so_far.records ++ h ∷ [])
     attributes_next =
         let records = so_far.records in
-        let order = start.iter.endian in
-        let bound = section_size_of memory_state start.iter in
+        let order = start.records.endian in
+        let bound = section_size_of memory_state start.records in
         step.returns.file_updates.attributes
-        ∙ ap (λ l. l ++ attributes_in_record now.iter.endian (section_size_of memory_state now.iter) h.record_type h.body) so_far.attributes_are
+        ∙ ap (λ l. l ++ attributes_in_record now.records.endian (section_size_of memory_state now.records) h.record_type h.body) so_far.attributes_are
         ∙ (λ i. (attributes_of_file file ++ attributes_in_views order bound records) ++ attributes_in_record (so_far.same_endian i) (so_far.same_section i) h.record_type h.body)
         ∙ append_assoc (attributes_of_file file) (attributes_in_views order bound records) (attributes_in_record order bound h.record_type h.body)
         ∙ ap (λ l. attributes_of_file file ++ l) (sym (one_more_attribute order bound records h))
@@ -135,7 +135,7 @@ module _ {E : Type 0} (IsOf : EntryRelation E) where
 
   -- a walk to the end
   pub walks_all_entries : (start now new : InMemoryRecords) (file now_file file' : PerfFile) (entries : List E) (count : ℕ) (entries' : List E) (end : Result (Unit {0}) Error)
-      → EntriesSoFar start file entries count now now_file entries' → attributes_of_file file' ≡ attributes_of_file now_file → WalkEnds now.iter now_file end new.iter file' → NeedsMemoryForMetadataOnly now end new
+      → EntriesSoFar start file entries count now now_file entries' → attributes_of_file file' ≡ attributes_of_file now_file → WalkEnds now.records now_file end new.records file' → NeedsMemoryForMetadataOnly now end new
       → WalksAllEntries IsOf start file entries (record { count = count; end = end }) new file' entries'
   walks_all_entries start now new file now_file file' entries count entries' end so_far same ends memory = record {
     records = so_far.records;

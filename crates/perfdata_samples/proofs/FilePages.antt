@@ -54,7 +54,7 @@ status_of_error order size offset attrs rest (invalid_event_desc o bytes) e at i
 status_of_error order size offset attrs rest (inconsistent_attributes b) e at is = (let none = at.0 in absurd cc)
 
 -- memory doesn't run out in a file
-never_memory : {A : Type 0} (input : InMemoryRecords) (size : ℕ) (r : Result A Error) → section_size_of memory_state input.iter ≡ Some size → NeedsMemoryInPipeOnly input r → (e : Error) → r ≡ Err e → e ≢ Memory
+never_memory : {A : Type 0} (input : InMemoryRecords) (size : ℕ) (r : Result A Error) → section_size_of memory_state input.records ≡ Some size → NeedsMemoryInPipeOnly input r → (e : Error) → r ≡ Err e → e ≢ Memory
 never_memory input size (Ok x) section needs e is memory = absurd cc
 never_memory input size (Err x) section needs e is memory =
     let same : x ≡ e = cc in
@@ -93,17 +93,17 @@ module _ (bytes : List ℕ) (from : RecordPosition) (reader : InMemoryReader) (p
   file = reader.perf_file
 
   abbrev it : MemoryIter
-  it = reader.records.iter
+  it = reader.records.records
 
   pub at : IsAtPosition bytes from header_of file it
   at = parsed.0.at_position
 
   module _ (records : List RecordView) (now : InMemoryRecords) (now_file : PerfFile) (all : ReturnsRecordsInMemory reader.records file records now now_file) where
-    pub streamed : (buffer : Vec ℕ Global) × ReturnsRecords memory_state it file records (with_buffer now.iter buffer) now_file
+    pub streamed : (buffer : Vec ℕ Global) × ReturnsRecords memory_state it file records (with_buffer now.records buffer) now_file
     streamed = same_records reader.records now file now_file records all
 
     abbrev streaming : MemoryIter
-    streaming = with_buffer now.iter streamed.0
+    streaming = with_buffer now.records streamed.0
 
     abbrev pub PageEnds : ℕ → Status → Type 0
     PageEnds capacity status = ((status ≡ Success) × (length records ≡ capacity)) ⊎ ((length records < capacity) × ((end : LayoutEnd) × FileRecordsFrom bytes (endian_of_file file) header_of (position_of now) (attributes_of_file file) [] end × (status ≡ layout_end_status end)))
@@ -121,15 +121,15 @@ module _ (bytes : List ℕ) (from : RecordPosition) (reader : InMemoryReader) (p
       next_round_fits = streaming.rounds_fit;
     }
 
-    with_own_buffer : {A : Type 0} (new : InMemoryRecords) (file' : PerfFile) (r : Result A Error) → now.iter.stage ≡ Running → WalkEnds now.iter now_file r new.iter file' → WalkEnds streaming now_file r new.iter file'
+    with_own_buffer : {A : Type 0} (new : InMemoryRecords) (file' : PerfFile) (r : Result A Error) → now.records.stage ≡ Running → WalkEnds now.records now_file r new.records file' → WalkEnds streaming now_file r new.records file'
     with_own_buffer new file' (Ok _) runs ended = same_end now new now_file file' streamed.0 runs ended
     with_own_buffer new file' (Err e) runs failed = same_error now new now_file file' e streamed.0 runs failed
 
     -- a page whose records end
-    pub page_to_end : {A : Type 0} (new : InMemoryRecords) (file' : PerfFile) (r : Result A Error) → WalkEnds now.iter now_file r new.iter file' → NeedsMemoryInPipeOnly now r
+    pub page_to_end : {A : Type 0} (new : InMemoryRecords) (file' : PerfFile) (r : Result A Error) → WalkEnds now.records now_file r new.records file' → NeedsMemoryInPipeOnly now r
         → PageEnds (length records + 1) (walk_status r)
     page_to_end new file' r ended needs =
         let here = at_next bytes header_of file from it at streaming now_file records streamed.1 in
-        let found = end_at bytes header_of file (position_of now) streaming here new.iter now_file file' r (own_next bytes header_of file from it at streaming now_file records streamed.1)
+        let found = end_at bytes header_of file (position_of now) streaming here new.records now_file file' r (own_next bytes header_of file from it at streaming now_file records streamed.1)
         (with_own_buffer new file' r here.stage_running ended) (never_memory now header_of.data_section.size r here.section_size needs) in
         inr (let less : length records < length records + 1 = omega arith in less, (found.0, found.1, found.2))

@@ -38,12 +38,12 @@ module _ {E : Type 0} (IsOf : EntryRelation E) where
     file = reader.perf_file
 
     abbrev it : MemoryIter
-    it = reader.records.iter
+    it = reader.records.records
 
     pipe_ends_there : PipeEnds bytes reader parsed w.records (walk_status walked.end) file'
     pipe_ends_there =
         let s = streams_records reader.records w.input_at_end new file w.file_at_end file' w.records walked.end w.returned w.ends w.memory in
-        pipe_ends bytes reader parsed s.iter_at_end new.iter s.file_at_end file' w.records s.returned walked.end s.ends s.memory
+        pipe_ends bytes reader parsed s.iter_at_end new.records s.file_at_end file' w.records s.returned walked.end s.ends s.memory
 
     abbrev is_pipe : IsPipeWithRecords bytes w.records file' (walk_status walked.end)
     is_pipe = record {

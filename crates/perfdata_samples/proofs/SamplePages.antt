@@ -67,7 +67,7 @@ module _ (bytes : List ℕ) (from : RecordPosition) (reader : InMemoryReader) (p
   pub unchanged : (records : List RecordView) → attributes_after reader.records file records ≡ attributes_of_file file
   unchanged records =
       let section = parsed.0.at_position.section_size in
-      ap (λ l. attributes_of_file file ++ l) (no_attributes reader.records.iter.endian (section_size_of memory_state reader.records.iter) (header_of bytes from reader parsed).data_section.size records section)
+      ap (λ l. attributes_of_file file ++ l) (no_attributes reader.records.records.endian (section_size_of memory_state reader.records.records) (header_of bytes from reader parsed).data_section.size records section)
       ∙ append-nil (attributes_of_file file)
 
   module _ (samples : List Sample) (frames : List FrameEntry) (records : List RecordView) (now : InMemoryRecords) (now_file : PerfFile) (all : ReturnsRecordsInMemory reader.records file records now now_file)

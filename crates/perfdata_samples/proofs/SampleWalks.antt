@@ -49,8 +49,8 @@ pub record SamplesSoFar (start : InMemoryRecords) (file : PerfFile) (wants : Boo
   pub same_input : KeepsInput start now
   pub attributes_are : attributes_of_file now_file ≡ attributes_after start file records
   pub same_file_endian : endian_of_file now_file ≡ endian_of_file file
-  pub same_endian : now.iter.endian ≡ start.iter.endian
-  pub same_section : section_size_of memory_state now.iter ≡ section_size_of memory_state start.iter
+  pub same_endian : now.records.endian ≡ start.records.endian
+  pub same_section : section_size_of memory_state now.records ≡ section_size_of memory_state start.records
   pub own : List Sample
   pub own_frames : List FrameEntry
   pub are_samples : AreSamplesOf (endian_of_file file) (attributes_after start file) wants records own own_frames
@@ -87,10 +87,10 @@ module _ (start now new : InMemoryRecords) (file now_file new_file : PerfFile) (
   pub attributes_next : attributes_of_file new_file ≡ attributes_after start file (so_far.records ++ h ∷ [])
   attributes_next =
       let records = so_far.records in
-      let order = start.iter.endian in
-      let bound = section_size_of memory_state start.iter in
+      let order = start.records.endian in
+      let bound = section_size_of memory_state start.records in
       step.returns.file_updates.attributes
-      ∙ ap (λ l. l ++ attributes_in_record now.iter.endian (section_size_of memory_state now.iter) h.record_type h.body) so_far.attributes_are
+      ∙ ap (λ l. l ++ attributes_in_record now.records.endian (section_size_of memory_state now.records) h.record_type h.body) so_far.attributes_are
       ∙ (λ i. (attributes_of_file file ++ attributes_in_views order bound records) ++ attributes_in_record (so_far.same_endian i) (so_far.same_section i) h.record_type h.body)
       ∙ append_assoc (attributes_of_file file) (attributes_in_views order bound records) (attributes_in_record order bound h.record_type h.body)
       ∙ ap (λ l. attributes_of_file file ++ l) (sym (one_more_attribute order bound records h))
@@ -212,7 +212,7 @@ walks_samples start now new file now_file file' samples frames count used sample
 -- ---- a walk to the end
 
 pub walks_all_samples : (start now new : InMemoryRecords) (file now_file file' : PerfFile) (samples : List Sample) (frames : List FrameEntry) (count used : ℕ) (samples' : List Sample) (frames' : List FrameEntry) (end : Result (Unit {0}) Error)
-    → SamplesSoFar start file true samples frames count used now now_file samples' frames' → attributes_of_file file' ≡ attributes_of_file now_file → WalkEnds now.iter now_file end new.iter file' → NeedsMemoryForMetadataOnly now end new
+    → SamplesSoFar start file true samples frames count used now now_file samples' frames' → attributes_of_file file' ≡ attributes_of_file now_file → WalkEnds now.records now_file end new.records file' → NeedsMemoryForMetadataOnly now end new
     → WalksAllSamples start file samples frames (record { count = count; frames_count = used; end = end }) new file' samples' frames'
 walks_all_samples start now new file now_file file' samples frames count used samples' frames' end so_far same ends memory = record {
   records = so_far.records;

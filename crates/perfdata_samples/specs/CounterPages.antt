@@ -50,7 +50,7 @@ pub record LacksSpaceForCounters (old : InMemoryRecords) (file : PerfFile) (reco
 abbrev pub EndsCounters : InMemoryRecords → PerfFile → List RecordView → ℕ → ℕ → InMemoryRecords → PerfFile → PageEnd → InMemoryRecords → PerfFile → Type 0
 EndsCounters old file records count capacity now now_file Full new file' = count ≡ capacity
 EndsCounters old file records count capacity now now_file (NoSpace needed) new file' = (count < capacity) × LacksSpaceForCounters old file records capacity count needed new file'
-EndsCounters old file records count capacity now now_file (Records r) new file' = (count < capacity) × WalkEnds now.iter now_file r new.iter file' × NeedsMemoryInPipeOnly now r
+EndsCounters old file records count capacity now now_file (Records r) new file' = (count < capacity) × WalkEnds now.records now_file r new.records file' × NeedsMemoryInPipeOnly now r
 
 -- The walk returns these records, and writes and counts their counters. The next position is after the last of them.
 pub record WalksCounters (old : InMemoryRecords) (file : PerfFile) (counters : List CounterEntry) (page : CounterPage) (new : InMemoryRecords) (file' : PerfFile) (counters' : List CounterEntry) : Type 0 where

@@ -1,5 +1,5 @@
 -- The fields of a sample that the struct of samples doesn't have, and where its parts are.
-use Rattle.std.specs.Prelude.{◌≡◌, ◌⊎◌, ℕ, ◌+◌, ◌-◌, ◌<◌, Bool, false, List, length, bit_and, is_some, if◌then◌else◌, Option, None, Some}
+use Rattle.std.specs.Prelude.{◌≡◌, ◌⊎◌, ℕ, ◌+◌, ◌-◌, false, List, length, bit_and, is_some, if◌then◌else◌, Option, None, Some}
 use Rattle.std.specs.Option.{unwrap_or}
 use Rattle.std.specs.declared.io.ErrorKind.{ErrorKind}
 use Rattle.perfdata_base.specs.Endian.{number_in}

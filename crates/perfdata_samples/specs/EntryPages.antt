@@ -27,7 +27,7 @@ use Rattle.perfdata_samples.specs.declared.entries.EntryPage.{EntryPage}
 -- How the walk ends: the array is full, or the records end.
 abbrev pub EndsEntries : ℕ → ℕ → InMemoryRecords → PerfFile → Option (Result (Unit {0}) Error) → InMemoryRecords → PerfFile → Type 0
 EndsEntries count capacity now now_file None new file' = count ≡ capacity
-EndsEntries count capacity now now_file (Some r) new file' = (count < capacity) × WalkEnds now.iter now_file r new.iter file' × NeedsMemoryInPipeOnly now r
+EndsEntries count capacity now now_file (Some r) new file' = (count < capacity) × WalkEnds now.records now_file r new.records file' × NeedsMemoryInPipeOnly now r
 
 -- The walk returns these records, and writes and counts their entries. The next position is after the last of them.
 pub record WalksEntries {E : Type 0} (IsOf : EntryRelation E) (old : InMemoryRecords) (file : PerfFile) (entries : List E) (page : EntryPage) (new : InMemoryRecords) (file' : PerfFile) (entries' : List E) : Type 0 where

@@ -33,7 +33,7 @@ use Rattle.perfdata_samples.specs.declared.status.SamplesStatus.TheVariants as s
 
 -- the attributes that are known after some records of an iterator
 abbrev pub attributes_after : InMemoryRecords → PerfFile → List RecordView → List Attribute
-attributes_after input file records = attributes_of_file file ++ attributes_in_views input.iter.endian (section_size_of memory_state input.iter) records
+attributes_after input file records = attributes_of_file file ++ attributes_in_views input.records.endian (section_size_of memory_state input.records) records
 
 -- After these records comes a sample with this number of frames. They don't fit after `used` others.
 pub record LacksSpaceFor (old : InMemoryRecords) (file : PerfFile) (records : List RecordView) (frames : List FrameEntry) (used needed : ℕ) (new : InMemoryRecords) (file' : PerfFile) : Type 0 where
@@ -50,7 +50,7 @@ pub record LacksSpaceFor (old : InMemoryRecords) (file : PerfFile) (records : Li
 abbrev pub EndsPage : InMemoryRecords → PerfFile → List RecordView → List FrameEntry → ℕ → InMemoryRecords → PerfFile → PageEnd → InMemoryRecords → PerfFile → Type 0
 EndsPage old file records frames used now now_file Full new file' = Unit {0}
 EndsPage old file records frames used now now_file (NoSpace needed) new file' = LacksSpaceFor old file records frames used needed new file'
-EndsPage old file records frames used now now_file (Records r) new file' = WalkEnds now.iter now_file r new.iter file' × NeedsMemoryInPipeOnly now r
+EndsPage old file records frames used now now_file (Records r) new file' = WalkEnds now.records now_file r new.records file' × NeedsMemoryInPipeOnly now r
 
 -- The array of samples is full only at an end that says so.
 abbrev pub HasRoom : PageEnd → ℕ → ℕ → Type 0

@@ -26,7 +26,7 @@ pub record WalksAllEntries {E : Type 0} (IsOf : EntryRelation E) (old : InMemory
   pub attributes_are : attributes_of_file file' ≡ attributes_after old file records
   pub count_is : walked.count ≡ length own
   pub written : entries' ≡ with_prefix own entries
-  pub ends : WalkEnds input_at_end.iter file_at_end walked.end new.iter file'
+  pub ends : WalkEnds input_at_end.records file_at_end walked.end new.records file'
   pub memory : NeedsMemoryForMetadataOnly input_at_end walked.end new
 
 -- The entries are those of the records after the opening of a pipe. The attributes of each are those of the opening and of the records

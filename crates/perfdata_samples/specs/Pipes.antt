@@ -51,7 +51,7 @@ pub record WalksAllSamples (old : InMemoryRecords) (file : PerfFile) (samples : 
   pub written : samples' ≡ with_prefix own samples
   pub frames_count_is : walked.frames_count ≡ length own_frames
   pub frames_written : frames' ≡ with_prefix own_frames frames
-  pub ends : WalkEnds input_at_end.iter file_at_end walked.end new.iter file'
+  pub ends : WalkEnds input_at_end.records file_at_end walked.end new.records file'
   pub memory : NeedsMemoryForMetadataOnly input_at_end walked.end new
 
 -- The samples are those of the records after the opening of a pipe. The attributes of each are those of the opening and of the records

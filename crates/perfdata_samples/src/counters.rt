@@ -188,19 +188,19 @@ fn has_counters(record_type: u32) -> bool
 }
 
 // The counter values of a record; `None` if it has none, or can't be parsed.
-fn values_of_record<'a>(file: &PerfFile, file_record: &PerfFileRecord<'a>) -> Option<ReadValues<'a>>
-    ensures { (place : RecordPlace) → (base : ℕ) → AreCountersOf (endian_of_file file.now)
-        (attributes_of_file file.now) base (record_view_of place file_record.now)
+fn values_of_record<'a>(perf_file: &PerfFile, record: &PerfFileRecord<'a>) -> Option<ReadValues<'a>>
+    ensures { (place : RecordPlace) → (base : ℕ) → AreCountersOf (endian_of_file perf_file.now)
+        (attributes_of_file perf_file.now) base (record_view_of place «record».now)
         (counter_entries place.offset result) }
 {
-    let PerfFileRecord::EventRecord { attr_index, event } = file_record else {
+    let PerfFileRecord::EventRecord { attr_index, event } = record else {
         return None;
     };
     if !has_counters(event.record_type.0) {
         return None;
     }
-    let description = file.event_attributes().get(*attr_index)?;
-    let format = EventFormat::new(description.attributes(), file.endian());
+    let description = perf_file.event_attributes().get(*attr_index)?;
+    let format = EventFormat::new(description.attributes(), perf_file.endian());
     match format.parse(event) {
         Ok(parsed) => values_of_event(&parsed),
         Err(_) => None,
@@ -218,17 +218,17 @@ struct CounterPage {
 // Writes the counters of the next records. Ends before a record whose counters don't fit.
 fn walk_counters(
     input: &mut InMemoryRecords<'_>,
-    file: &mut PerfFile,
+    perf_file: &mut PerfFile,
     counters: &mut [CounterEntry],
 ) -> CounterPage
-    ensures { WalksCounters input.old file.old counters.old result input.new file.new counters.new }
+    ensures { WalksCounters input.old perf_file.old counters.old result input.new perf_file.new counters.new }
 {
     let mut count = 0;
     'records: while count < counters.len() {
         let next = input.position();
-        match input.next_record(file) {
-            Ok(Some((place, file_record))) => {
-                let values = values_of_record(file, &file_record);
+        match input.next_record(perf_file) {
+            Ok(Some((place, record))) => {
+                let values = values_of_record(perf_file, &record);
                 match add_counters(place.offset, &values, counters, count) {
                     Ok(added) => count += added,
                     Err(needed) => {
@@ -291,9 +291,9 @@ pub fn file_counters(
             return CountersResult { count: 0, status };
         }
     };
-    let mut file = reader.perf_file;
+    let mut perf_file = reader.perf_file;
     let mut input = reader.records;
-    let page = walk_counters(&mut input, &mut file, counters);
+    let page = walk_counters(&mut input, &mut perf_file, counters);
     *position = page.next;
     CountersResult {
         count: used_of_page_end(&page.end, page.count, page.count),
@@ -304,17 +304,17 @@ pub fn file_counters(
 // Reads all records. Counts their counters, and writes them up to the capacity of `counters`.
 fn walk_all_counters(
     input: &mut InMemoryRecords<'_>,
-    file: &mut PerfFile,
+    perf_file: &mut PerfFile,
     counters: &mut [CounterEntry],
 ) -> EntriesWalk
-    ensures { WalksAllEntries AreCountersOf input.old file.old counters.old result input.new file.new
-        counters.new }
+    ensures { WalksAllEntries AreCountersOf input.old perf_file.old counters.old result
+        input.new perf_file.new counters.new }
 {
     let mut count = 0;
     'records: loop {
-        match input.next_record(file) {
-            Ok(Some((place, file_record))) => {
-                let values = values_of_record(file, &file_record);
+        match input.next_record(perf_file) {
+            Ok(Some((place, record))) => {
+                let values = values_of_record(perf_file, &record);
                 count += write_counters_at(place.offset, &values, counters, count);
             }
             Ok(None) => {
@@ -351,9 +351,9 @@ pub fn pipe_counters(alloc: Global, bytes: &[u8], counters: &mut [CounterEntry])
             return EntriesResult { count: 0, status };
         }
     };
-    let mut file = reader.perf_file;
+    let mut perf_file = reader.perf_file;
     let mut input = reader.records;
-    let walked = walk_all_counters(&mut input, &mut file, counters);
+    let walked = walk_all_counters(&mut input, &mut perf_file, counters);
     EntriesResult {
         count: walked.count,
         status: status_of_end(&walked.end),

@@ -49,19 +49,19 @@ struct EntryPage {
 // Writes the entries of the next records of a kind, up to the capacity of `entries`.
 fn walk_entries<E: RecordEntry>(
     input: &mut InMemoryRecords<'_>,
-    file: &mut PerfFile,
+    perf_file: &mut PerfFile,
     entries: &mut [E],
 ) -> EntryPage
-    ensures { WalksEntries (IsEntryOf E.has_type E.entry_of) input.old file.old entries.old result
-        input.new file.new entries.new }
+    ensures { WalksEntries (IsEntryOf E.has_type E.entry_of) input.old perf_file.old entries.old result
+        input.new perf_file.new entries.new }
 {
     let base = input.first_record_offset();
     let mut count = 0;
     'records: while count < entries.len() {
         let next = input.position();
-        match input.next_record(file) {
-            Ok(Some((place, file_record))) => {
-                let entry = entry_of_record(file, base, place, &file_record);
+        match input.next_record(perf_file) {
+            Ok(Some((place, record))) => {
+                let entry = entry_of_record(perf_file, base, place, &record);
                 count += write_option(entries, count, entry);
             }
             Ok(None) => {
@@ -116,9 +116,9 @@ pub(crate) fn file_entries<E: RecordEntry>(
             return EntriesResult { count: 0, status };
         }
     };
-    let mut file = reader.perf_file;
+    let mut perf_file = reader.perf_file;
     let mut input = reader.records;
-    let page = walk_entries(&mut input, &mut file, entries);
+    let page = walk_entries(&mut input, &mut perf_file, entries);
     *position = page.next;
     EntriesResult {
         count: page.count,
@@ -136,18 +136,18 @@ pub(crate) struct EntriesWalk {
 // Reads all records. Counts the entries of those of a kind, and writes them up to the capacity of `entries`.
 fn walk_all_entries<E: RecordEntry>(
     input: &mut InMemoryRecords<'_>,
-    file: &mut PerfFile,
+    perf_file: &mut PerfFile,
     entries: &mut [E],
 ) -> EntriesWalk
-    ensures { WalksAllEntries (IsEntryOf E.has_type E.entry_of) input.old file.old entries.old result
-        input.new file.new entries.new }
+    ensures { WalksAllEntries (IsEntryOf E.has_type E.entry_of) input.old perf_file.old entries.old result
+        input.new perf_file.new entries.new }
 {
     let base = input.first_record_offset();
     let mut count = 0;
     'records: loop {
-        match input.next_record(file) {
-            Ok(Some((place, file_record))) => {
-                let entry = entry_of_record(file, base, place, &file_record);
+        match input.next_record(perf_file) {
+            Ok(Some((place, record))) => {
+                let entry = entry_of_record(perf_file, base, place, &record);
                 count += write_option(entries, count, entry);
             }
             Ok(None) => {
@@ -181,9 +181,9 @@ pub(crate) fn pipe_entries<E: RecordEntry>(
             return EntriesResult { count: 0, status };
         }
     };
-    let mut file = reader.perf_file;
+    let mut perf_file = reader.perf_file;
     let mut input = reader.records;
-    let walked = walk_all_entries(&mut input, &mut file, entries);
+    let walked = walk_all_entries(&mut input, &mut perf_file, entries);
     EntriesResult {
         count: walked.count,
         status: status_of_end(&walked.end),

@@ -32,23 +32,23 @@ pub(crate) trait RecordEntry: Copy {
 // The entry of a record; `None` if it isn't of this kind, or can't be parsed. The first record of the input
 // is at offset `base`.
 pub(crate) fn entry_of_record<E: RecordEntry>(
-    file: &PerfFile,
+    perf_file: &PerfFile,
     base: u64,
     place: RecordPlace,
-    file_record: &PerfFileRecord<'_>,
+    record: &PerfFileRecord<'_>,
 ) -> Option<E>
     requires { base + place.offset + 72 < 2 ^ 64 }
-    ensures { IsEntryOf E.has_type E.entry_of (endian_of_file file.now) (attributes_of_file file.now) base
-        (record_view_of place file_record.now) (list_of result) }
+    ensures { IsEntryOf E.has_type E.entry_of (endian_of_file perf_file.now)
+        (attributes_of_file perf_file.now) base (record_view_of place «record».now) (list_of result) }
 {
-    let PerfFileRecord::EventRecord { attr_index, event } = file_record else {
+    let PerfFileRecord::EventRecord { attr_index, event } = record else {
         return None;
     };
     if !E::is_of_type(event.record_type.0) {
         return None;
     }
-    let description = file.event_attributes().get(*attr_index)?;
-    let format = EventFormat::new(description.attributes(), file.endian());
+    let description = perf_file.event_attributes().get(*attr_index)?;
+    let format = EventFormat::new(description.attributes(), perf_file.endian());
     match format.parse(event) {
         Ok(parsed) => E::of_event(
             EntryEnvelope {

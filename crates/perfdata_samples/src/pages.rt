@@ -47,20 +47,20 @@ pub(crate) struct SamplePage {
 // Writes the samples of the next records and their frames, as many as both arrays have capacity for.
 pub(crate) fn walk_samples(
     input: &mut InMemoryRecords<'_>,
-    file: &mut PerfFile,
+    perf_file: &mut PerfFile,
     samples: &mut [Sample],
     frames: &mut [FrameEntry],
 ) -> SamplePage
-    ensures { WalksSamples input.old file.old samples.old frames.old result input.new file.new samples.new
-        frames.new }
+    ensures { WalksSamples input.old perf_file.old samples.old frames.old result input.new perf_file.new
+        samples.new frames.new }
 {
     let mut count = 0;
     let mut used = 0;
     'records: while count < samples.len() {
         let next = input.position();
-        match input.next_record(file) {
+        match input.next_record(perf_file) {
             Ok(Some((place, record))) => {
-                match add_record(file, place, &record, samples, count, frames, used) {
+                match add_record(perf_file, place, &record, samples, count, frames, used) {
                     Ok(added) => {
                         count += added.samples;
                         used += added.frames;
@@ -167,9 +167,9 @@ pub fn file_samples(
             };
         }
     };
-    let mut file = reader.perf_file;
+    let mut perf_file = reader.perf_file;
     let mut input = reader.records;
-    let page = walk_samples(&mut input, &mut file, samples, frames);
+    let page = walk_samples(&mut input, &mut perf_file, samples, frames);
     *position = page.next;
     SamplesResult {
         count: page.count,

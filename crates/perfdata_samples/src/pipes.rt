@@ -40,7 +40,7 @@ fn write_frames_at(body: &SampleBody<'_>, frames: &mut [FrameEntry], used: usize
 // the capacities. Returns their numbers.
 #[inline(always)]
 fn count_record(
-    file: &PerfFile,
+    perf_file: &PerfFile,
     place: RecordPlace,
     record: &PerfFileRecord<'_>,
     samples: &mut [Sample],
@@ -48,10 +48,10 @@ fn count_record(
     frames: &mut [FrameEntry],
     used: usize,
 ) -> AddedCounts
-    ensures { CountsRecord (endian_of_file file.now) (attributes_of_file file.now)
+    ensures { CountsRecord (endian_of_file perf_file.now) (attributes_of_file perf_file.now)
         (record_view_of place record.now) count used samples.old frames.old result samples.new frames.new }
 {
-    let Some(parts) = sample_parts(file, record) else {
+    let Some(parts) = sample_parts(perf_file, record) else {
         return AddedCounts {
             samples: 0,
             frames: 0,
@@ -84,19 +84,19 @@ struct SamplesWalk {
 // Reads all records. Counts their samples and frames, and writes them up to the capacities.
 fn walk_all_samples(
     input: &mut InMemoryRecords<'_>,
-    file: &mut PerfFile,
+    perf_file: &mut PerfFile,
     samples: &mut [Sample],
     frames: &mut [FrameEntry],
 ) -> SamplesWalk
-    ensures { WalksAllSamples input.old file.old samples.old frames.old result input.new file.new samples.new
-        frames.new }
+    ensures { WalksAllSamples input.old perf_file.old samples.old frames.old result input.new perf_file.new
+        samples.new frames.new }
 {
     let mut count = 0;
     let mut used = 0;
     'records: loop {
-        match input.next_record(file) {
+        match input.next_record(perf_file) {
             Ok(Some((place, record))) => {
-                let added = count_record(file, place, &record, samples, count, frames, used);
+                let added = count_record(perf_file, place, &record, samples, count, frames, used);
                 count += added.samples;
                 used += added.frames;
             }
@@ -157,9 +157,9 @@ pub fn pipe_samples(
             };
         }
     };
-    let mut file = reader.perf_file;
+    let mut perf_file = reader.perf_file;
     let mut input = reader.records;
-    let walked = walk_all_samples(&mut input, &mut file, samples, frames);
+    let walked = walk_all_samples(&mut input, &mut perf_file, samples, frames);
     let status = SamplesStatus::Records(status_of_end(&walked.end));
     SamplesResult {
         count: walked.count,

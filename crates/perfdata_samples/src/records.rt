@@ -32,11 +32,11 @@ pub(crate) fn saturate(number: usize) -> u32
 // The parts of a sample's record. `None` for another record.
 #[inline(always)]
 pub(crate) fn sample_parts<'a>(
-    file: &PerfFile,
+    perf_file: &PerfFile,
     record: &PerfFileRecord<'a>,
 ) -> Option<SampleParts<'a>>
-    ensures { (place : RecordPlace) → ArePartsOf (endian_of_file file.now) (attributes_of_file file.now)
-        (record_view_of place record.now) result }
+    ensures { (place : RecordPlace) → ArePartsOf (endian_of_file perf_file.now)
+        (attributes_of_file perf_file.now) (record_view_of place record.now) result }
 {
     let PerfFileRecord::EventRecord { attr_index, event } = record else {
         return None;
@@ -44,9 +44,9 @@ pub(crate) fn sample_parts<'a>(
     if event.record_type.0 != RecordType::SAMPLE.0 {
         return None;
     }
-    let description = file.event_attributes().get(*attr_index)?;
+    let description = perf_file.event_attributes().get(*attr_index)?;
     Some(SampleParts {
-        format: EventFormat::new(description.attributes(), file.endian()),
+        format: EventFormat::new(description.attributes(), perf_file.endian()),
         body: event.body,
         attr_index: saturate(*attr_index),
         misc: event.misc,
@@ -86,7 +86,7 @@ pub(crate) struct AddedCounts {
 // sample. If its frames don't fit, adds nothing and returns their number as the error.
 #[inline(always)]
 pub(crate) fn add_record(
-    file: &PerfFile,
+    perf_file: &PerfFile,
     place: RecordPlace,
     record: &PerfFileRecord<'_>,
     samples: &mut [Sample],
@@ -96,10 +96,10 @@ pub(crate) fn add_record(
 ) -> Result<AddedCounts, usize>
     requires free { count < length samples.old }
     requires within { used ≤ length frames.old }
-    ensures { AddsRecord (endian_of_file file.now) (attributes_of_file file.now)
+    ensures { AddsRecord (endian_of_file perf_file.now) (attributes_of_file perf_file.now)
         (record_view_of place record.now) count used samples.old frames.old result samples.new frames.new }
 {
-    let Some(parts) = sample_parts(file, record) else {
+    let Some(parts) = sample_parts(perf_file, record) else {
         return Ok(AddedCounts {
             samples: 0,
             frames: 0,

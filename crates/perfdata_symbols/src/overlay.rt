@@ -30,7 +30,11 @@ fn later_symbol(earlier: Option<usize>, later: Option<usize>) -> Option<usize>
 // The front after one more cut of the lower list.
 fn take_lower(front: Front, cut: Cut) -> Front
     requires { front.lower_count < 2 ^ 63 }
-    ensures { result ≡ record front { lower_count = front.lower_count + 1; start = cut.start; below = cut.symbol } }
+    ensures { result ≡ record front {
+      lower_count = front.lower_count + 1;
+      start = cut.start;
+      below = cut.symbol;
+    } }
 {
     Front {
         lower_count: front.lower_count + 1,
@@ -43,7 +47,11 @@ fn take_lower(front: Front, cut: Cut) -> Front
 // The front after one more cut of the upper list.
 fn take_upper(front: Front, cut: Cut) -> Front
     requires { front.upper_count < 2 ^ 63 }
-    ensures { result ≡ record front { upper_count = front.upper_count + 1; start = cut.start; above = cut.symbol } }
+    ensures { result ≡ record front {
+      upper_count = front.upper_count + 1;
+      start = cut.start;
+      above = cut.symbol;
+    } }
 {
     Front {
         upper_count: front.upper_count + 1,

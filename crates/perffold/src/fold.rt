@@ -187,12 +187,12 @@ impl<'a> Folder<'a> {
     }
 
     // Reads the metadata of the recording for its symbols, before the first sample.
-    fn read_metadata(&mut self, file: &PerfFile) -> Result<(), Error> {
+    fn read_metadata(&mut self, perf_file: &PerfFile) -> Result<(), Error> {
         if self.has_metadata {
             return Ok(());
         }
         self.has_metadata = true;
-        self.frame_names.read_metadata(file)
+        self.frame_names.read_metadata(perf_file)
     }
 
     // Adds a sample of an event.
@@ -209,18 +209,18 @@ impl<'a> Folder<'a> {
     // Adds a record of an event.
     fn add_event(
         &mut self,
-        file: &PerfFile,
+        perf_file: &PerfFile,
         index: usize,
         raw: &RawEventRecord<'_>,
     ) -> Result<(), Error> {
-        let Some(event) = file.event_attributes().get(index) else {
+        let Some(event) = perf_file.event_attributes().get(index) else {
             return Ok(());
         };
-        let format = EventFormat::new(event.attributes(), file.endian());
+        let format = EventFormat::new(event.attributes(), perf_file.endian());
         match format.parse(raw)? {
             EventRecord::Sample(sample) => {
-                if self.selection.selects(file, index) {
-                    self.read_metadata(file)?;
+                if self.selection.selects(perf_file, index) {
+                    self.read_metadata(perf_file)?;
                     return self.add_sample(event.attributes(), raw.misc, &sample);
                 }
                 self.other_events = self.other_events.saturating_add(1);
@@ -242,10 +242,14 @@ impl<'a> Folder<'a> {
     }
 
     // Adds a record.
-    fn add_record(&mut self, file: &PerfFile, record: &PerfFileRecord<'_>) -> Result<(), Error> {
+    fn add_record(
+        &mut self,
+        perf_file: &PerfFile,
+        record: &PerfFileRecord<'_>,
+    ) -> Result<(), Error> {
         match record {
             PerfFileRecord::EventRecord { attr_index, event } => {
-                self.add_event(file, *attr_index, event)
+                self.add_event(perf_file, *attr_index, event)
             }
             PerfFileRecord::UserRecord(user)
                 if user.record_type == UserRecordType::PERF_HEADER_BUILD_ID => {
@@ -259,11 +263,11 @@ impl<'a> Folder<'a> {
     fn add_next(
         &mut self,
         records: &mut Records<'_>,
-        file: &mut PerfFile,
+        perf_file: &mut PerfFile,
     ) -> Result<bool, InputError> {
-        match records.next_record(file) {
+        match records.next_record(perf_file) {
             Ok(Some((place, record))) => {
-                if let Err(cause) = self.add_record(file, &record) {
+                if let Err(cause) = self.add_record(perf_file, &record) {
                     let position = self.position(Some(place.offset));
                     return Err(InputError::Record { position, cause });
                 }
@@ -279,10 +283,10 @@ impl<'a> Folder<'a> {
     pub(crate) fn add_all(
         &mut self,
         records: &mut Records<'_>,
-        file: &mut PerfFile,
+        perf_file: &mut PerfFile,
     ) -> Result<(), InputError> {
         for _ in 0..u64::MAX {
-            if !self.add_next(records, file)? {
+            if !self.add_next(records, perf_file)? {
                 break;
             }
         }

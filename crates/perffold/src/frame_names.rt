@@ -138,9 +138,9 @@ impl<'a> FrameNames<'a> {
     }
 
     /// Reads the metadata of the recording.
-    pub(crate) fn read_metadata(&mut self, file: &PerfFile) -> Result<(), Error> {
+    pub(crate) fn read_metadata(&mut self, perf_file: &PerfFile) -> Result<(), Error> {
         match &mut self.source {
-            NameSource::Symbols(symbols) => symbols.read_metadata(file),
+            NameSource::Symbols(symbols) => symbols.read_metadata(perf_file),
             _ => Ok(()),
         }
     }

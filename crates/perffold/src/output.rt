@@ -113,10 +113,10 @@ fn fold_opened(
     source: NameSource<'_>,
     reader: InMemoryReader<'_>,
 ) -> Result<(), ProgramError> {
-    let mut file = reader.perf_file;
-    let mut records = Records::new(rt.alloc(), &file, reader.records);
+    let mut perf_file = reader.perf_file;
+    let mut records = Records::new(rt.alloc(), &perf_file, reader.records);
     let mut folder = Folder::new(rt.alloc(), arguments.options, source);
-    let read = folder.add_all(&mut records, &mut file);
+    let read = folder.add_all(&mut records, &mut perf_file);
     finish(rt, name, &arguments, folder, read)
 }
 

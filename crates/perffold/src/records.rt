@@ -17,8 +17,8 @@ pub(crate) enum Records<'a> {
 }
 
 // Returns whether the records that aren't samples have times.
-fn has_times(file: &PerfFile) -> bool {
-    for event in file.event_attributes() {
+fn has_times(perf_file: &PerfFile) -> bool {
+    for event in perf_file.event_attributes() {
         let flags = EventFlags::from_bits_retain(event.attributes().flags.0);
         if flags.contains(EventFlags::SAMPLE_ID_ALL) {
             return true;
@@ -29,8 +29,12 @@ fn has_times(file: &PerfFile) -> bool {
 
 impl<'a> Records<'a> {
     /// Returns the records in order of time or, if only samples have times, in the order of the input.
-    pub(crate) fn new(alloc: Global, file: &PerfFile, records: InMemoryRecords<'a>) -> Records<'a> {
-        if has_times(file) {
+    pub(crate) fn new(
+        alloc: Global,
+        perf_file: &PerfFile,
+        records: InMemoryRecords<'a>,
+    ) -> Records<'a> {
+        if has_times(perf_file) {
             Records::Ordered(InMemoryOrderedRecords::new(alloc, records))
         } else {
             Records::InInputOrder(records)
@@ -40,11 +44,11 @@ impl<'a> Records<'a> {
     /// Returns the next record, or `None` at the end.
     pub(crate) fn next_record(
         &mut self,
-        file: &mut PerfFile,
+        perf_file: &mut PerfFile,
     ) -> Result<Option<(RecordPlace, PerfFileRecord<'a>)>, Error> {
         match self {
-            Records::Ordered(records) => records.next_record(file),
-            Records::InInputOrder(records) => records.next_record(file),
+            Records::Ordered(records) => records.next_record(perf_file),
+            Records::InInputOrder(records) => records.next_record(perf_file),
         }
     }
 }

@@ -32,12 +32,12 @@ impl<'a> Selection<'a> {
     }
 
     /// Returns whether the samples of an event are counted.
-    pub(crate) fn selects(&mut self, file: &PerfFile, index: usize) -> bool {
+    pub(crate) fn selects(&mut self, perf_file: &PerfFile, index: usize) -> bool {
         match *self {
             Selection::All => true,
             Selection::Index(selected) => selected == index,
-            Selection::Named(selected) => has_name(file, index, selected),
-            Selection::NameOf(first) => first == index || have_one_name(file, first, index),
+            Selection::Named(selected) => has_name(perf_file, index, selected),
+            Selection::NameOf(first) => first == index || have_one_name(perf_file, first, index),
             Selection::First => {
                 *self = Selection::NameOf(index);
                 true
@@ -47,22 +47,22 @@ impl<'a> Selection<'a> {
 }
 
 // Returns the name of an event.
-fn name_of(file: &PerfFile, index: usize) -> Option<&str> {
-    file.event_attributes().get(index)?.name()
+fn name_of(perf_file: &PerfFile, index: usize) -> Option<&str> {
+    perf_file.event_attributes().get(index)?.name()
 }
 
 // Returns whether an event has a name.
-fn has_name(file: &PerfFile, index: usize, name: &str) -> bool {
-    match name_of(file, index) {
+fn has_name(perf_file: &PerfFile, index: usize, name: &str) -> bool {
+    match name_of(perf_file, index) {
         Some(found) => found == name,
         None => false,
     }
 }
 
 // Returns whether two events have the same name.
-fn have_one_name(file: &PerfFile, first: usize, second: usize) -> bool {
-    match name_of(file, first) {
-        Some(name) => has_name(file, second, name),
+fn have_one_name(perf_file: &PerfFile, first: usize, second: usize) -> bool {
+    match name_of(perf_file, first) {
+        Some(name) => has_name(perf_file, second, name),
         None => false,
     }
 }

@@ -171,10 +171,10 @@ impl<'a> Symbols<'a> {
     }
 
     /// Reads the build ids and the symbols of the recording.
-    pub(crate) fn read_metadata(&mut self, file: &PerfFile) -> Result<(), Error> {
+    pub(crate) fn read_metadata(&mut self, perf_file: &PerfFile) -> Result<(), Error> {
         let alloc = self.rt.alloc();
-        self.build_ids.add_metadata(alloc, file)?;
-        if let Some(records) = file.simpleperf_symbol_tables(alloc)? {
+        self.build_ids.add_metadata(alloc, perf_file)?;
+        if let Some(records) = perf_file.simpleperf_symbol_tables(alloc)? {
             for record in records.iter() {
                 self.add_recorded(record)?;
             }

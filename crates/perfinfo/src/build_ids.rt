@@ -13,11 +13,11 @@ use std::collections::HashMap;
 type DsoEntry<'a> = (&'a DsoKey, &'a DsoInfo);
 
 /// Writes the build ids, ordered by path, and the symbol files.
-pub(crate) fn show(alloc: Global, file: &PerfFile, report: &mut Report) {
-    if let Some(ids) = report.value_or_note("build ids", file.build_ids(alloc).map(Some)) {
+pub(crate) fn show(alloc: Global, perf_file: &PerfFile, report: &mut Report) {
+    if let Some(ids) = report.value_or_note("build ids", perf_file.build_ids(alloc).map(Some)) {
         show_build_ids(alloc, &ids, report);
     }
-    let section = file.simpleperf_symbol_tables(alloc);
+    let section = perf_file.simpleperf_symbol_tables(alloc);
     if let Some(files) = report.value_or_note("symbol files", section) {
         show_symbol_files(&files, report);
     }

@@ -10,9 +10,9 @@ use perfdata_events::bits::EventFlags;
 use std::fmt;
 
 /// Writes one item for each event, with the fields of its attribute, its ids and its counts.
-pub(crate) fn show(file: &PerfFile, counts: &RecordCounts, report: &mut Report) {
-    report.number("events", file.event_attributes().len() as u64);
-    for (index, event) in file.event_attributes().iter().enumerate() {
+pub(crate) fn show(perf_file: &PerfFile, counts: &RecordCounts, report: &mut Report) {
+    report.number("events", perf_file.event_attributes().len() as u64);
+    for (index, event) in perf_file.event_attributes().iter().enumerate() {
         show_event(index, event, counts.event_counts(index), report);
     }
 }

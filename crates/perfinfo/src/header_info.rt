@@ -8,26 +8,26 @@ use std::collections::HashMap;
 use std::fmt;
 
 /// Writes all lines. A missing value has no line.
-pub(crate) fn show(alloc: Global, file: &PerfFile, report: &mut Report) {
-    show_strings(file, report);
-    show_numbers(file, report);
-    show_command_line(alloc, file, report);
-    show_times(file, report);
-    show_clock(file, report);
-    show_compression(file, report);
-    show_features(file, report);
-    show_pmu_mappings(alloc, file, report);
-    show_meta_info(alloc, file, report);
+pub(crate) fn show(alloc: Global, perf_file: &PerfFile, report: &mut Report) {
+    show_strings(perf_file, report);
+    show_numbers(perf_file, report);
+    show_command_line(alloc, perf_file, report);
+    show_times(perf_file, report);
+    show_clock(perf_file, report);
+    show_compression(perf_file, report);
+    show_features(perf_file, report);
+    show_pmu_mappings(alloc, perf_file, report);
+    show_meta_info(alloc, perf_file, report);
 }
 
 // Writes the feature sections that contain a string.
-fn show_strings(file: &PerfFile, report: &mut Report) {
-    report.string_line("host name", file.hostname());
-    report.string_line("OS release", file.os_release());
-    report.string_line("perf version", file.perf_version());
-    report.string_line("architecture", file.arch());
-    report.string_line("CPU description", file.cpu_desc());
-    report.string_line("CPU id", file.cpu_id());
+fn show_strings(perf_file: &PerfFile, report: &mut Report) {
+    report.string_line("host name", perf_file.hostname());
+    report.string_line("OS release", perf_file.os_release());
+    report.string_line("perf version", perf_file.perf_version());
+    report.string_line("architecture", perf_file.arch());
+    report.string_line("CPU description", perf_file.cpu_desc());
+    report.string_line("CPU id", perf_file.cpu_id());
 }
 
 /// Returns the name of a byte order.
@@ -39,20 +39,20 @@ pub(crate) fn byte_order_name(endian: Endianness) -> &'static str {
 }
 
 // Writes the numeric values and the byte order.
-fn show_numbers(file: &PerfFile, report: &mut Report) {
-    if let Some(cpus) = report.value_or_note("CPUs", file.nr_cpus()) {
+fn show_numbers(perf_file: &PerfFile, report: &mut Report) {
+    if let Some(cpus) = report.value_or_note("CPUs", perf_file.nr_cpus()) {
         report.number("CPUs available", cpus.nr_cpus_available as u64);
         report.number("CPUs online", cpus.nr_cpus_online as u64);
     }
-    report.number_line("memory in kB", file.total_mem());
-    report.word("byte order", byte_order_name(file.endian()));
-    let stat = if file.is_stats() { "yes" } else { "no" };
+    report.number_line("memory in kB", perf_file.total_mem());
+    report.word("byte order", byte_order_name(perf_file.endian()));
+    let stat = if perf_file.is_stats() { "yes" } else { "no" };
     report.word("written by perf stat", stat);
 }
 
 // Writes the recording's command line, with spaces between the arguments.
-fn show_command_line(alloc: Global, file: &PerfFile, report: &mut Report) {
-    if let Some(arguments) = report.value_or_note("command line", file.cmdline(alloc)) {
+fn show_command_line(alloc: Global, perf_file: &PerfFile, report: &mut Report) {
+    if let Some(arguments) = report.value_or_note("command line", perf_file.cmdline(alloc)) {
         report.line("command line", CommandLine(arguments.as_slice()));
     }
 }
@@ -73,17 +73,17 @@ impl fmt::Display for CommandLine<'_> {
 }
 
 // Writes the times of the first and the last sample from the sample time section.
-fn show_times(file: &PerfFile, report: &mut Report) {
-    if let Some(times) = report.value_or_note("sample times", file.sample_time_range()) {
+fn show_times(perf_file: &PerfFile, report: &mut Report) {
+    if let Some(times) = report.value_or_note("sample times", perf_file.sample_time_range()) {
         report.number("first sample in ns", times.first_sample_time);
         report.number("last sample in ns", times.last_sample_time);
     }
 }
 
 // Writes the clock of the timestamps.
-fn show_clock(file: &PerfFile, report: &mut Report) {
-    report.number_line("clock tick in ns", file.clock_frequency());
-    if let Some(clock) = report.value_or_note("clock", file.clock_data()) {
+fn show_clock(perf_file: &PerfFile, report: &mut Report) {
+    report.number_line("clock tick in ns", perf_file.clock_frequency());
+    if let Some(clock) = report.value_or_note("clock", perf_file.clock_data()) {
         report.word("clock", clock_name(clock.clockid));
         report.number("clock number", clock.clockid as u64);
         report.number("clock time in ns", clock.clockid_time_ns);
@@ -92,8 +92,8 @@ fn show_clock(file: &PerfFile, report: &mut Report) {
 }
 
 // Writes how the records are compressed.
-fn show_compression(file: &PerfFile, report: &mut Report) {
-    if let Some(compression) = report.value_or_note("compression", file.compression_info()) {
+fn show_compression(perf_file: &PerfFile, report: &mut Report) {
+    if let Some(compression) = report.value_or_note("compression", perf_file.compression_info()) {
         report.number("compression type", compression.type_ as u64);
         report.number("compression version", compression.version as u64);
         report.number("compression level", compression.level as u64);
@@ -103,18 +103,18 @@ fn show_compression(file: &PerfFile, report: &mut Report) {
 }
 
 // Writes the features, each with the size of its section in bytes.
-fn show_features(file: &PerfFile, report: &mut Report) {
-    report.number("features", file.features().len() as u64);
-    for feature in file.features().iter() {
-        if let Some(section) = file.feature_section_data(feature) {
+fn show_features(perf_file: &PerfFile, report: &mut Report) {
+    report.number("features", perf_file.features().len() as u64);
+    for feature in perf_file.features().iter() {
+        if let Some(section) = perf_file.feature_section_data(feature) {
             report.item(feature, section.len());
         }
     }
 }
 
 // Writes the performance monitoring units, ordered by number.
-fn show_pmu_mappings(alloc: Global, file: &PerfFile, report: &mut Report) {
-    let section = file.pmu_mappings(alloc);
+fn show_pmu_mappings(alloc: Global, perf_file: &PerfFile, report: &mut Report) {
+    let section = perf_file.pmu_mappings(alloc);
     if let Some(units) = report.value_or_note("PMU mappings", section) {
         report.number("PMU mappings", units.0.len() as u64);
         for (number, name) in units.0.iter() {
@@ -127,8 +127,8 @@ fn show_pmu_mappings(alloc: Global, file: &PerfFile, report: &mut Report) {
 type Pair<'a> = (&'a &'a str, &'a &'a str);
 
 // Writes simpleperf's meta info, ordered by key.
-fn show_meta_info(alloc: Global, file: &PerfFile, report: &mut Report) {
-    let section = file.simpleperf_meta_info(alloc);
+fn show_meta_info(alloc: Global, perf_file: &PerfFile, report: &mut Report) {
+    let section = perf_file.simpleperf_meta_info(alloc);
     if let Some(map) = report.value_or_note("meta info", section) {
         show_pairs(alloc, &map, report);
     }

@@ -63,13 +63,13 @@ fn print_report(
     reader: &PerfFileReader<Source>,
     counts: &RecordCounts,
 ) -> Result<(), ProgramError> {
-    let file = &reader.perf_file;
+    let perf_file = &reader.perf_file;
     let mut report = Report::new(rt.alloc(), rt.stdout()).map_err(InputError::Io)?;
-    header_info::show(rt.alloc(), file, &mut report);
-    events::show(file, counts, &mut report);
+    header_info::show(rt.alloc(), perf_file, &mut report);
+    events::show(perf_file, counts, &mut report);
     records::show(counts, &mut report);
     contents::show(rt.alloc(), &counts.contents, &mut report);
-    build_ids::show(rt.alloc(), file, &mut report);
+    build_ids::show(rt.alloc(), perf_file, &mut report);
     report.finish()
 }
 

@@ -66,13 +66,13 @@ struct RecordSummary {
 
 impl RecordSummary {
     // Returns the values of a record with this size of aux data.
-    fn new(place: &RecordPlace, file_record: &PerfFileRecord<'_>, aux_size: u64) -> RecordSummary {
+    fn new(place: &RecordPlace, record: &PerfFileRecord<'_>, aux_size: u64) -> RecordSummary {
         RecordSummary {
-            record_type: file_record.record_type().0,
-            attr_index: file_record.attr_index(),
+            record_type: record.record_type().0,
+            attr_index: record.attr_index(),
             timestamp: place.timestamp,
             round: place.round,
-            end: record_end(place, file_record),
+            end: record_end(place, record),
             aux_size,
         }
     }
@@ -182,23 +182,23 @@ fn aux_data_size(alloc: Global, user: &RawUserRecord<'_>) -> Result<u64, Error> 
 }
 
 // Returns the format of the records of an event.
-fn event_format(file: &PerfFile, index: usize) -> Option<EventFormat> {
-    let event = file.event_attributes().get(index)?;
-    Some(EventFormat::new(event.attributes(), file.endian()))
+fn event_format(perf_file: &PerfFile, index: usize) -> Option<EventFormat> {
+    let event = perf_file.event_attributes().get(index)?;
+    Some(EventFormat::new(event.attributes(), perf_file.endian()))
 }
 
 // Adds the body of a record to the counts. Returns the size in bytes of the aux data of an auxtrace record,
 // or 0 for other records.
 fn count_body(
     alloc: Global,
-    file: &PerfFile,
-    file_record: &PerfFileRecord<'_>,
+    perf_file: &PerfFile,
+    record: &PerfFileRecord<'_>,
     contents: &mut Contents,
 ) -> Result<u64, Error> {
-    match file_record {
+    match record {
         PerfFileRecord::UserRecord(user) => aux_data_size(alloc, user),
         PerfFileRecord::EventRecord { attr_index, event } => {
-            if let Some(format) = event_format(file, *attr_index) {
+            if let Some(format) = event_format(perf_file, *attr_index) {
                 contents.add(alloc, &format, event)?;
             }
             Ok(0)
@@ -210,13 +210,13 @@ fn count_body(
 fn next_summary<R: Source>(
     alloc: Global,
     records: &mut PerfRecordIter<R>,
-    file: &mut PerfFile,
+    perf_file: &mut PerfFile,
     contents: &mut Contents,
 ) -> Result<Option<RecordSummary>, Error> {
-    let Some((place, record)) = records.next_record(file)? else {
+    let Some((place, record)) = records.next_record(perf_file)? else {
         return Ok(None);
     };
-    let aux_size = count_body(alloc, file, &record, contents)?;
+    let aux_size = count_body(alloc, perf_file, &record, contents)?;
     Ok(Some(RecordSummary::new(&place, &record, aux_size)))
 }
 

@@ -55,8 +55,8 @@ steps_of_entry old new file file' entry returned =
 
 -- ---- the count of the lines
 
-offset_after : (old now : InMemoryRecords) (file file' : PerfFile) (records : List RecordView) → ReturnsRecordsInMemory old file records now file' → old.iter.offset + length records ≤ now.iter.offset
-offset_after old now file file' [] (same, same_file) = (let e = ap (λ i. i.iter.offset) same in omega (arith, e))
+offset_after : (old now : InMemoryRecords) (file file' : PerfFile) (records : List RecordView) → ReturnsRecordsInMemory old file records now file' → old.records.offset + length records ≤ now.records.offset
+offset_after old now file file' [] (same, same_file) = (let e = ap (λ i. i.records.offset) same in omega (arith, e))
 offset_after old now file file' (h ∷ hs) (next, (next_file, (place, (r, step, is)), more)) =
     let rest = offset_after next now next_file file' hs more in
     let moved = step.returns.offset in
@@ -73,8 +73,8 @@ count_fits old now file file' (h ∷ k ∷ ks) (next, (next_file, (place, (r, st
     let start = step.returns.record_offset in
     omega (arith, fits, rest, moved, start)
   where
-    last_fits : (old now : InMemoryRecords) (file file' : PerfFile) (h : RecordView) (hs : List RecordView) → ReturnsRecordsInMemory old file (h ∷ hs) now file' → now.iter.offset < 2 ^ 64
-    last_fits old now file file' h [] (next, (next_file, (place, (r, step, is)), (same, same_file))) = (let at = ap (λ i. i.iter.offset) same in let fits = step.returns.offset_fits in omega (arith, at, fits))
+    last_fits : (old now : InMemoryRecords) (file file' : PerfFile) (h : RecordView) (hs : List RecordView) → ReturnsRecordsInMemory old file (h ∷ hs) now file' → now.records.offset < 2 ^ 64
+    last_fits old now file file' h [] (next, (next_file, (place, (r, step, is)), (same, same_file))) = (let at = ap (λ i. i.records.offset) same in let fits = step.returns.offset_fits in omega (arith, at, fits))
     last_fits old now file file' h (k ∷ ks) (next, (next_file, one, more)) = last_fits next now next_file file' k ks more
 
 -- fewer than 2^64 records are returned, since each is read at an offset of its own

@@ -11,16 +11,16 @@ use std::io::Write;
 // Writes the line of the next record in order of time. Returns whether there is one.
 fn list_next<L: RecordLine, W: Write>(
     records: &mut InMemoryOrderedRecords<'_>,
-    file: &mut PerfFile,
+    perf_file: &mut PerfFile,
     line: &mut L,
     out: &mut W,
 ) -> Result<bool, ListCause>
-    ensures { ListsNextByTime L.is_line L.allocates records.old file.old (W.contents out.old) result
-        (W.contents out.new) records.new file.new }
+    ensures { ListsNextByTime L.is_line L.allocates records.old perf_file.old (W.contents out.old) result
+        (W.contents out.new) records.new perf_file.new }
 {
-    match records.next_record(file) {
+    match records.next_record(perf_file) {
         Ok(Some((place, record))) => {
-            write_record(place, &record, file, line, out)?;
+            write_record(place, &record, perf_file, line, out)?;
             Ok(true)
         }
         Ok(None) => Ok(false),
@@ -41,11 +41,11 @@ pub(crate) fn list_by_time<L: RecordLine, W: Write>(
     ensures { ListsByTime L.is_line L.allocates reader.entry.records reader.entry.perf_file
         (W.contents out.old) result (W.contents out.new) }
 {
-    let mut file = reader.perf_file;
+    let mut perf_file = reader.perf_file;
     let mut records = InMemoryOrderedRecords::new(alloc, reader.records);
     let mut lines = 0u64;
     'records: loop {
-        match list_next(&mut records, &mut file, line, out) {
+        match list_next(&mut records, &mut perf_file, line, out) {
             Ok(true) => lines += 1,
             Ok(false) => return Ok(lines),
             Err(cause) => return Err(ListFault { lines, cause }),

@@ -43,12 +43,12 @@ impl RecordLine for TrackedLine<'_> {
     fn set(
         &mut self,
         place: RecordPlace,
-        file_record: &PerfFileRecord<'_>,
-        file: &PerfFile,
+        record: &PerfFileRecord<'_>,
+        perf_file: &PerfFile,
     ) -> Result<(), Error> {
-        match self.line.set(place, file_record, file) {
+        match self.line.set(place, record, perf_file) {
             Ok(()) => {
-                self.position.add(&place, file_record);
+                self.position.add(&place, record);
                 self.progress.add_record(self.position.offset.unwrap_or(0));
                 Ok(())
             }

@@ -20,11 +20,11 @@ pub fn count_records(alloc: Global, bytes: &[u8]) -> Result<u64, Error>
     laws::consecutive_calls::<Cursor<&[u8]>>();
     laws::file_reading::<Cursor<&[u8]>>();
     let reader = PerfFileReader::parse_file(alloc, Cursor::new(bytes))?;
-    let mut file = reader.perf_file;
-    let mut iter = reader.record_iter;
+    let mut perf_file = reader.perf_file;
+    let mut records = reader.record_iter;
     let mut count = 0u64;
     'records: loop {
-        match iter.next_record(&mut file) {
+        match records.next_record(&mut perf_file) {
             Ok(Some((_place, _record))) => count += 1,
             Ok(None) => return Ok(count),
             Err(error) => return Err(error),
@@ -43,11 +43,11 @@ pub fn count_pipe_records(alloc: Global, bytes: &[u8]) -> Result<u64, Error>
     laws::consecutive_calls::<Cursor<&[u8]>>();
     laws::pipe_reading::<Cursor<&[u8]>>();
     let reader = PerfFileReader::parse_pipe(alloc, Cursor::new(bytes))?;
-    let mut file = reader.perf_file;
-    let mut iter = reader.record_iter;
+    let mut perf_file = reader.perf_file;
+    let mut records = reader.record_iter;
     let mut count = 0u64;
     'records: loop {
-        match iter.next_record(&mut file) {
+        match records.next_record(&mut perf_file) {
             Ok(Some((_place, _returned))) => count += 1,
             Ok(None) => return Ok(count),
             Err(error) => return Err(error),

@@ -35,10 +35,10 @@ fn push_next(
 macro_rules! push_all {
     ($out:expr, $has_sizes:expr, $opened:expr, $records:ident => $early:expr) => {
         match $opened {
-            Ok((mut file, mut $records)) => {
+            Ok((mut perf_file, mut $records)) => {
                 let mut is_ended = false;
                 for _ in 0..u64::MAX {
-                    let is_record = push_next($out, $has_sizes, $records.next_record(&mut file))?;
+                    let is_record = push_next($out, $has_sizes, $records.next_record(&mut perf_file))?;
                     if !is_record && $early != 0 {
                         writeln!($out, "early {}", $early)?;
                     }
@@ -57,18 +57,18 @@ type Opened<R> = Result<(PerfFile, R), Error>;
 
 // Opens a source, with a budget unless it is 0.
 fn ordered(call: &Call<'_>, source: Script, budget: u64) -> Opened<OrderedRecords<Script>> {
-    let (file, records) = open(call.alloc, is_pipe(call.case.call), source)?;
+    let (perf_file, records) = open(call.alloc, is_pipe(call.case.call), source)?;
     let records = match budget {
         0 => OrderedRecords::new(call.alloc, records),
         _ => OrderedRecords::with_budget(call.alloc, records, budget),
     };
-    Ok((file, records))
+    Ok((perf_file, records))
 }
 
 fn ordered_in_memory<'a>(call: &Call<'a>) -> Opened<InMemoryOrderedRecords<'a>> {
     let is_pipe = is_pipe(call.case.call);
-    let (file, records) = open_in_memory(call.alloc, is_pipe, call.input.bytes)?;
-    Ok((file, InMemoryOrderedRecords::new(call.alloc, records)))
+    let (perf_file, records) = open_in_memory(call.alloc, is_pipe, call.input.bytes)?;
+    Ok((perf_file, InMemoryOrderedRecords::new(call.alloc, records)))
 }
 
 /// The records of a source in order of time. Those of the input in memory follow if they differ, unless the

@@ -20,18 +20,18 @@ type Next<'a> = Result<Option<(RecordPlace, PerfFileRecord<'a>)>, Error>;
 
 // The records of an input.
 trait Records {
-    fn next<'a>(&'a mut self, file: &mut PerfFile) -> Next<'a>;
+    fn next<'a>(&'a mut self, perf_file: &mut PerfFile) -> Next<'a>;
 }
 
 impl<R: Source> Records for PerfRecordIter<R> {
-    fn next<'a>(&'a mut self, file: &mut PerfFile) -> Next<'a> {
-        self.next_record(file)
+    fn next<'a>(&'a mut self, perf_file: &mut PerfFile) -> Next<'a> {
+        self.next_record(perf_file)
     }
 }
 
 impl Records for InMemoryRecords<'_> {
-    fn next<'a>(&'a mut self, file: &mut PerfFile) -> Next<'a> {
-        self.next_record(file)
+    fn next<'a>(&'a mut self, perf_file: &mut PerfFile) -> Next<'a> {
+        self.next_record(perf_file)
     }
 }
 
@@ -73,14 +73,14 @@ pub fn metadata_after(
     bytes: &[u8],
     count: usize,
 ) -> Result<Box<PerfFile>, Error> {
-    let (file, mut records) = open(alloc, is_pipe, Cursor::new(bytes))?;
-    let mut file = Box::new(alloc, file)?;
+    let (perf_file, mut records) = open(alloc, is_pipe, Cursor::new(bytes))?;
+    let mut perf_file = Box::new(alloc, perf_file)?;
     for _ in 0..count {
-        if !matches!(records.next_record(&mut file), Ok(Some(_))) {
+        if !matches!(records.next_record(&mut perf_file), Ok(Some(_))) {
             break;
         }
     }
-    Ok(file)
+    Ok(perf_file)
 }
 
 // The reading of a case. The first record has this offset.
@@ -142,11 +142,11 @@ impl Reading<'_> {
     }
 
     // Appends the values of the accessors that the option `of` names, and ends the line.
-    fn push_values(&self, file: &PerfFile, out: &mut String) -> CaseResult {
+    fn push_values(&self, perf_file: &PerfFile, out: &mut String) -> CaseResult {
         match self.call.case.option("of") {
             Some(_) => {
                 out.push_str(" ")?;
-                push_accessors(&self.call, file, out)
+                push_accessors(&self.call, perf_file, out)
             }
             None => Ok(out.push_str("\n")?),
         }
@@ -168,22 +168,22 @@ impl Reading<'_> {
     fn push_records<I: Records>(
         &self,
         records: &mut I,
-        file: &mut PerfFile,
+        perf_file: &mut PerfFile,
         out: &mut String,
     ) -> CaseResult {
         let mut is_end = false;
         for _ in 0..MAX_RECORDS {
-            let next = records.next(file);
+            let next = records.next(perf_file);
             let is_record = matches!(next, Ok(Some(_)));
             is_end = matches!(next, Ok(None));
             self.push_next(&next, out)?;
-            self.push_values(file, out)?;
+            self.push_values(perf_file, out)?;
             if !is_record {
                 break;
             }
         }
         for _ in 0..2 {
-            self.push_later(&records.next(file), is_end, out)?;
+            self.push_later(&records.next(perf_file), is_end, out)?;
         }
         Ok(())
     }
@@ -194,7 +194,7 @@ impl Reading<'_> {
         opened: Result<(PerfFile, I), Error>,
         out: &mut String,
     ) -> CaseResult {
-        let (mut file, mut records) = match opened {
+        let (mut perf_file, mut records) = match opened {
             Ok(opened) => opened,
             Err(error) => {
                 out.push_str("open: ")?;
@@ -203,10 +203,10 @@ impl Reading<'_> {
         };
         if self.call.case.option("of").is_some() {
             out.push_str("open:")?;
-            self.push_values(&file, out)?;
+            self.push_values(&perf_file, out)?;
         }
         let Some(name) = self.call.case.option("other") else {
-            return self.push_records(&mut records, &mut file, out);
+            return self.push_records(&mut records, &mut perf_file, out);
         };
         match metadata_after(
             self.call.alloc,

@@ -11,12 +11,12 @@ use std::io::Cursor;
 // Appends the number of bytes that are left before the first and after each record.
 fn push_left(
     records: &mut PerfRecordIter<&mut &[u8]>,
-    file: &mut PerfFile,
+    perf_file: &mut PerfFile,
     out: &mut String,
 ) -> CaseResult {
     for _ in 0..=records.get_ref().len() {
         push_line(out, &records.get_ref().len())?;
-        if !matches!(records.next_record(file), Ok(Some(_))) {
+        if !matches!(records.next_record(perf_file), Ok(Some(_))) {
             break;
         }
     }
@@ -28,9 +28,9 @@ pub fn push_bytes_left(call: &Call<'_>, out: &mut String) -> CaseResult {
     let mut rest = call.input.bytes;
     match PerfFileReader::parse_pipe(call.alloc, &mut rest) {
         Ok(reader) => {
-            let mut file = reader.perf_file;
+            let mut perf_file = reader.perf_file;
             let mut records = reader.record_iter;
-            push_left(&mut records, &mut file, out)
+            push_left(&mut records, &mut perf_file, out)
         }
         Err(error) => push_result(out, &Err::<(), Error>(error)),
     }
@@ -53,14 +53,14 @@ const UNWRITTEN: RecordEntry = RecordEntry {
 // Appends the number of the entries of the next records, two entries, and the offset and the round of the
 // record after them.
 fn push_two_entries(
-    file: &mut PerfFile,
+    perf_file: &mut PerfFile,
     records: &mut InMemoryRecords<'_>,
     out: &mut String,
 ) -> CaseResult {
     let mut entries = [UNWRITTEN; 2];
-    push_line(out, &records.read_entries(file, &mut entries))?;
+    push_line(out, &records.read_entries(perf_file, &mut entries))?;
     push_line(out, &entries)?;
-    match records.next_record(file) {
+    match records.next_record(perf_file) {
         Ok(next) => push_line(out, &next.map(|(place, _)| (place.offset, place.round))),
         Err(error) => push_result(out, &Err::<(), Error>(error)),
     }
@@ -68,12 +68,12 @@ fn push_two_entries(
 
 // Appends the bodies of two records after both are read.
 fn push_two_bodies(
-    file: &mut PerfFile,
+    perf_file: &mut PerfFile,
     records: &mut InMemoryRecords<'_>,
     out: &mut String,
 ) -> CaseResult {
-    let first = records.next_record(file);
-    let second = records.next_record(file);
+    let first = records.next_record(perf_file);
+    let second = records.next_record(perf_file);
     match (first, second) {
         (Ok(Some((_, first))), Ok(Some((_, second)))) => {
             push_line(out, &first.body())?;
@@ -88,9 +88,9 @@ fn push_two_bodies(
 pub fn push_in_memory(call: &Call<'_>, out: &mut String) -> CaseResult {
     let is_pipe = is_pipe(call.case.option("format").unwrap_or(""));
     match open_in_memory(call.alloc, is_pipe, call.input.bytes) {
-        Ok((mut file, mut records)) => match call.case.call {
-            "entries" => push_two_entries(&mut file, &mut records, out),
-            _ => push_two_bodies(&mut file, &mut records, out),
+        Ok((mut perf_file, mut records)) => match call.case.call {
+            "entries" => push_two_entries(&mut perf_file, &mut records, out),
+            _ => push_two_bodies(&mut perf_file, &mut records, out),
         },
         Err(error) => push_result(out, &Err::<(), Error>(error)),
     }

@@ -10,8 +10,8 @@ ghost use Rattle.linux_perf_data.specs.Consistency.{TestsSampleIdAll, ChecksEach
 use bitflags::Flags;
 use perfdata_base::attr::{AttrFlags, PerfEventAttr, SampleFormat};
 use perfdata_base::place::RecordIdParseInfo;
-use perfdata_parts::error::Error;
-use perfdata_parts::feature_sections::AttributeDescription;
+use perfdata_sections::error::Error;
+use perfdata_sections::feature_sections::AttributeDescription;
 
 // Whether the records of all attributes have their identifiers at the offsets of the first attribute's
 // records.

@@ -1,7 +1,7 @@
 //! The index of attributes by their first ids.
 ghost use Rattle.std.specs.Prelude.{◌≡◌, length, OnOk};
 
-use perfdata_parts::feature_sections::AttributeDescription;
+use perfdata_sections::feature_sections::AttributeDescription;
 use std::alloc::{AllocError, Global};
 use std::collections::BTreeMap;
 

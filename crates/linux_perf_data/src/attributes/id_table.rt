@@ -5,7 +5,7 @@ ghost use Rattle.linux_perf_data.specs.Descriptions.{described_attributes};
 ghost use Rattle.linux_perf_data.specs.IdPairs.{last_index_of_id, id_pairs_of, rank_of_id, AreOrdered};
 ghost use Rattle.linux_perf_data.specs.IdPairs.{AreAscending, IsInsertionPoint, TestsLastOfId, TestsPairAt};
 
-use perfdata_parts::feature_sections::AttributeDescription;
+use perfdata_sections::feature_sections::AttributeDescription;
 use std::alloc::{AllocError, Global};
 use std::collections::BTreeMap;
 

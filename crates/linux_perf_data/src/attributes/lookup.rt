@@ -12,8 +12,8 @@ use perfdata_base::attr::PerfEventAttr;
 use perfdata_base::event::RecordType;
 use perfdata_base::place::{IdCache, RecordIdParseInfo, RecordParseInfo};
 use perfdata_base::raw::Endianness;
-use perfdata_parts::error::Error;
-use perfdata_parts::feature_sections::AttributeDescription;
+use perfdata_sections::error::Error;
+use perfdata_sections::feature_sections::AttributeDescription;
 use std::alloc::{AllocError, Global};
 
 // The data on attributes that an iterator needs: the parse infos of their records, the lookup of an attribute

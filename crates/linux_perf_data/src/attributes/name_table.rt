@@ -6,8 +6,8 @@ ghost use Rattle.linux_perf_data.specs.Names.{CopiesName};
 
 use crate::attributes::names::read_event_desc;
 use perfdata_base::raw::Endianness;
-use perfdata_parts::error::Error;
-use perfdata_parts::feature_sections::AttributeDescription;
+use perfdata_sections::error::Error;
+use perfdata_sections::feature_sections::AttributeDescription;
 use std::alloc::{AllocError, Global};
 use std::collections::BTreeMap;
 

@@ -9,8 +9,8 @@ ghost use Rattle.linux_perf_data.specs.Names.{names_in, name_bytes_of};
 use crate::attributes::name_table::NameTable;
 use byteorder::{BigEndian, LittleEndian};
 use perfdata_base::raw::Endianness;
-use perfdata_parts::error::Error;
-use perfdata_parts::feature_sections::AttributeDescription;
+use perfdata_sections::error::Error;
+use perfdata_sections::feature_sections::AttributeDescription;
 use std::alloc::Global;
 use std::io::Cursor;
 

@@ -10,8 +10,8 @@ ghost use Rattle.linux_perf_data.specs.Renames.{IsUnlistedOrKept, KeepsName, Tes
 
 use crate::attributes::first_id_index::FirstIdIndex;
 use crate::attributes::name_table::NameTable;
-use perfdata_parts::error::Error;
-use perfdata_parts::feature_sections::AttributeDescription;
+use perfdata_sections::error::Error;
+use perfdata_sections::feature_sections::AttributeDescription;
 use std::alloc::Global;
 
 // Whether two names are equal.

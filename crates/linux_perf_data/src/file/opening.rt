@@ -21,9 +21,9 @@ use perfdata_base::header::{self, PerfHeader};
 use perfdata_base::raw::Endianness;
 use perfdata_base::section::PerfFileSection;
 use perfdata_base::source::PlacedSource;
-use perfdata_parts::error::{Error, ReadError};
-use perfdata_parts::feature_sections::AttributeDescription;
-use perfdata_parts::simpleperf::{SimplePerfEventType, get_event_types, parse_meta_info_map};
+use perfdata_sections::error::{Error, ReadError};
+use perfdata_sections::feature_sections::AttributeDescription;
+use perfdata_simpleperf::simpleperf::{SimplePerfEventType, get_event_types, parse_meta_info_map};
 use std::alloc::Global;
 
 // The metadata of a file, and the size of its data section.

@@ -12,7 +12,7 @@ use crate::records::iter::RecordPlace;
 use byteorder::{BigEndian, LittleEndian};
 use perfdata_base::event::PerfEventHeader;
 use perfdata_base::raw::{Endianness, FileOrder, RawData};
-use perfdata_parts::record::PerfFileRecord;
+use perfdata_records::record::PerfFileRecord;
 
 /// The position and the header fields of a record, as plain numbers.
 #[repr(C)]
@@ -51,10 +51,10 @@ impl RecordEntry {
     pub fn new(
         first_record_offset: u64,
         place: RecordPlace,
-        file_record: &PerfFileRecord<'_>,
+        record: &PerfFileRecord<'_>,
     ) -> RecordEntry
         requires fits { first_record_offset + place.offset + 8 < 2 ^ 64 }
-        ensures { result ≡ record_entry_at first_record_offset (record_view_of place file_record.now) }
+        ensures { result ≡ record_entry_at first_record_offset (record_view_of place «record».now) }
     {
         let (timestamp, has_timestamp) = match place.timestamp {
             Some(timestamp) => (timestamp, 1),
@@ -62,7 +62,7 @@ impl RecordEntry {
         };
         let first_body_offset = first_record_offset + PerfEventHeader::STRUCT_SIZE as u64;
         let body_offset = first_body_offset + place.offset;
-        match file_record {
+        match record {
             PerfFileRecord::EventRecord { attr_index, event } => RecordEntry {
                 offset: place.offset,
                 body_offset,
@@ -111,11 +111,14 @@ impl<'a> InMemoryRecords<'a> {
     {
         // For the prover: a slice is shorter than 2^63 bytes.
         let _size = self.input.len();
-        let (found, body) = walk.take_ahead_of(&mut self.iter, next);
-        let endian = self.iter.endian;
-        let parse_info = *self.iter.attribute_lookup.parse_info_of(found.attr_index());
-        let record = found.into_record(parse_info, endian, RawData::Single(body));
-        (found.place, record)
+        let (info, body) = walk.take_ahead_of(&mut self.records, next);
+        let endian = self.records.endian;
+        let parse_info = *self
+            .records
+            .attribute_lookup
+            .parse_info_of(info.attr_index());
+        let record = info.into_record(parse_info, endian, RawData::Single(body));
+        (info.place, record)
     }
 
     // Takes the next record of a walk from these records, and returns its entry. `perf_file` is for the
@@ -148,7 +151,7 @@ impl<'a> InMemoryRecords<'a> {
     pub fn read_entries(&mut self, perf_file: &PerfFile, entries: &mut [RecordEntry]) -> usize
         ensures { ReadsEntries self.old entries.old result self.new entries.new }
     {
-        let walk = match FileWalk::of(&self.iter) {
+        let walk = match FileWalk::of(&self.records) {
             Some(walk) => walk,
             None => return 0,
         };
@@ -169,7 +172,7 @@ impl<'a> InMemoryRecords<'a> {
         perf_file: &PerfFile,
         entries: &mut [RecordEntry],
     ) -> usize
-        requires walk { IsWalkOf self.old.iter walk }
+        requires walk { IsWalkOf self.old.records walk }
         requires same_endian { T.ENDIAN ≡ walk.endian }
         ensures { ReadsEntries self.old entries.old result self.new entries.new }
     {
@@ -201,11 +204,11 @@ impl<'a> InMemoryRecords<'a> {
         perf_file: &PerfFile,
         entries: &mut [RecordEntry],
     ) -> usize
-        requires { IsWalkOf self.old.iter walk }
+        requires { IsWalkOf self.old.records walk }
         ensures { ReadsEntries self.old entries.old result self.new entries.new }
     {
         let count = self.walk_entries(&mut walk, perf_file, entries);
-        walk.move_iter(&mut self.iter);
+        walk.move_iter(&mut self.records);
         count
     }
 
@@ -217,7 +220,7 @@ impl<'a> InMemoryRecords<'a> {
         perf_file: &PerfFile,
         entries: &mut [RecordEntry],
     ) -> usize
-        requires { IsWalkOf self.old.iter walk.old }
+        requires { IsWalkOf self.old.records walk.old }
         ensures { ReadsEntriesOfWalk self.old entries.old result self.new walk.new entries.new }
     {
         let first = self.first_record_offset;

@@ -16,7 +16,7 @@ use crate::records::iter::{PerfRecordIter, RecordInfo, Stage};
 use perfdata_base::event::PerfEventHeader;
 use perfdata_base::place::RecordParseInfo;
 use perfdata_base::raw::Endianness;
-use perfdata_parts::constants::PERF_RECORD_FINISHED_ROUND;
+use perfdata_sections::constants::PERF_RECORD_FINISHED_ROUND;
 use std::io::Cursor;
 
 // The state of a running iterator over a file.
@@ -82,24 +82,24 @@ pub(crate) struct WholeRecord {
 
 impl<'a> FileWalk<'a> {
     // The walk from the next record on. `None` if the iterator isn't running, or if it reads a pipe.
-    pub(crate) fn of(iter: &PerfRecordIter<Cursor<&'a [u8]>>) -> Option<FileWalk<'a>>
-        ensures { StartsWalk iter.now result }
+    pub(crate) fn of(records: &PerfRecordIter<Cursor<&'a [u8]>>) -> Option<FileWalk<'a>>
+        ensures { StartsWalk records.now result }
     {
-        match iter.stage {
+        match records.stage {
             Stage::Running => {}
             Stage::Failed => return None,
             Stage::Ended => return None,
         }
-        match iter.input {
+        match records.input {
             Input::Section(section_size) => Some(FileWalk {
-                endian: iter.endian,
+                endian: records.endian,
                 section_size,
-                round: iter.round,
-                offset: iter.offset,
-                remaining: remaining(&iter.source),
+                round: records.round,
+                offset: records.offset,
+                remaining: remaining(&records.source),
                 only_parse_info: parse_info_in(
-                    iter.endian,
-                    iter.attribute_lookup.only_parse_info(),
+                    records.endian,
+                    records.attribute_lookup.only_parse_info(),
                 ),
             }),
             Input::Pipe(_) => None,
@@ -200,56 +200,56 @@ impl<'a> FileWalk<'a> {
         self.remaining = &bytes[next.length..];
         let body = &bytes[PerfEventHeader::STRUCT_SIZE..next.length];
         let only = &self.only_parse_info;
-        let found = RecordInfo::identify_with(only, lookup, body, offset, self.round, next.header);
-        (found, body)
+        let info = RecordInfo::identify_with(only, lookup, body, offset, self.round, next.header);
+        (info, body)
     }
 
     // Takes the next record, with its body. Of the iterator, nothing changes but its lookup.
     #[inline(always)]
     pub(crate) fn take_ahead_of(
         &mut self,
-        iter: &mut PerfRecordIter<Cursor<&'a [u8]>>,
+        records: &mut PerfRecordIter<Cursor<&'a [u8]>>,
         next: WholeRecord,
     ) -> (RecordInfo, &'a [u8])
         requires next { IsNextRecord self.old next }
-        requires only { IfSome self.old.only_parse_info (HasOnly iter.old.attribute_lookup) }
-        ensures same_but_lookup { iter.new ≡ with_lookup iter.old iter.new.attribute_lookup }
+        requires only { IfSome self.old.only_parse_info (HasOnly records.old.attribute_lookup) }
+        ensures same_but_lookup { records.new ≡ with_lookup records.old records.new.attribute_lookup }
         ensures walk { MovesPast self.old next self.new }
         ensures body { result.1.now ≡ slice_range self.old.remaining.now 8 next.length }
-        ensures identifies { IdentifiesRecord iter.old.attribute_lookup self.old.offset self.old.round
-            next.header result.1.now result.0 iter.new.attribute_lookup }
-        ensures keeps_attributes { KeepsAttributes iter.old.attribute_lookup iter.new.attribute_lookup }
-        ensures keeps_only { IfSome self.old.only_parse_info (HasOnly iter.new.attribute_lookup) }
+        ensures identifies { IdentifiesRecord records.old.attribute_lookup self.old.offset self.old.round
+            next.header result.1.now result.0 records.new.attribute_lookup }
+        ensures keeps_attributes { KeepsAttributes records.old.attribute_lookup records.new.attribute_lookup }
+        ensures keeps_only { IfSome self.old.only_parse_info (HasOnly records.new.attribute_lookup) }
     {
-        self.take(&mut iter.attribute_lookup, next)
+        self.take(&mut records.attribute_lookup, next)
     }
 
     // Takes the next record of the iterator, with its body.
     #[inline(always)]
     pub(crate) fn take_from(
         mut self,
-        iter: &mut PerfRecordIter<Cursor<&'a [u8]>>,
+        records: &mut PerfRecordIter<Cursor<&'a [u8]>>,
         next: WholeRecord,
     ) -> (RecordInfo, &'a [u8])
-        requires walk { IsWalkOf iter.old self }
+        requires walk { IsWalkOf records.old self }
         requires next { IsNextRecord self next }
-        ensures { TakesFileRecord iter.old (Some result) iter.new }
+        ensures { TakesFileRecord records.old (Some result) records.new }
     {
-        let position = iter.source.position();
-        iter.source.set_position(position + next.length as u64);
-        iter.offset = next.end;
-        self.take(&mut iter.attribute_lookup, next)
+        let position = records.source.position();
+        records.source.set_position(position + next.length as u64);
+        records.offset = next.end;
+        self.take(&mut records.attribute_lookup, next)
     }
 
     // Moves the iterator to the position of the walk, which is ahead of it.
-    pub(crate) fn move_iter(self, iter: &mut PerfRecordIter<Cursor<&'a [u8]>>)
-        requires rounds_fit { iter.old.round ≤ self.offset }
-        requires remaining { length self.remaining.now ≤ length (remaining_in iter.old) }
-        ensures { MovesIter iter.old self.entry iter.new }
+    pub(crate) fn move_iter(self, records: &mut PerfRecordIter<Cursor<&'a [u8]>>)
+        requires rounds_fit { records.old.round ≤ self.offset }
+        requires remaining { length self.remaining.now ≤ length (remaining_in records.old) }
+        ensures { MovesIter records.old self.entry records.new }
     {
-        let walked = remaining(&iter.source).len() - self.remaining.len();
-        let position = iter.source.position();
-        iter.source.set_position(position + walked as u64);
-        iter.offset = self.offset;
+        let walked = remaining(&records.source).len() - self.remaining.len();
+        let position = records.source.position();
+        records.source.set_position(position + walked as u64);
+        records.offset = self.offset;
     }
 }

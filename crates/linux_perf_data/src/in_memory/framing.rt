@@ -9,9 +9,9 @@ use perfdata_base::endian::read_u64;
 use perfdata_base::event::PerfEventHeader;
 use perfdata_base::raw::Endianness;
 use perfdata_base::source::unexpected_eof;
-use perfdata_parts::auxtrace::Auxtrace;
-use perfdata_parts::constants::PERF_RECORD_AUXTRACE;
-use perfdata_parts::error::{Error, ReadError, unsupported};
+use perfdata_records::auxtrace::Auxtrace;
+use perfdata_sections::constants::PERF_RECORD_AUXTRACE;
+use perfdata_sections::error::{Error, ReadError, unsupported};
 use std::io::Cursor;
 
 // The remaining bytes of a cursor.

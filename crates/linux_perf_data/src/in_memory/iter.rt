@@ -14,8 +14,8 @@ use crate::records::input::Input;
 use crate::records::iter::{PerfRecordIter, RecordInfo, Stage};
 use perfdata_base::event::PerfEventHeader;
 use perfdata_base::source::unexpected_eof;
-use perfdata_parts::constants::PERF_RECORD_FINISHED_ROUND;
-use perfdata_parts::error::{Error, ReadError};
+use perfdata_sections::constants::PERF_RECORD_FINISHED_ROUND;
+use perfdata_sections::error::{Error, ReadError};
 use std::io::Cursor;
 
 // A raw record: a marker, or a record with its body and aux data; or the end of a pipe.
@@ -39,70 +39,72 @@ fn end_or_error<'a>(input: Input, error: Error) -> Result<RawRecord<'a>, Error>
 #[cold]
 #[inline(never)]
 fn take_record_parts<'a>(
-    iter: &mut PerfRecordIter<Cursor<&'a [u8]>>,
+    records: &mut PerfRecordIter<Cursor<&'a [u8]>>,
 ) -> Result<RawRecord<'a>, Error>
-    requires { iter.old.body.items ≡ [] }
-    ensures raw_record { TakesRawRecord iter.old result iter.new }
-    ensures same_buffer { iter.new.body ≡ iter.old.body }
+    requires { records.old.body.items ≡ [] }
+    ensures raw_record { TakesRawRecord records.old result records.new }
+    ensures same_buffer { records.new.body ≡ records.old.body }
 {
-    let header = match read_header(&mut iter.source, &mut iter.input, iter.endian)? {
+    let header = match read_header(&mut records.source, &mut records.input, records.endian)? {
         Some(header) => header,
-        None => return end_or_error(iter.input, Error::from(unexpected_eof())),
+        None => return end_or_error(records.input, Error::from(unexpected_eof())),
     };
     let body_size = body_size(header)?;
-    let end = record_end(iter.offset, header.size)?;
+    let end = record_end(records.offset, header.size)?;
     if header.type_ == PERF_RECORD_FINISHED_ROUND {
-        if !skip_bytes(&mut iter.source, body_size as u64) {
-            return end_or_error(iter.input, Error::Read(ReadError::PerfEventData));
+        if !skip_bytes(&mut records.source, body_size as u64) {
+            return end_or_error(records.input, Error::Read(ReadError::PerfEventData));
         }
-        iter.round += 1;
-        iter.offset = end;
+        records.round += 1;
+        records.offset = end;
         return Ok(RawRecord::Marker(header));
     }
-    match take_record_body(&mut iter.source, iter.endian, header, end)? {
+    match take_record_body(&mut records.source, records.endian, header, end)? {
         Some((body, end)) => {
-            iter.offset = end;
+            records.offset = end;
             Ok(RawRecord::Record(header, body))
         }
-        None => end_or_error(iter.input, Error::Read(ReadError::PerfEventData)),
+        None => end_or_error(records.input, Error::Read(ReadError::PerfEventData)),
     }
 }
 
 // Takes the next raw record.
 #[inline(always)]
-fn take_raw_record<'a>(iter: &mut PerfRecordIter<Cursor<&'a [u8]>>) -> Result<RawRecord<'a>, Error>
-    requires { iter.old.body.items ≡ [] }
-    ensures raw_record { TakesRawRecord iter.old result iter.new }
-    ensures same_buffer { iter.new.body ≡ iter.old.body }
+fn take_raw_record<'a>(
+    records: &mut PerfRecordIter<Cursor<&'a [u8]>>,
+) -> Result<RawRecord<'a>, Error>
+    requires { records.old.body.items ≡ [] }
+    ensures raw_record { TakesRawRecord records.old result records.new }
+    ensures same_buffer { records.new.body ≡ records.old.body }
 {
-    match take_whole_record(iter) {
+    match take_whole_record(records) {
         Some(raw_record) => Ok(raw_record),
-        None => take_record_parts(iter),
+        None => take_record_parts(records),
     }
 }
 
 // Identifies the record with this body by the attributes before it, and then applies its metadata.
 #[inline(always)]
 fn process_record(
-    iter: &mut PerfRecordIter<Cursor<&[u8]>>,
-    file: &mut PerfFile,
+    records: &mut PerfRecordIter<Cursor<&[u8]>>,
+    perf_file: &mut PerfFile,
     offset: u64,
     round: u64,
     header: PerfEventHeader,
     body: &[u8],
 ) -> Result<RecordInfo, Error>
-    ensures processes { ProcessesBody iter.old file.old offset round header body.now result iter.new
-        file.new }
-    ensures same_buffer { iter.new.body ≡ iter.old.body }
+    ensures processes { ProcessesBody records.old perf_file.old offset round header body.now result
+        records.new perf_file.new }
+    ensures same_buffer { records.new.body ≡ records.old.body }
 {
-    let found = RecordInfo::identify(&mut iter.attribute_lookup, body, offset, round, header);
-    match iter.input {
-        Input::Section(_) => Ok(found),
+    let info = RecordInfo::identify(&mut records.attribute_lookup, body, offset, round, header);
+    match records.input {
+        Input::Section(_) => Ok(info),
         Input::Pipe(_) => {
-            let (alloc, endian) = (iter.alloc, iter.endian);
-            let lookup = &mut iter.attribute_lookup;
-            apply_metadata(alloc, endian, lookup, file, header.type_, body)?;
-            Ok(found)
+            let (alloc, endian) = (records.alloc, records.endian);
+            let lookup = &mut records.attribute_lookup;
+            apply_metadata(alloc, endian, lookup, perf_file, header.type_, body)?;
+            Ok(info)
         }
     }
 }
@@ -111,70 +113,70 @@ fn process_record(
 // marker. Otherwise takes nothing.
 #[inline(always)]
 fn take_file_record<'a>(
-    iter: &mut PerfRecordIter<Cursor<&'a [u8]>>,
+    records: &mut PerfRecordIter<Cursor<&'a [u8]>>,
 ) -> Option<(RecordInfo, &'a [u8])>
-    ensures { TakesFileRecord iter.old result iter.new }
+    ensures { TakesFileRecord records.old result records.new }
 {
-    let walk = FileWalk::of(iter)?;
+    let walk = FileWalk::of(records)?;
     let next = walk.peek()?;
-    Some(walk.take_from(iter, next))
+    Some(walk.take_from(records, next))
 }
 
 // Takes the next record of a file or a pipe, with its body, after the markers before it.
 #[inline(never)]
 fn take_next_record<'a>(
-    iter: &mut PerfRecordIter<Cursor<&'a [u8]>>,
-    file: &mut PerfFile,
+    records: &mut PerfRecordIter<Cursor<&'a [u8]>>,
+    perf_file: &mut PerfFile,
 ) -> Result<Option<(RecordInfo, &'a [u8])>, Error>
-    ensures { TakesRecord iter.old file.old result iter.new file.new }
+    ensures { TakesRecord records.old perf_file.old result records.new perf_file.new }
 {
-    match iter.stage {
+    match records.stage {
         Stage::Running => {}
         Stage::Failed => return Err(Error::Failed),
         Stage::Ended => return Ok(None),
     }
-    iter.body.clear();
+    records.body.clear();
     // For the prover: the offset has 64 bits.
-    let _offset = iter.offset;
-    'raw_records: while iter.may_start_record() {
-        let offset = iter.offset;
-        let round = iter.round;
-        match take_raw_record(iter) {
+    let _offset = records.offset;
+    'raw_records: while records.may_start_record() {
+        let offset = records.offset;
+        let round = records.round;
+        match take_raw_record(records) {
             Ok(RawRecord::Marker(_)) => {}
             Ok(RawRecord::Record(header, body)) => {
-                match process_record(iter, file, offset, round, header, body) {
-                    Ok(found) => return Ok(Some((found, body))),
+                match process_record(records, perf_file, offset, round, header, body) {
+                    Ok(info) => return Ok(Some((info, body))),
                     Err(error) => {
-                        iter.offset = offset;
-                        iter.stage = Stage::Failed;
+                        records.offset = offset;
+                        records.stage = Stage::Failed;
                         return Err(error);
                     }
                 }
             }
             Ok(RawRecord::End) => {
-                iter.stage = Stage::Ended;
+                records.stage = Stage::Ended;
                 return Ok(None);
             }
             Err(error) => {
-                iter.stage = Stage::Failed;
+                records.stage = Stage::Failed;
                 return Err(error);
             }
         }
     }
-    iter.stage = Stage::Ended;
+    records.stage = Stage::Ended;
     Ok(None)
 }
 
 // Takes the next record, with its body.
 #[inline(always)]
 pub(crate) fn take_record<'a>(
-    iter: &mut PerfRecordIter<Cursor<&'a [u8]>>,
-    file: &mut PerfFile,
+    records: &mut PerfRecordIter<Cursor<&'a [u8]>>,
+    perf_file: &mut PerfFile,
 ) -> Result<Option<(RecordInfo, &'a [u8])>, Error>
-    ensures { TakesRecord iter.old file.old result iter.new file.new }
+    ensures { TakesRecord records.old perf_file.old result records.new perf_file.new }
 {
-    match take_file_record(iter) {
+    match take_file_record(records) {
         Some(taken) => Ok(Some(taken)),
-        None => take_next_record(iter, file),
+        None => take_next_record(records, perf_file),
     }
 }

@@ -2,7 +2,7 @@
 ghost use Rattle.std.specs.Prelude.{◌≡◌};
 
 use crate::in_memory::{InMemoryReader, InMemoryRecords};
-use perfdata_parts::error::Error;
+use perfdata_sections::error::Error;
 use std::alloc::Global;
 
 /// A position among the records of a file. That of zeros is the position of the first record.
@@ -25,8 +25,8 @@ impl InMemoryRecords<'_> {
         ensures { result ≡ position_of self.now }
     {
         RecordPosition {
-            offset: self.iter.offset,
-            round: self.iter.round,
+            offset: self.records.offset,
+            round: self.records.round,
         }
     }
 }
@@ -51,15 +51,16 @@ impl<'a> InMemoryReader<'a> {
     {
         let reader = InMemoryReader::parse_file(alloc, bytes)?;
         let first_record_offset = reader.records.first_record_offset;
-        let mut iter = reader.records.iter;
+        let mut moved = reader.records.records;
         // For the prover: the input is shorter than the largest position of a cursor.
         let _size = bytes.len();
-        iter.source
+        moved
+            .source
             .set_position(first_record_offset.saturating_add(position.offset));
-        iter.offset = position.offset;
-        iter.round = position.round.min(position.offset);
+        moved.offset = position.offset;
+        moved.round = position.round.min(position.offset);
         let records = InMemoryRecords {
-            iter,
+            records: moved,
             input: bytes,
             first_record_offset,
         };

@@ -5,10 +5,10 @@ ghost use Rattle.linux_perf_data.specs.BuildIds.{InsertsEntry, ParsesBuildIds};
 use perfdata_base::event::CpuMode;
 use perfdata_base::raw::Endianness;
 use perfdata_base::source::AppendError;
-use perfdata_parts::build_id_event::BuildIdEvent;
-use perfdata_parts::dso_info::DsoInfo;
-use perfdata_parts::dso_key::DsoKey;
-use perfdata_parts::error::Error;
+use perfdata_records::build_id_event::BuildIdEvent;
+use perfdata_records::dso_info::DsoInfo;
+use perfdata_records::dso_key::DsoKey;
+use perfdata_sections::error::Error;
 use std::alloc::Global;
 use std::collections::HashMap;
 

@@ -8,8 +8,8 @@ ghost use Rattle.linux_perf_data.specs.Values.{ParsesClockData, ParsesPmuMapping
 use byteorder::{BigEndian, LittleEndian};
 use perfdata_base::endian::{read_u32, read_u64};
 use perfdata_base::raw::Endianness;
-use perfdata_parts::error::Error;
-use perfdata_parts::feature_sections::{
+use perfdata_sections::error::Error;
+use perfdata_sections::feature_sections::{
     ClockData, CompressionInfo, NrCpus, PmuMappings, SampleTimeRange, before_nul,
 };
 use std::alloc::Global;

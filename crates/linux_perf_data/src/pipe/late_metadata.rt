@@ -15,9 +15,9 @@ use crate::perf_file::PerfFile;
 use crate::pipe::opening::{is_metadata, parse_attribute, parse_feature};
 use perfdata_base::features::Feature;
 use perfdata_base::raw::Endianness;
-use perfdata_parts::constants::PERF_RECORD_HEADER_ATTR;
-use perfdata_parts::error::Error;
-use perfdata_parts::feature_sections::AttributeDescription;
+use perfdata_sections::constants::PERF_RECORD_HEADER_ATTR;
+use perfdata_sections::error::Error;
+use perfdata_sections::feature_sections::AttributeDescription;
 use std::alloc::Global;
 use std::io;
 use std::io::ErrorKind;
@@ -198,16 +198,16 @@ fn apply_attribute(
     alloc: Global,
     endian: Endianness,
     lookup: &mut AttributeLookup,
-    file: &mut PerfFile,
+    perf_file: &mut PerfFile,
     body: &[u8],
 ) -> Result<(), Error>
-    ensures { AppliesAttribute endian lookup.old file.old body.now result lookup.new file.new }
+    ensures { AppliesAttribute endian lookup.old perf_file.old body.now result lookup.new perf_file.new }
 {
     let header = parse_attribute(alloc, endian, body)?;
-    let naming = file.find_names(alloc, endian, &header.ids)?;
-    file.reserve_one()?;
+    let naming = perf_file.find_names(alloc, endian, &header.ids)?;
+    perf_file.reserve_one()?;
     lookup.add(&header.attr, &header.ids, endian)?;
-    file.push_attribute(
+    perf_file.push_attribute(
         AttributeDescription::new(header.attr, None, header.ids),
         naming,
     );
@@ -218,16 +218,16 @@ fn apply_attribute(
 fn apply_feature(
     alloc: Global,
     endian: Endianness,
-    file: &mut PerfFile,
+    perf_file: &mut PerfFile,
     body: &[u8],
 ) -> Result<(), Error>
-    ensures { AppliesFeature endian file.old body.now result file.new }
+    ensures { AppliesFeature endian perf_file.old body.now result perf_file.new }
 {
     let header = parse_feature(alloc, endian, body)?;
     if header.feature == Feature::EVENT_DESC {
-        return file.replace_event_desc(alloc, endian, header.bytes);
+        return perf_file.replace_event_desc(alloc, endian, header.bytes);
     }
-    file.replace_feature(header.feature, header.bytes)
+    perf_file.replace_feature(header.feature, header.bytes)
 }
 
 // Applies a metadata record of a pipe. Any other record changes nothing. What the accessors of the `PerfFile`
@@ -239,22 +239,23 @@ pub(crate) fn apply_metadata(
     alloc: Global,
     endian: Endianness,
     lookup: &mut AttributeLookup,
-    file: &mut PerfFile,
+    perf_file: &mut PerfFile,
     record_type: u32,
     body: &[u8],
 ) -> Result<(), Error>
-    ensures applies { AppliesMetadata endian lookup.old file.old record_type body.now result lookup.new
-        file.new }
-    ensures other { record_type ≢ 64 → record_type ≢ 80 → (lookup.new ≡ lookup.old) × (file.new ≡ file.old) }
+    ensures applies { AppliesMetadata endian lookup.old perf_file.old record_type body.now result lookup.new
+        perf_file.new }
+    ensures other { record_type ≢ 64 → record_type ≢ 80 → (lookup.new ≡ lookup.old) ×
+        (perf_file.new ≡ perf_file.old) }
 {
     if !is_metadata(record_type) {
         return Ok(());
     }
-    if file.attributes.len() != lookup.attribute_count() {
+    if perf_file.attributes.len() != lookup.attribute_count() {
         return Err(mismatched_perf_file());
     }
     if record_type == PERF_RECORD_HEADER_ATTR {
-        return apply_attribute(alloc, endian, lookup, file, body);
+        return apply_attribute(alloc, endian, lookup, perf_file, body);
     }
-    apply_feature(alloc, endian, file, body)
+    apply_feature(alloc, endian, perf_file, body)
 }

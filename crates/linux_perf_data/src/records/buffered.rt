@@ -7,7 +7,7 @@ ghost use Rattle.linux_perf_data.specs.Layout.{MayStartAt};
 use crate::records::framing::peek_record;
 use crate::records::input::Input;
 use perfdata_base::raw::Endianness;
-use perfdata_parts::constants::PERF_RECORD_FINISHED_ROUND;
+use perfdata_sections::constants::PERF_RECORD_FINISHED_ROUND;
 
 // The bytes from `offset` on.
 fn from_offset(bytes: &[u8], offset: usize) -> &[u8]

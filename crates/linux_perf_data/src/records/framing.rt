@@ -16,11 +16,11 @@ use perfdata_base::endian::read_u64;
 use perfdata_base::event::{PerfEventHeader, RecordType};
 use perfdata_base::raw::Endianness;
 use perfdata_base::source::{AppendError, Source, append_up_to, skip_up_to, unexpected_eof};
-use perfdata_parts::auxtrace::Auxtrace;
-use perfdata_parts::constants::{
+use perfdata_records::auxtrace::Auxtrace;
+use perfdata_sections::constants::{
     PERF_RECORD_AUXTRACE, PERF_RECORD_COMPRESSED, PERF_RECORD_COMPRESSED2,
 };
-use perfdata_parts::error::{Error, ReadError, unsupported};
+use perfdata_sections::error::{Error, ReadError, unsupported};
 
 // The size of a record header in bytes, as a `u16`.
 const HEADER_SIZE: u16 = PerfEventHeader::STRUCT_SIZE as u16;

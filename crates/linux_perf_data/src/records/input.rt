@@ -6,7 +6,7 @@ ghost use Rattle.linux_perf_data.specs.RecordFraming.{ReadsHeaderBytes};
 
 use perfdata_base::event::PerfEventHeader;
 use perfdata_base::source::{Source, fill};
-use perfdata_parts::error::Error;
+use perfdata_sections::error::Error;
 
 // The bytes of a record header.
 pub(crate) type HeaderBytes = [u8; PerfEventHeader::STRUCT_SIZE];

@@ -15,9 +15,9 @@ use perfdata_base::event::{PerfEventHeader, RawEventRecord, RecordType};
 use perfdata_base::place::RecordParseInfo;
 use perfdata_base::raw::{Endianness, RawData};
 use perfdata_base::source::{Source, unexpected_eof};
-use perfdata_parts::constants::PERF_RECORD_FINISHED_ROUND;
-use perfdata_parts::error::{Error, ReadError};
-use perfdata_parts::record::{PerfFileRecord, RawUserRecord, UserRecordType};
+use perfdata_records::record::{PerfFileRecord, RawUserRecord, UserRecordType};
+use perfdata_sections::constants::PERF_RECORD_FINISHED_ROUND;
+use perfdata_sections::error::{Error, ReadError};
 use std::alloc::Global;
 
 /// The offset, the round and the time of a record.
@@ -129,12 +129,12 @@ impl RecordInfo {
     #[inline(always)]
     pub(crate) fn into_record<'a>(
         self,
-        places: RecordParseInfo,
+        parse_info: RecordParseInfo,
         endian: Endianness,
         body: RawData<'a>,
     ) -> PerfFileRecord<'a>
         ensures view { record_view_of self.place result
-            ≡ record_view_at places self endian (bytes_of body.entry) }
+            ≡ record_view_at parse_info self endian (bytes_of body.entry) }
         ensures same_body { file_record_body result ≡ body.entry }
     {
         match self.writer {
@@ -144,7 +144,7 @@ impl RecordInfo {
                     record_type: self.record_type,
                     misc: self.misc,
                     body,
-                    parse_info: places,
+                    parse_info,
                 },
             },
             Writer::User(record_type) => PerfFileRecord::UserRecord(RawUserRecord {
@@ -308,33 +308,33 @@ impl<R: Source> PerfRecordIter<R> {
     #[inline(always)]
     fn process_record(
         &mut self,
-        file: &mut PerfFile,
+        perf_file: &mut PerfFile,
         offset: u64,
         round: u64,
         header: PerfEventHeader,
     ) -> Result<RecordInfo, Error>
-        ensures processes { ProcessesRecord R.state self.old file.old offset round header result self.new
-            file.new }
+        ensures processes { ProcessesRecord R.state self.old perf_file.old offset round header result self.new
+            perf_file.new }
         ensures pauses { R.state self.new.source ≡ R.state self.old.source }
         ensures same_loan { R.loan self.new.source ≡ R.loan self.old.source }
     {
         let body = self.body.as_slice();
-        let found = RecordInfo::identify(&mut self.attribute_lookup, body, offset, round, header);
+        let info = RecordInfo::identify(&mut self.attribute_lookup, body, offset, round, header);
         match self.input {
-            Input::Section(_) => Ok(found),
+            Input::Section(_) => Ok(info),
             Input::Pipe(_) => {
                 let (alloc, endian) = (self.alloc, self.endian);
                 let lookup = &mut self.attribute_lookup;
-                apply_metadata(alloc, endian, lookup, file, header.type_, body)?;
-                Ok(found)
+                apply_metadata(alloc, endian, lookup, perf_file, header.type_, body)?;
+                Ok(info)
             }
         }
     }
 
     // Reads up to the end of the next record, whose body is then in `self.body`.
     #[inline(always)]
-    fn advance(&mut self, file: &mut PerfFile) -> Result<Option<RecordInfo>, Error>
-        ensures advances { Advances R.state self.old file.old result self.new file.new }
+    fn advance(&mut self, perf_file: &mut PerfFile) -> Result<Option<RecordInfo>, Error>
+        ensures advances { Advances R.state self.old perf_file.old result self.new perf_file.new }
         ensures memory_only_to_grow { MemoryOnlyToGrow R.state self.old result self.new }
         ensures pauses { PausesOnlyAtEndOrError (R.state self.old.source) result (R.state self.new.source) }
         ensures same_loan { R.loan self.new.source ≡ R.loan self.old.source }
@@ -353,8 +353,8 @@ impl<R: Source> PerfRecordIter<R> {
             match self.next_raw_record() {
                 Ok(Some(header)) => {
                     if header.type_ != PERF_RECORD_FINISHED_ROUND {
-                        match self.process_record(file, offset, round, header) {
-                            Ok(found) => return Ok(Some(found)),
+                        match self.process_record(perf_file, offset, round, header) {
+                            Ok(info) => return Ok(Some(info)),
                             Err(error) => {
                                 self.offset = offset;
                                 self.stage = Stage::Failed;
@@ -422,11 +422,11 @@ impl<R: Source> PerfRecordIter<R> {
             (λ new. NextRecord R.state R.loan self.old perf_file.old result new perf_file.new)) }
     {
         match self.advance(perf_file) {
-            Ok(Some(found)) => {
+            Ok(Some(info)) => {
                 let endian = self.endian;
-                let places = *self.attribute_lookup.parse_info_of(found.attr_index());
+                let parse_info = *self.attribute_lookup.parse_info_of(info.attr_index());
                 let body = RawData::Single(self.body.as_slice());
-                Ok(Some((found.place, found.into_record(places, endian, body))))
+                Ok(Some((info.place, info.into_record(parse_info, endian, body))))
             }
             Ok(None) => Ok(None),
             Err(error) => Err(error),

@@ -94,7 +94,8 @@ fn decode_symbol(alloc: Global, bytes: &[u8]) -> Result<SimpleperfSymbol, Decode
 fn push_packed(offsets: &mut Vec<u64>, bytes: &[u8]) -> Result<(), DecodeError>
     ensures on_ok { OnOk result ((ns : List ℕ) × ArePacked bytes.now ns
         × (offsets.new.items ≡ offsets.old.items ++ ns)) }
-    ensures on_error { IfErr result (λ e. ((e ≡ Memory) × BeginsWithNumber bytes.now) ⊎ PackedError bytes.now e) }
+    ensures on_error { IfErr result (λ e. ((e ≡ Memory) × BeginsWithNumber bytes.now) ⊎
+        PackedError bytes.now e) }
 {
     let mut rest = bytes;
     'numbers: while !rest.is_empty() {

@@ -24,8 +24,12 @@ impl BuildIds {
     }
 
     /// Adds the build ids of a recording's metadata.
-    pub(crate) fn add_metadata(&mut self, alloc: Global, file: &PerfFile) -> Result<(), Error> {
-        for object in file.build_ids(alloc)?.values() {
+    pub(crate) fn add_metadata(
+        &mut self,
+        alloc: Global,
+        perf_file: &PerfFile,
+    ) -> Result<(), Error> {
+        for object in perf_file.build_ids(alloc)?.values() {
             let path = object.path.to_vec(alloc)?;
             self.of_paths.insert(path, object.build_id.to_vec(alloc)?)?;
         }

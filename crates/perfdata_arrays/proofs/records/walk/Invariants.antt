@@ -8,4 +8,4 @@ invariant-records l = record {
 }
 
 abbrev pub decreases-records : goal.decreases-records
-decreases-records l = 2 ^ 64 - l.input.iter.offset
+decreases-records l = 2 ^ 64 - l.input.records.offset

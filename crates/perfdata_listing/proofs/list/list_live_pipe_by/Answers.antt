@@ -10,13 +10,13 @@ pub list_live_records-requires-clause-not_failed : goal.list_live_records-requir
 list_live_records-requires-clause-not_failed g c = pipe_has_not_failed g.R.Source.state _ c.in-Ok.reader.perf_file c.in-Ok.reader.record_iter c.in-Ok.ensures.parses
 
 pub returns-in-Ok-clause-lists : goal.returns-in-Ok-clause-lists
-returns-in-Ok-clause-lists g c = live_pipe g.L.RecordLine.is_line g.L.RecordLine.allocates g.R.Source.state _ c.in-Ok.reader.perf_file c.in-Ok.reader.record_iter c.in-Ok.ensures.parses c.list_live_records.new.iter c.list_live_records.new.file _ _ _ c.list_live_records.ensures.lists
+returns-in-Ok-clause-lists g c = live_pipe g.L.RecordLine.is_line g.L.RecordLine.allocates g.R.Source.state _ c.in-Ok.reader.perf_file c.in-Ok.reader.record_iter c.in-Ok.ensures.parses c.list_live_records.new.records c.list_live_records.new.perf_file _ _ _ c.list_live_records.ensures.lists
 
 pub returns-in-Err-clause-lists : goal.returns-in-Err-clause-lists
 returns-in-Err-clause-lists g c = inl (pipe_open_error g.L.RecordLine.is_line g.L.RecordLine.allocates g.R.Source.state _ _ _ c.in-Err.ensures.parses)
 
 pub returns-in-Ok-clause-flushes : goal.returns-in-Ok-clause-flushes
-returns-in-Ok-clause-flushes g c = inl (c.in-Ok.reader.perf_file, c.in-Ok.reader.record_iter, c.in-Ok.ensures.parses, c.list_live_records.new.iter, c.list_live_records.new.file, c.list_live_records.ensures.flushes)
+returns-in-Ok-clause-flushes g c = inl (c.in-Ok.reader.perf_file, c.in-Ok.reader.record_iter, c.in-Ok.ensures.parses, c.list_live_records.new.records, c.list_live_records.new.perf_file, c.list_live_records.ensures.flushes)
 
 pub returns-in-Err-clause-flushes : goal.returns-in-Err-clause-flushes
 returns-in-Err-clause-flushes g c = inr (refl, refl)

@@ -9,7 +9,7 @@ pub list_records-requires-clause-not_failed : goal.list_records-requires-clause-
 list_records-requires-clause-not_failed g c = pipe_has_not_failed g.R.Source.state _ c.in-Ok.reader.perf_file c.in-Ok.reader.record_iter c.in-Ok.ensures.parses
 
 pub returns-in-Ok : goal.returns-in-Ok
-returns-in-Ok g c = whole_pipe g.L.RecordLine.is_line g.L.RecordLine.allocates g.R.Source.state _ c.in-Ok.reader.perf_file c.in-Ok.reader.record_iter c.in-Ok.ensures.parses c.list_records.new.iter c.list_records.new.file _ _ _ c.list_records.ensures
+returns-in-Ok g c = whole_pipe g.L.RecordLine.is_line g.L.RecordLine.allocates g.R.Source.state _ c.in-Ok.reader.perf_file c.in-Ok.reader.record_iter c.in-Ok.ensures.parses c.list_records.new.records c.list_records.new.perf_file _ _ _ c.list_records.ensures
 
 pub returns-in-Err : goal.returns-in-Err
 returns-in-Err g c = pipe_open_error g.L.RecordLine.is_line g.L.RecordLine.allocates g.R.Source.state _ _ _ c.in-Err.ensures.parses

@@ -4,10 +4,10 @@ use Rattle.perfdata_listing.proofs.list.list_records.Given as goal
 
 abbrev pub invariant-records : goal.invariant-records
 invariant-records g l = record {
-  offset_in_range : l.iter.offset < 2 ^ 64;
-  count_below_offset : l.lines ≤ l.iter.offset;
-  listed : SoFar g.L.RecordLine.is_line g.L.RecordLine.allocates g.R.Source.state l.initial.iter l.initial.file (g.W.Write.contents l.initial.out) l.lines (g.W.Write.contents l.out) l.iter l.file;
+  offset_in_range : l.records.offset < 2 ^ 64;
+  count_below_offset : l.lines ≤ l.records.offset;
+  listed : SoFar g.L.RecordLine.is_line g.L.RecordLine.allocates g.R.Source.state l.initial.records l.initial.perf_file (g.W.Write.contents l.initial.out) l.lines (g.W.Write.contents l.out) l.records l.perf_file;
 }
 
 abbrev pub decreases-records : goal.decreases-records
-decreases-records g l = 2 ^ 64 - l.iter.offset
+decreases-records g l = 2 ^ 64 - l.records.offset

@@ -8,4 +8,4 @@ returns-in-Err c = no_counters_read c.args.bytes.now c.args.position.now c.args.
 
 pub returns : goal.returns
 returns c =
-    counters_read c.args.bytes.now c.args.position.now c.in-Ok.reader c.in-Ok.ensures c.args.counters.now c.walk_counters-page.result c.walk_counters-page.new.input c.walk_counters-page.new.file c.walk_counters-page.new.counters _ c.walk_counters-page.ensures c.used_of_page_end.ensures c.status_of_page_end.ensures
+    counters_read c.args.bytes.now c.args.position.now c.in-Ok.reader c.in-Ok.ensures c.args.counters.now c.walk_counters-page.result c.walk_counters-page.new.input c.walk_counters-page.new.perf_file c.walk_counters-page.new.counters _ c.walk_counters-page.ensures c.used_of_page_end.ensures c.status_of_page_end.ensures

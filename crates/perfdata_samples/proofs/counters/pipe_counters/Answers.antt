@@ -8,4 +8,4 @@ returns-in-Err c = no_entries_in_pipe AreCountersOf c.args.bytes.now c.args.coun
 
 pub returns : goal.returns
 returns c =
-    pipe_entries_read AreCountersOf c.args.bytes.now c.in-Ok.reader c.in-Ok.ensures c.args.counters.now c.walk_all_counters-walked.result c.walk_all_counters-walked.new.input c.walk_all_counters-walked.new.file c.walk_all_counters-walked.new.counters c.walk_all_counters-walked.ensures _ refl c.status_of_end.ensures
+    pipe_entries_read AreCountersOf c.args.bytes.now c.in-Ok.reader c.in-Ok.ensures c.args.counters.now c.walk_all_counters-walked.result c.walk_all_counters-walked.new.input c.walk_all_counters-walked.new.perf_file c.walk_all_counters-walked.new.counters c.walk_all_counters-walked.ensures _ refl c.status_of_end.ensures

@@ -18,7 +18,7 @@ returns-in-Ok c =
       sym c.has_counters.ensures ∙ c.if-not-has_counters.false,
       record {
         format = c.new-format.result;
-        format_is = format_at (endian_of_file c.args.file.now) (descriptions_of_file c.args.file.now) index c.in-EventRecord.event.parse_info c.in_ok-description.description.now found
+        format_is = format_at (endian_of_file c.args.perf_file.now) (descriptions_of_file c.args.perf_file.now) index c.in-EventRecord.event.parse_info c.in_ok-description.description.now found
             ∙ ap Some (sym (c.new-format.ensures ∙ (λ i. event_format_of (c.attributes.ensures i) (c.endian.ensures i))));
         raw = c.in-EventRecord.event;
         raw_is = record { record_type = refl; misc = refl; body = refl };
@@ -38,7 +38,7 @@ returns-in-Err c =
       refl,
       inr (inr (record {
         format = c.new-format.result;
-        format_is = format_at (endian_of_file c.args.file.now) (descriptions_of_file c.args.file.now) index c.in-EventRecord.event.parse_info c.in_ok-description.description.now found
+        format_is = format_at (endian_of_file c.args.perf_file.now) (descriptions_of_file c.args.perf_file.now) index c.in-EventRecord.event.parse_info c.in_ok-description.description.now found
             ∙ ap Some (sym (c.new-format.ensures ∙ (λ i. event_format_of (c.attributes.ensures i) (c.endian.ensures i))));
         raw = c.in-EventRecord.event;
         raw_is = record { record_type = refl; misc = refl; body = refl };

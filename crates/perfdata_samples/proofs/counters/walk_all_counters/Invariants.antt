@@ -5,9 +5,9 @@ use Rattle.perfdata_samples.proofs.counters.walk_all_counters.Given as goal
 
 abbrev pub invariant-records : goal.invariant-records
 invariant-records l = record {
-  so_far : EntriesSoFar AreCountersOf l.initial.input l.initial.file l.initial.counters l.count l.input l.file l.counters;
-  count_below : l.count ≤ l.input.iter.offset;
+  so_far : EntriesSoFar AreCountersOf l.initial.input l.initial.perf_file l.initial.counters l.count l.input l.perf_file l.counters;
+  count_below : l.count ≤ l.input.records.offset;
 }
 
 abbrev pub decreases-records : goal.decreases-records
-decreases-records l = 2 ^ 64 - l.input.iter.offset
+decreases-records l = 2 ^ 64 - l.input.records.offset

@@ -8,7 +8,7 @@ use Rattle.perfdata_samples.specs.declared.pages.PageEnd.TheVariants.{Full, NoSp
 use Rattle.perfdata_samples.proofs.counters.walk_counters.Goals as goal
 
 pub records-init : goal.records-init
-records-init c = record { so_far = none_so_far AreCountersOf c.args.input.now c.args.file.now c.args.counters.now; fits = omega arith }
+records-init c = record { so_far = none_so_far AreCountersOf c.args.input.now c.args.perf_file.now c.args.counters.now; fits = omega arith }
 
 pub records-preserved : goal.records-preserved
 records-preserved c =
@@ -19,7 +19,7 @@ records-preserved c =
     let fits = added.1 in
     let same = c.records.auto.counters in
     record {
-      so_far = one_record_of_entries AreCountersOf c.args.input.now c.records.input c.next_record.new.self c.args.file.now c.records.file c.next_record.new.perf_file c.args.counters.now c.records.count c.records.counters c.in-Ok-Some.place c.in-Ok-Some.file_record before.so_far step
+      so_far = one_record_of_entries AreCountersOf c.args.input.now c.records.input c.next_record.new.self c.args.perf_file.now c.records.perf_file c.next_record.new.perf_file c.args.counters.now c.records.count c.records.counters c.in-Ok-Some.place c.in-Ok-Some.record before.so_far step
           c.next_record.ensures.same_input (first_record_offset_of c.args.input.now) c.in-Ok.added own c.add_counters.new.counters refl (c.values_of_record-values.ensures c.in-Ok-Some.place (first_record_offset_of c.args.input.now)) added.0 added.2;
       fits = omega (arith, fits, same);
     }
@@ -33,11 +33,11 @@ returns-in-Err-add_counters c =
     let too_many = lacks.1 in
     let free = c.records-test.true in
     let same = c.records.auto.counters in
-    let is = entries_next AreCountersOf c.args.input.now c.records.input c.next_record.new.self c.args.file.now c.records.file c.next_record.new.perf_file c.args.counters.now c.records.count c.records.counters c.in-Ok-Some.place c.in-Ok-Some.file_record before.so_far step
+    let is = entries_next AreCountersOf c.args.input.now c.records.input c.next_record.new.self c.args.perf_file.now c.records.perf_file c.next_record.new.perf_file c.args.counters.now c.records.count c.records.counters c.in-Ok-Some.place c.in-Ok-Some.record before.so_far step
     c.next_record.ensures.same_input (first_record_offset_of c.args.input.now) own refl (c.values_of_record-values.ensures c.in-Ok-Some.place (first_record_offset_of c.args.input.now)) in
-    let returned = returned_next AreCountersOf c.args.input.now c.records.input c.next_record.new.self c.args.file.now c.records.file c.next_record.new.perf_file c.args.counters.now c.records.count c.records.counters c.in-Ok-Some.place c.in-Ok-Some.file_record before.so_far step c.next_record.ensures.same_input in
-    walks_counters c.args.input.now c.records.input c.next_record.new.self c.args.file.now c.records.file c.next_record.new.perf_file c.args.counters.now c.records.count c.records.counters c.add_counters.new.counters c.position-next.result (NoSpace c.in-Err-add_counters.needed) before.so_far before.fits c.position-next.ensures lacks.2
-    (omega (arith, free, same), record { next = record_view_of c.in-Ok-Some.place c.in-Ok-Some.file_record; counters = own; are_counters = is; needed_is = lacks.0; too_many = omega (arith, too_many, same); returned = returned })
+    let returned = returned_next AreCountersOf c.args.input.now c.records.input c.next_record.new.self c.args.perf_file.now c.records.perf_file c.next_record.new.perf_file c.args.counters.now c.records.count c.records.counters c.in-Ok-Some.place c.in-Ok-Some.record before.so_far step c.next_record.ensures.same_input in
+    walks_counters c.args.input.now c.records.input c.next_record.new.self c.args.perf_file.now c.records.perf_file c.next_record.new.perf_file c.args.counters.now c.records.count c.records.counters c.add_counters.new.counters c.position-next.result (NoSpace c.in-Err-add_counters.needed) before.so_far before.fits c.position-next.ensures lacks.2
+    (omega (arith, free, same), record { next = record_view_of c.in-Ok-Some.place c.in-Ok-Some.record; counters = own; are_counters = is; needed_is = lacks.0; too_many = omega (arith, too_many, same); returned = returned })
 
 pub returns-in-Ok-None : goal.returns-in-Ok-None
 returns-in-Ok-None c =
@@ -45,7 +45,7 @@ returns-in-Ok-None c =
     let ended = rw (c.in-Ok-None.is ∙ ap Ok c.in-Ok-None.field-0-is) at c.next_record.ensures.returns_next in
     let free = c.records-test.true in
     let same = c.records.auto.counters in
-    walks_counters c.args.input.now c.records.input c.next_record.new.self c.args.file.now c.records.file c.next_record.new.perf_file c.args.counters.now c.records.count c.records.counters c.records.counters c.position-next.result (Records (Ok tt)) before.so_far before.fits c.position-next.ensures refl
+    walks_counters c.args.input.now c.records.input c.next_record.new.self c.args.perf_file.now c.records.perf_file c.next_record.new.perf_file c.args.counters.now c.records.count c.records.counters c.records.counters c.position-next.result (Records (Ok tt)) before.so_far before.fits c.position-next.ensures refl
     (omega (arith, free, same), ended, tt)
 
 pub returns-in-Err : goal.returns-in-Err
@@ -55,7 +55,7 @@ returns-in-Err c =
     let needs = rw c.in-Err.is at c.next_record.ensures.memory_in_pipe_only in
     let free = c.records-test.true in
     let same = c.records.auto.counters in
-    walks_counters c.args.input.now c.records.input c.next_record.new.self c.args.file.now c.records.file c.next_record.new.perf_file c.args.counters.now c.records.count c.records.counters c.records.counters c.position-next.result (Records (Err c.in-Err.error)) before.so_far before.fits c.position-next.ensures refl
+    walks_counters c.args.input.now c.records.input c.next_record.new.self c.args.perf_file.now c.records.perf_file c.next_record.new.perf_file c.args.counters.now c.records.count c.records.counters c.records.counters c.position-next.result (Records (Err c.in-Err.error)) before.so_far before.fits c.position-next.ensures refl
     (omega (arith, free, same), failed, needs)
 
 pub returns : goal.returns
@@ -64,4 +64,4 @@ returns c =
     let full = c.records-test.false in
     let fits = before.fits in
     let same = c.records.auto.counters in
-    walks_counters c.args.input.now c.records.input c.records.input c.args.file.now c.records.file c.records.file c.args.counters.now c.records.count c.records.counters c.records.counters c.position.result Full before.so_far before.fits c.position.ensures refl (omega (arith, full, same, fits))
+    walks_counters c.args.input.now c.records.input c.records.input c.args.perf_file.now c.records.perf_file c.records.perf_file c.args.counters.now c.records.count c.records.counters c.records.counters c.position.result Full before.so_far before.fits c.position.ensures refl (omega (arith, full, same, fits))

@@ -8,4 +8,4 @@ returns-in-Err g c = no_entries_read (IsEntryOf g.E.RecordEntry.has_type g.E.Rec
 
 pub returns : goal.returns
 returns g c =
-    entries_read (IsEntryOf g.E.RecordEntry.has_type g.E.RecordEntry.entry_of) c.args.bytes.now c.args.position.now c.in-Ok.reader c.in-Ok.ensures c.args.entries.now c.walk_entries-page.result c.walk_entries-page.new.input c.walk_entries-page.new.file c.walk_entries-page.new.entries _ c.walk_entries-page.ensures refl c.status_of_page.ensures
+    entries_read (IsEntryOf g.E.RecordEntry.has_type g.E.RecordEntry.entry_of) c.args.bytes.now c.args.position.now c.in-Ok.reader c.in-Ok.ensures c.args.entries.now c.walk_entries-page.result c.walk_entries-page.new.input c.walk_entries-page.new.perf_file c.walk_entries-page.new.entries _ c.walk_entries-page.ensures refl c.status_of_page.ensures

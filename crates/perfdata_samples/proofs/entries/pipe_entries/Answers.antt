@@ -8,4 +8,4 @@ returns-in-Err g c = no_entries_in_pipe (IsEntryOf g.E.RecordEntry.has_type g.E.
 
 pub returns : goal.returns
 returns g c =
-    pipe_entries_read (IsEntryOf g.E.RecordEntry.has_type g.E.RecordEntry.entry_of) c.args.bytes.now c.in-Ok.reader c.in-Ok.ensures c.args.entries.now c.walk_all_entries-walked.result c.walk_all_entries-walked.new.input c.walk_all_entries-walked.new.file c.walk_all_entries-walked.new.entries c.walk_all_entries-walked.ensures _ refl c.status_of_end.ensures
+    pipe_entries_read (IsEntryOf g.E.RecordEntry.has_type g.E.RecordEntry.entry_of) c.args.bytes.now c.in-Ok.reader c.in-Ok.ensures c.args.entries.now c.walk_all_entries-walked.result c.walk_all_entries-walked.new.input c.walk_all_entries-walked.new.perf_file c.walk_all_entries-walked.new.entries c.walk_all_entries-walked.ensures _ refl c.status_of_end.ensures

@@ -5,9 +5,9 @@ use Rattle.perfdata_samples.proofs.entries.walk_all_entries.Given as goal
 
 abbrev pub invariant-records : goal.invariant-records
 invariant-records g l = record {
-  so_far : EntriesSoFar (IsEntryOf g.E.RecordEntry.has_type g.E.RecordEntry.entry_of) l.initial.input l.initial.file l.initial.entries l.count l.input l.file l.entries;
-  count_below : l.count ≤ l.input.iter.offset;
+  so_far : EntriesSoFar (IsEntryOf g.E.RecordEntry.has_type g.E.RecordEntry.entry_of) l.initial.input l.initial.perf_file l.initial.entries l.count l.input l.perf_file l.entries;
+  count_below : l.count ≤ l.input.records.offset;
 }
 
 abbrev pub decreases-records : goal.decreases-records
-decreases-records g l = 2 ^ 64 - l.input.iter.offset
+decreases-records g l = 2 ^ 64 - l.input.records.offset

@@ -4,7 +4,7 @@ use Rattle.perfdata_samples.specs.Entries.{IsEntryOf, list_of}
 use Rattle.perfdata_samples.proofs.entries.walk_entries.Goals as goal
 
 pub records-init : goal.records-init
-records-init g c = record { so_far = none_so_far (IsEntryOf g.E.RecordEntry.has_type g.E.RecordEntry.entry_of) c.args.input.now c.args.file.now c.args.entries.now; fits = omega arith }
+records-init g c = record { so_far = none_so_far (IsEntryOf g.E.RecordEntry.has_type g.E.RecordEntry.entry_of) c.args.input.now c.args.perf_file.now c.args.entries.now; fits = omega arith }
 
 pub entry_of_record-entry-requires : goal.entry_of_record-entry-requires
 entry_of_record-entry-requires g c =
@@ -24,7 +24,7 @@ records-preserved g c =
     let same = c.records.auto.entries in
     let few = few_of c.entry_of_record-entry.result in
     record {
-      so_far = one_record_of_entries (IsEntryOf g.E.RecordEntry.has_type g.E.RecordEntry.entry_of) c.args.input.now c.records.input c.next_record.new.self c.args.file.now c.records.file c.next_record.new.perf_file c.args.entries.now c.records.count c.records.entries c.in-Ok-Some.place c.in-Ok-Some.file_record before.so_far step
+      so_far = one_record_of_entries (IsEntryOf g.E.RecordEntry.has_type g.E.RecordEntry.entry_of) c.args.input.now c.records.input c.next_record.new.self c.args.perf_file.now c.records.perf_file c.next_record.new.perf_file c.args.entries.now c.records.count c.records.entries c.in-Ok-Some.place c.in-Ok-Some.record before.so_far step
           c.next_record.ensures.same_input c.first_record_offset-base.result c.write_option-count.result (list_of c.entry_of_record-entry.result) c.write_option-count.new.entries c.first_record_offset-base.ensures c.entry_of_record-entry.ensures added c.write_option-count.ensures.written;
       fits = omega (arith, added, free, same, few);
     }
@@ -35,7 +35,7 @@ returns-in-Ok-None g c =
     let ended = rw (c.in-Ok-None.is ∙ ap Ok c.in-Ok-None.field-0-is) at c.next_record.ensures.returns_next in
     let free = c.records-test.true in
     let same = c.records.auto.entries in
-    walks_entries (IsEntryOf g.E.RecordEntry.has_type g.E.RecordEntry.entry_of) c.args.input.now c.records.input c.next_record.new.self c.args.file.now c.records.file c.next_record.new.perf_file c.args.entries.now c.records.count c.records.entries c.position-next.result (Some (Ok tt)) before.so_far before.fits c.position-next.ensures
+    walks_entries (IsEntryOf g.E.RecordEntry.has_type g.E.RecordEntry.entry_of) c.args.input.now c.records.input c.next_record.new.self c.args.perf_file.now c.records.perf_file c.next_record.new.perf_file c.args.entries.now c.records.count c.records.entries c.position-next.result (Some (Ok tt)) before.so_far before.fits c.position-next.ensures
     (omega (arith, free, same), ended, tt)
 
 pub returns-in-Err : goal.returns-in-Err
@@ -45,7 +45,7 @@ returns-in-Err g c =
     let needs = rw c.in-Err.is at c.next_record.ensures.memory_in_pipe_only in
     let free = c.records-test.true in
     let same = c.records.auto.entries in
-    walks_entries (IsEntryOf g.E.RecordEntry.has_type g.E.RecordEntry.entry_of) c.args.input.now c.records.input c.next_record.new.self c.args.file.now c.records.file c.next_record.new.perf_file c.args.entries.now c.records.count c.records.entries c.position-next.result (Some (Err c.in-Err.error)) before.so_far before.fits c.position-next.ensures
+    walks_entries (IsEntryOf g.E.RecordEntry.has_type g.E.RecordEntry.entry_of) c.args.input.now c.records.input c.next_record.new.self c.args.perf_file.now c.records.perf_file c.next_record.new.perf_file c.args.entries.now c.records.count c.records.entries c.position-next.result (Some (Err c.in-Err.error)) before.so_far before.fits c.position-next.ensures
     (omega (arith, free, same), failed, needs)
 
 pub returns : goal.returns
@@ -54,4 +54,4 @@ returns g c =
     let full = c.records-test.false in
     let fits = before.fits in
     let same = c.records.auto.entries in
-    walks_entries (IsEntryOf g.E.RecordEntry.has_type g.E.RecordEntry.entry_of) c.args.input.now c.records.input c.records.input c.args.file.now c.records.file c.records.file c.args.entries.now c.records.count c.records.entries c.position.result None before.so_far before.fits c.position.ensures (omega (arith, full, same, fits))
+    walks_entries (IsEntryOf g.E.RecordEntry.has_type g.E.RecordEntry.entry_of) c.args.input.now c.records.input c.records.input c.args.perf_file.now c.records.perf_file c.records.perf_file c.args.entries.now c.records.count c.records.entries c.position.result None before.so_far before.fits c.position.ensures (omega (arith, full, same, fits))

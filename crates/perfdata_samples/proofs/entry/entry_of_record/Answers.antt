@@ -19,7 +19,7 @@ returns-in-Ok g c =
       sym c.is_of_type.ensures ∙ c.if-not-is_of_type.false,
       record {
         format = c.new-format.result;
-        format_is = format_at (endian_of_file c.args.file.now) (descriptions_of_file c.args.file.now) index c.in-EventRecord.event.parse_info c.in_ok-description.description.now found
+        format_is = format_at (endian_of_file c.args.perf_file.now) (descriptions_of_file c.args.perf_file.now) index c.in-EventRecord.event.parse_info c.in_ok-description.description.now found
             ∙ ap Some (sym (c.new-format.ensures ∙ (λ i. event_format_of (c.attributes.ensures i) (c.endian.ensures i))));
         raw = c.in-EventRecord.event;
         raw_is = record { record_type = refl; misc = refl; body = refl };
@@ -39,7 +39,7 @@ returns-in-Err g c =
       refl,
       inr (inr (record {
         format = c.new-format.result;
-        format_is = format_at (endian_of_file c.args.file.now) (descriptions_of_file c.args.file.now) index c.in-EventRecord.event.parse_info c.in_ok-description.description.now found
+        format_is = format_at (endian_of_file c.args.perf_file.now) (descriptions_of_file c.args.perf_file.now) index c.in-EventRecord.event.parse_info c.in_ok-description.description.now found
             ∙ ap Some (sym (c.new-format.ensures ∙ (λ i. event_format_of (c.attributes.ensures i) (c.endian.ensures i))));
         raw = c.in-EventRecord.event;
         raw_is = record { record_type = refl; misc = refl; body = refl };

@@ -8,5 +8,5 @@ returns-in-Err c = no_samples_read c.args.bytes.now c.args.position.now c.args.s
 
 pub returns : goal.returns
 returns c =
-    samples_read c.args.bytes.now c.args.position.now c.in-Ok.reader c.in-Ok.ensures c.args.samples.now c.args.frames.now c.walk_samples-page.result c.walk_samples-page.new.input c.walk_samples-page.new.file c.walk_samples-page.new.samples c.walk_samples-page.new.frames _
+    samples_read c.args.bytes.now c.args.position.now c.in-Ok.reader c.in-Ok.ensures c.args.samples.now c.args.frames.now c.walk_samples-page.result c.walk_samples-page.new.input c.walk_samples-page.new.perf_file c.walk_samples-page.new.samples c.walk_samples-page.new.frames _
     c.walk_samples-page.ensures refl c.used_of_page_end.ensures c.status_of_page_end.ensures

@@ -8,7 +8,7 @@ pub returns : goal.returns
 returns c = record {
   own = c.new.result ∷ [];
   own_frames = frames_of_body true c.parse-body.result;
-  adds = sample_of_parts (endian_of_file c.args.file.now) (attributes_of_file c.args.file.now) c.args.place c.args.record.now c.in-Some.parts (c.in-Some.ensures c.args.place) c.parse-body.result c.parse-body.ensures true c.args.used c.saturate.result c.new.result
+  adds = sample_of_parts (endian_of_file c.args.perf_file.now) (attributes_of_file c.args.perf_file.now) c.args.place c.args.record.now c.in-Some.parts (c.in-Some.ensures c.args.place) c.parse-body.result c.parse-body.ensures true c.args.used c.saturate.result c.new.result
       (c.saturate.ensures ∙ ap saturated c.write_frames_at-frames_count.ensures.0) c.new.ensures;
   count_is = refl;
   written = c.write_entry.ensures.written;

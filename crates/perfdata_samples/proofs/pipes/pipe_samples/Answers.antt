@@ -8,5 +8,5 @@ returns-in-Err c = no_samples_in_pipe c.args.bytes.now c.args.samples.now c.args
 
 pub returns : goal.returns
 returns c =
-    pipe_samples_read c.args.bytes.now c.in-Ok.reader c.in-Ok.ensures c.args.samples.now c.args.frames.now c.walk_all_samples-walked.result c.walk_all_samples-walked.new.input c.walk_all_samples-walked.new.file c.walk_all_samples-walked.new.samples c.walk_all_samples-walked.new.frames c.walk_all_samples-walked.ensures _
+    pipe_samples_read c.args.bytes.now c.in-Ok.reader c.in-Ok.ensures c.args.samples.now c.args.frames.now c.walk_all_samples-walked.result c.walk_all_samples-walked.new.input c.walk_all_samples-walked.new.perf_file c.walk_all_samples-walked.new.samples c.walk_all_samples-walked.new.frames c.walk_all_samples-walked.ensures _
     refl refl (ap Records c.status_of_end.ensures)

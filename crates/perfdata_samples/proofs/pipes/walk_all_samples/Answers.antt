@@ -7,7 +7,7 @@ use Rattle.perfdata_samples.proofs.SampleWalks.{no_samples, one_record_more, wal
 use Rattle.perfdata_samples.proofs.pipes.walk_all_samples.Goals as goal
 
 pub records-init : goal.records-init
-records-init c = record { so_far = no_samples c.args.input.now c.args.file.now true c.args.samples.now c.args.frames.now; count_below = omega arith; used_below = omega arith }
+records-init c = record { so_far = no_samples c.args.input.now c.args.perf_file.now true c.args.samples.now c.args.frames.now; count_below = omega arith; used_below = omega arith }
 
 pub overflow_add-used : goal.overflow_add-used
 overflow_add-used c =
@@ -37,7 +37,7 @@ records-preserved c =
     let moved = step.returns.offset in
     let start = step.returns.record_offset in
     record {
-      so_far = one_record_more c.args.input.now c.records.input c.next_record.new.self c.args.file.now c.records.file c.next_record.new.perf_file true c.args.samples.now c.args.frames.now c.records.count c.records.used c.records.samples c.records.frames
+      so_far = one_record_more c.args.input.now c.records.input c.next_record.new.self c.args.perf_file.now c.records.perf_file c.next_record.new.perf_file true c.args.samples.now c.args.frames.now c.records.count c.records.used c.records.samples c.records.frames
           c.in-Ok-Some.place c.in-Ok-Some.record before.so_far step c.next_record.ensures.same_input c.count_record-added.result.samples c.count_record-added.result.frames added.own added.own_frames c.count_record-added.new.samples c.count_record-added.new.frames
           added.adds added.count_is added.frames_count_is added.written added.frames_written;
       count_below = omega (arith, samples, count_is, count_below, moved, start);
@@ -47,11 +47,11 @@ records-preserved c =
 pub returns-in-Ok-None : goal.returns-in-Ok-None
 returns-in-Ok-None c =
     let ended = rw (c.in-Ok-None.is ∙ ap Ok c.in-Ok-None.field-0-is) at c.next_record.ensures.returns_next in
-    walks_all_samples c.args.input.now c.records.input c.next_record.new.self c.args.file.now c.records.file c.next_record.new.perf_file c.args.samples.now c.args.frames.now c.records.count c.records.used c.records.samples c.records.frames (Ok tt) c.records.invariant.so_far
+    walks_all_samples c.args.input.now c.records.input c.next_record.new.self c.args.perf_file.now c.records.perf_file c.next_record.new.perf_file c.args.samples.now c.args.frames.now c.records.count c.records.used c.records.samples c.records.frames (Ok tt) c.records.invariant.so_far
     (ap attributes_of_file ended.file_unchanged) ended tt
 
 pub returns-in-Err : goal.returns-in-Err
 returns-in-Err c =
     let failed = rw c.in-Err.is at c.next_record.ensures.returns_next in
-    walks_all_samples c.args.input.now c.records.input c.next_record.new.self c.args.file.now c.records.file c.next_record.new.perf_file c.args.samples.now c.args.frames.now c.records.count c.records.used c.records.samples c.records.frames (Err c.in-Err.error) c.records.invariant.so_far
+    walks_all_samples c.args.input.now c.records.input c.next_record.new.self c.args.perf_file.now c.records.perf_file c.next_record.new.perf_file c.args.samples.now c.args.frames.now c.records.count c.records.used c.records.samples c.records.frames (Err c.in-Err.error) c.records.invariant.so_far
     (ap described_attributes failed.same_file.descriptions) failed (rw c.in-Err.is at c.next_record.ensures.memory_for_metadata_only)

@@ -20,7 +20,7 @@ records-init c =
 pub overflow_add-count : goal.overflow_add-count
 overflow_add-count c =
     let rested = c.next_record.follows.lender-at-none in
-    let nexts = subst (λ r. NextRecord state (λ _. 0) c.records.iter c.records.file r rested c.next_record.new.perf_file) (c.in-Ok-Some.is ∙ ap Ok c.in-Ok-Some.field-0-is) c.next_record.follows.holds-at-none in
+    let nexts = subst (λ r. NextRecord state (λ _. 0) c.records.records c.records.perf_file r rested c.next_record.new.perf_file) (c.in-Ok-Some.is ∙ ap Ok c.in-Ok-Some.field-0-is) c.next_record.follows.holds-at-none in
     let step = nexts.0 in
     let below = c.records.invariant.count_below_offset in
     let record_offset = step.record_offset in
@@ -32,7 +32,7 @@ pub records-preserved : goal.records-preserved
 records-preserved c =
     let before = c.records.invariant in
     let rested = c.next_record.follows.lender-at-none in
-    let nexts = subst (λ r. NextRecord state (λ _. 0) c.records.iter c.records.file r rested c.next_record.new.perf_file) (c.in-Ok-Some.is ∙ ap Ok c.in-Ok-Some.field-0-is) c.next_record.follows.holds-at-none in
+    let nexts = subst (λ r. NextRecord state (λ _. 0) c.records.records c.records.perf_file r rested c.next_record.new.perf_file) (c.in-Ok-Some.is ∙ ap Ok c.in-Ok-Some.field-0-is) c.next_record.follows.holds-at-none in
     let step = nexts.0 in
     let below = before.count_below_offset in
     let record_offset = step.record_offset in
@@ -46,7 +46,7 @@ records-preserved c =
       returned = (
         before.returned.0 ++ h ∷ [],
         omega (arith, count, length-append before.returned.0 (h ∷ [])),
-        c.consecutive_calls.ensures.more _ c.records.iter rested _ c.records.file c.next_record.new.perf_file before.returned.0 h before.returned.2 step,
+        c.consecutive_calls.ensures.more _ c.records.records rested _ c.records.perf_file c.next_record.new.perf_file before.returned.0 h before.returned.2 step,
       );
     }
 
@@ -54,8 +54,8 @@ pub returns-in-Ok-None-clause-count : goal.returns-in-Ok-None-clause-count
 returns-in-Ok-None-clause-count c =
     let before = c.records.invariant in
     let rested = c.next_record.follows.lender-at-none in
-    let at_end = subst (λ r. NextRecord state (λ _. 0) c.records.iter c.records.file r rested c.next_record.new.perf_file) (c.in-Ok-None.is ∙ ap Ok c.in-Ok-None.field-0-is) c.next_record.follows.holds-at-none in
-    elim (c.pipe_reading.ensures.end before.opened.0 _ _ c.records.file c.next_record.new.perf_file _ c.records.iter rested before.returned.0 before.opened.1 before.opened.3 before.returned.2 at_end.0) [
+    let at_end = subst (λ r. NextRecord state (λ _. 0) c.records.records c.records.perf_file r rested c.next_record.new.perf_file) (c.in-Ok-None.is ∙ ap Ok c.in-Ok-None.field-0-is) c.next_record.follows.holds-at-none in
+    elim (c.pipe_reading.ensures.end before.opened.0 _ _ c.records.perf_file c.next_record.new.perf_file _ c.records.records rested before.returned.0 before.opened.1 before.opened.3 before.returned.2 at_end.0) [
       | inl whole ↦ (c.in_ok-reader.reader.record_iter.endian, (whole.raw_records, (before.returned.0, whole.all_records, before.returned.1)))
       | inr paused ↦ absurd (paused.1.not_steady before.opened.2)
     ]
@@ -64,9 +64,9 @@ pub returns-in-Err-clause-error : goal.returns-in-Err-clause-error
 returns-in-Err-clause-error c = λ other.
     let before = c.records.invariant in
     let rested = c.next_record.follows.lender-at-none in
-    let failed = subst (λ r. NextRecord state (λ _. 0) c.records.iter c.records.file r rested c.next_record.new.perf_file) c.in-Err.is c.next_record.follows.holds-at-none in
-    elim (c.pipe_reading.ensures.to_error before.opened.0 _ _ c.records.file c.next_record.new.perf_file _ c.records.iter rested before.returned.0 c.in-Err.error before.opened.1 before.opened.3 before.returned.2 failed.0 other).0 [
-      | inl ends ↦ inr (c.in_ok-reader.reader.record_iter.endian, (c.records.file, (before.returned.0, ends)))
+    let failed = subst (λ r. NextRecord state (λ _. 0) c.records.records c.records.perf_file r rested c.next_record.new.perf_file) c.in-Err.is c.next_record.follows.holds-at-none in
+    elim (c.pipe_reading.ensures.to_error before.opened.0 _ _ c.records.perf_file c.next_record.new.perf_file _ c.records.records rested before.returned.0 c.in-Err.error before.opened.1 before.opened.3 before.returned.2 failed.0 other).0 [
+      | inl ends ↦ inr (c.in_ok-reader.reader.record_iter.endian, (c.records.perf_file, (before.returned.0, ends)))
       | inr source ↦ absurd (source.1.not_steady before.opened.2)
     ]
 

@@ -14,11 +14,11 @@ state c = memory_source_at (cursor_inner c).now (cursor_position c)
 
 abbrev pub invariant-records : goal.invariant-records
 invariant-records l = record {
-  offset_in_range : l.iter.offset < 2 ^ 64;
-  count_below_offset : l.count ≤ l.iter.offset;
-  opened : (old : State) × (old.bytes ≡ Some l.fn.bytes) × IsTrue old.steady × PipeParsed state old l.initial.file l.initial.iter;
-  returned : (records : List RecordView) × (l.count ≡ length records) × ReturnsRecords state l.initial.iter l.initial.file records l.iter l.file;
+  offset_in_range : l.records.offset < 2 ^ 64;
+  count_below_offset : l.count ≤ l.records.offset;
+  opened : (old : State) × (old.bytes ≡ Some l.fn.bytes) × IsTrue old.steady × PipeParsed state old l.initial.perf_file l.initial.records;
+  returned : (records : List RecordView) × (l.count ≡ length records) × ReturnsRecords state l.initial.records l.initial.perf_file records l.records l.perf_file;
 }
 
 abbrev pub decreases-records : goal.decreases-records
-decreases-records l = 2 ^ 64 - l.iter.offset
+decreases-records l = 2 ^ 64 - l.records.offset

@@ -15,4 +15,4 @@ returns c =
     let ahead = c.walk_entries-count.ensures.ahead in
     let records = c.walk_entries-count.new.self in
     let same = c.move_iter.ensures ahead.rounds_fit in
-    same_records (λ r. ReadsEntries c.args.self.now c.args.entries.now c.walk_entries-count.result r c.walk_entries-count.new.entries) records _ c.move_iter.new.iter (sym same) ahead.in_place _ c.walk_entries-count.ensures.reads
+    same_records (λ r. ReadsEntries c.args.self.now c.args.entries.now c.walk_entries-count.result r c.walk_entries-count.new.entries) records _ c.move_iter.new.records (sym same) ahead.in_place _ c.walk_entries-count.ensures.reads

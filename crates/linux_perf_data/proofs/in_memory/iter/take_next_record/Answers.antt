@@ -1,4 +1,4 @@
-use Rattle.std.proofs.Common.{arith, refl, sym, ap, subst, [], ◌∙◌}
+use Rattle.std.proofs.Common.{arith, refl, ap, subst, [], ◌∙◌}
 use Rattle.perfdata_base.proofs.ConsumedLemmas.{consumed_none}
 use Rattle.linux_perf_data.specs.RecordViews.{record_view_with}
 use Rattle.linux_perf_data.specs.Iter.{iter_source_state, ReturnsRecord}
@@ -21,7 +21,7 @@ raw_records-init c = record {
     offset = omega arith;
     skipped_markers = record { raw_records = []; split = refl; elements = _ };
     round = omega arith;
-    consumption = consumed_none (iter_source_state memory_state c.args.iter.now);
+    consumption = consumed_none (iter_source_state memory_state c.args.records.now);
     before = λ rest attrs rs e come. come;
   };
   file = refl;
@@ -32,72 +32,72 @@ raw_records-preserved c =
     let i = c.raw_records.invariant in
     let t = rw c.in-Ok-Marker.field-0-is at c.in-Ok-Marker.ensures.raw_record in
     record {
-      idles = idles_on memory_state _ c.raw_records.iter c.take_raw_record.new.iter _ i.idles t.1 t.0 c.raw_records-test.ensures;
+      idles = idles_on memory_state _ c.raw_records.records c.take_raw_record.new.records _ i.idles t.1 t.0 c.raw_records-test.ensures;
       file = i.file;
     }
 
 pub returns-in-Ok : goal.returns-in-Ok
 returns-in-Ok c =
     let i = c.raw_records.invariant in
-    let now = c.raw_records.iter in
+    let now = c.raw_records.records in
     let header_bytes = c.in-Ok-Record.header in
     let t = rw c.in-Ok-Record.field-0-is at c.in-Ok-Record.ensures.raw_record in
-    let piece = with_buffer c.take_raw_record.new.iter t.buffer in
-    let new = with_buffer c.process_record.new.iter t.buffer in
-    let step = subst (λ f. RecordProcessed memory_state piece f now.offset now.round header_bytes c.in-Ok.found new c.process_record.new.file) i.file (c.in-Ok.ensures.processes t.buffer t.buffered_body) in
+    let piece = with_buffer c.take_raw_record.new.records t.buffer in
+    let new = with_buffer c.process_record.new.records t.buffer in
+    let step = subst (λ f. RecordProcessed memory_state piece f now.offset now.round header_bytes c.in-Ok.info new c.process_record.new.perf_file) i.file (c.in-Ok.ensures.processes t.buffer t.buffered_body) in
     record {
       buffer = t.buffer;
-      returns = subst (λ b. ReturnsRecord memory_state c.args.iter.now c.args.file.now (record_view_with new.attribute_lookup c.in-Ok.found new.endian b) new c.process_record.new.file) t.buffered_body
-          (returns_record memory_state c.args.iter.now now piece new c.args.file.now c.process_record.new.file header_bytes c.in-Ok.found i.idles t.raw_record_read t.not_marker c.raw_records-test.ensures step);
+      returns = subst (λ b. ReturnsRecord memory_state c.args.records.now c.args.perf_file.now (record_view_with new.attribute_lookup c.in-Ok.info new.endian b) new c.process_record.new.perf_file) t.buffered_body
+          (returns_record memory_state c.args.records.now now piece new c.args.perf_file.now c.process_record.new.perf_file header_bytes c.in-Ok.info i.idles t.raw_record_read t.not_marker c.raw_records-test.ensures step);
     }
 
 pub returns-in-Err-process_record : goal.returns-in-Err-process_record
 returns-in-Err-process_record c =
     let i = c.raw_records.invariant in
-    let now = c.raw_records.iter in
+    let now = c.raw_records.records in
     let header_bytes = c.in-Ok-Record.header in
     let e = c.in-Err-process_record.error in
     let t = rw c.in-Ok-Record.field-0-is at c.in-Ok-Record.ensures.raw_record in
-    let piece = with_buffer c.take_raw_record.new.iter t.buffer in
-    let new = with_buffer c.process_record.new.iter t.buffer in
-    let d = subst (λ f. RecordRejected memory_state piece f header_bytes e new c.process_record.new.file) i.file (c.in-Err-process_record.ensures.processes t.buffer t.buffered_body) in
+    let piece = with_buffer c.take_raw_record.new.records t.buffer in
+    let new = with_buffer c.process_record.new.records t.buffer in
+    let d = subst (λ f. RecordRejected memory_state piece f header_bytes e new c.process_record.new.perf_file) i.file (c.in-Err-process_record.ensures.processes t.buffer t.buffered_body) in
     let empty = ap (λ v. v.items) (c.in-Err-process_record.ensures.same_buffer ∙ c.in-Ok-Record.ensures.same_buffer) ∙ i.idles.empty in (
       record {
         stage_failed = refl;
         not_ended = λ ended. let ran = i.idles.ran in cc;
         if_failed = λ failed. let ran = i.idles.ran in absurd cc;
         only_if_failed = λ is. absurd (d.not_failed is);
-        if_running = λ _. rejected_stops c.args.iter.now now c.take_raw_record.new.iter c.process_record.new.iter _ t.buffer c.args.file.now c.process_record.new.file header_bytes e i.idles t.raw_record_read t.not_marker c.raw_records-test.ensures d refl refl refl refl empty;
+        if_running = λ _. rejected_stops c.args.records.now now c.take_raw_record.new.records c.process_record.new.records _ t.buffer c.args.perf_file.now c.process_record.new.perf_file header_bytes e i.idles t.raw_record_read t.not_marker c.raw_records-test.ensures d refl refl refl refl empty;
         same_file = d.same_file;
       },
-      λ _. rejected_consumes c.args.iter.now now c.take_raw_record.new.iter c.process_record.new.iter _ t.buffer c.args.file.now c.process_record.new.file header_bytes e i.idles t.raw_record_read d refl refl refl,
+      λ _. rejected_consumes c.args.records.now now c.take_raw_record.new.records c.process_record.new.records _ t.buffer c.args.perf_file.now c.process_record.new.perf_file header_bytes e i.idles t.raw_record_read d refl refl refl,
     )
 
 pub returns-in-Ok-End : goal.returns-in-Ok-End
 returns-in-Ok-End c =
     let i = c.raw_records.invariant in
-    let new = c.take_raw_record.new.iter in
+    let new = c.take_raw_record.new.records in
     let cut = rw c.in-Ok-End.field-0-is at c.in-Ok-End.ensures.raw_record in
     record {
       stage_ended = refl;
       not_failed = λ failed. let ran = i.idles.ran in cc;
       if_ended = λ ended. let ran = i.idles.ran in absurd cc;
-      if_running = λ _. pipe_ends memory_state c.args.iter.now c.raw_records.iter new _ i.idles cut (record { source = refl; input = refl; body = refl; round = refl }) refl;
+      if_running = λ _. pipe_ends memory_state c.args.records.now c.raw_records.records new _ i.idles cut (record { source = refl; input = refl; body = refl; round = refl }) refl;
       file_unchanged = i.file;
     }
 
 pub returns-in-Err : goal.returns-in-Err
 returns-in-Err c =
     let i = c.raw_records.invariant in
-    let new = c.take_raw_record.new.iter in
+    let new = c.take_raw_record.new.records in
     let r = c.in-Err.ensures.raw_record in (
       record {
         stage_failed = refl;
         not_ended = λ ended. let ran = i.idles.ran in cc;
         if_failed = λ failed. let ran = i.idles.ran in absurd cc;
         only_if_failed = λ is. absurd (r.1.error.not_failed is);
-        if_running = λ _. stops memory_state c.args.iter.now c.raw_records.iter new _ c.args.file.now c.in-Err.error i.idles c.raw_records-test.ensures r.1 (record { source = refl; input = refl; body = refl; round = refl }) refl;
-        same_file = same_later c.raw_records.file c.args.file.now i.file;
+        if_running = λ _. stops memory_state c.args.records.now c.raw_records.records new _ c.args.perf_file.now c.in-Err.error i.idles c.raw_records-test.ensures r.1 (record { source = refl; input = refl; body = refl; round = refl }) refl;
+        same_file = same_later c.raw_records.perf_file c.args.perf_file.now i.file;
       },
       λ m. absurd (r.0 m),
     )
@@ -109,6 +109,6 @@ returns c =
       stage_ended = refl;
       not_failed = λ failed. let ran = i.idles.ran in cc;
       if_ended = λ ended. let ran = i.idles.ran in absurd cc;
-      if_running = λ _. section_ends memory_state c.args.iter.now c.raw_records.iter _ i.idles c.raw_records-test.ensures (record { source = refl; input = refl; body = refl; round = refl }) refl;
+      if_running = λ _. section_ends memory_state c.args.records.now c.raw_records.records _ i.idles c.raw_records-test.ensures (record { source = refl; input = refl; body = refl; round = refl }) refl;
       file_unchanged = i.file;
     }

@@ -5,9 +5,9 @@ use Rattle.linux_perf_data.proofs.in_memory.iter.take_next_record.Given as goal
 
 abbrev pub invariant-raw_records : goal.invariant-raw_records
 invariant-raw_records l = record {
-  idles : Idles memory_state l.fn.iter l.iter;
-  file : l.file ≡ l.fn.file;
+  idles : Idles memory_state l.fn.records l.records;
+  file : l.perf_file ≡ l.fn.perf_file;
 }
 
 abbrev pub decreases-raw_records : goal.decreases-raw_records
-decreases-raw_records l = 2 ^ 64 - l.iter.offset
+decreases-raw_records l = 2 ^ 64 - l.records.offset

@@ -10,5 +10,5 @@ take_record_parts-requires c = ap (λ v. v.items) c.take_whole_record.ensures.sa
 
 pub returns-in-None-clause-raw_record : goal.returns-in-None-clause-raw_record
 returns-in-None-clause-raw_record c =
-    let same : c.take_whole_record.new.iter ≡ c.args.iter.now = rw c.in-None.is at c.take_whole_record.ensures.whole_record in
-    subst (λ i. TakesRawRecord i c.take_record_parts.result c.take_record_parts.new.iter) same c.take_record_parts.ensures.raw_record
+    let same : c.take_whole_record.new.records ≡ c.args.records.now = rw c.in-None.is at c.take_whole_record.ensures.whole_record in
+    subst (λ i. TakesRawRecord i c.take_record_parts.result c.take_record_parts.new.records) same c.take_record_parts.ensures.raw_record

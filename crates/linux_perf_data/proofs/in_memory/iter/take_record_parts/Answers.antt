@@ -15,7 +15,7 @@ use Rattle.linux_perf_data.proofs.in_memory.iter.take_record_parts.Goals as goal
 pub returns-in_err-header-clause-raw_record : goal.returns-in_err-header-clause-raw_record
 returns-in_err-header-clause-raw_record c =
     let p = err_from_is_err_and c.from_residual.result c.from_residual.ensures.1 in
-    let it = c.args.iter.now in
+    let it = c.args.records.now in
     let pending = c.read_header.ensures.pending_header in
     let input = c.read_header.new.input in
     let a = iter_source_state memory_state it in
@@ -34,7 +34,7 @@ returns-in_err-header-clause-raw_record c =
 
 pub returns-in-None-clause-raw_record : goal.returns-in-None-clause-raw_record
 returns-in-None-clause-raw_record c =
-    let it = c.args.iter.now in
+    let it = c.args.records.now in
     let pending = c.read_header.ensures.pending_header in
     let input = c.read_header.new.input in
     let a = iter_source_state memory_state it in
@@ -49,7 +49,7 @@ returns-in-None-clause-raw_record c =
 pub returns-in_err-body_size-clause-raw_record : goal.returns-in_err-body_size-clause-raw_record
 returns-in_err-body_size-clause-raw_record c =
     let p = err_from_is_err_and c.from_residual-in_err-body_size.result c.from_residual-in_err-body_size.ensures.1 in
-    let it = c.args.iter.now in
+    let it = c.args.records.now in
     let pending = c.read_header.ensures.pending_header in
     let input = c.read_header.new.input in
     let a = iter_source_state memory_state it in
@@ -70,7 +70,7 @@ returns-in_err-body_size-clause-raw_record c =
 pub returns-in_err-end-clause-raw_record : goal.returns-in_err-end-clause-raw_record
 returns-in_err-end-clause-raw_record c =
     let p = err_from_is_err_and c.from_residual-in_err-end.result c.from_residual-in_err-end.ensures.1 in
-    let it = c.args.iter.now in
+    let it = c.args.records.now in
     let pending = c.read_header.ensures.pending_header in
     let input = c.read_header.new.input in
     let a = iter_source_state memory_state it in
@@ -90,7 +90,7 @@ returns-in_err-end-clause-raw_record c =
 
 pub returns-then-not-skip_bytes-clause-raw_record : goal.returns-then-not-skip_bytes-clause-raw_record
 returns-then-not-skip_bytes-clause-raw_record c =
-    let it = c.args.iter.now in
+    let it = c.args.records.now in
     let pending = c.read_header.ensures.pending_header in
     let input = c.read_header.new.input in
     let a = iter_source_state memory_state it in
@@ -107,7 +107,7 @@ returns-then-not-skip_bytes-clause-raw_record c =
 
 pub returns-then-header-eq-PERF_RECORD_FINISHED_ROUND-clause-raw_record : goal.returns-then-header-eq-PERF_RECORD_FINISHED_ROUND-clause-raw_record
 returns-then-header-eq-PERF_RECORD_FINISHED_ROUND-clause-raw_record c =
-    let it = c.args.iter.now in
+    let it = c.args.records.now in
     let pending = c.read_header.ensures.pending_header in
     let input = c.read_header.new.input in
     let a = iter_source_state memory_state it in
@@ -140,7 +140,7 @@ returns-then-header-eq-PERF_RECORD_FINISHED_ROUND-clause-raw_record c =
 
 pub returns-in-Some-2-clause-raw_record : goal.returns-in-Some-2-clause-raw_record
 returns-in-Some-2-clause-raw_record c =
-    let it = c.args.iter.now in
+    let it = c.args.records.now in
     let pending = c.read_header.ensures.pending_header in
     let input = c.read_header.new.input in
     let a = iter_source_state memory_state it in
@@ -176,7 +176,7 @@ returns-in-Some-2-clause-raw_record c =
 
 pub returns-in-None-2-clause-raw_record : goal.returns-in-None-2-clause-raw_record
 returns-in-None-2-clause-raw_record c =
-    let it = c.args.iter.now in
+    let it = c.args.records.now in
     let pending = c.read_header.ensures.pending_header in
     let input = c.read_header.new.input in
     let a = iter_source_state memory_state it in
@@ -193,7 +193,7 @@ returns-in-None-2-clause-raw_record c =
 pub returns-in_err-body-clause-raw_record : goal.returns-in_err-body-clause-raw_record
 returns-in_err-body-clause-raw_record c =
     let p = err_from_is_err_and c.from_residual-in_err-body.result c.from_residual-in_err-body.ensures.1 in
-    let it = c.args.iter.now in
+    let it = c.args.records.now in
     let pending = c.read_header.ensures.pending_header in
     let input = c.read_header.new.input in
     let a = iter_source_state memory_state it in

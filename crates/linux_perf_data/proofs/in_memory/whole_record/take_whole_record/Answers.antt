@@ -13,7 +13,7 @@ use Rattle.linux_perf_data.proofs.in_memory.whole_record.take_whole_record.Goals
 
 pub returns-then-header-eq-PERF_RECORD_FINISHED_ROUND-clause-whole_record : goal.returns-then-header-eq-PERF_RECORD_FINISHED_ROUND-clause-whole_record
 returns-then-header-eq-PERF_RECORD_FINISHED_ROUND-clause-whole_record c =
-    let it = c.args.iter.now in
+    let it = c.args.records.now in
     let bytes = c.remaining-bytes.result.now in
     let n = c.in_ok-header.length in
     let header = c.in_ok-header.header in
@@ -30,7 +30,7 @@ returns-then-header-eq-PERF_RECORD_FINISHED_ROUND-clause-whole_record c =
 
 pub returns-clause-whole_record : goal.returns-clause-whole_record
 returns-clause-whole_record c =
-    let it = c.args.iter.now in
+    let it = c.args.records.now in
     let bytes = c.remaining-bytes.result.now in
     let n = c.in_ok-header.length in
     let header = c.in_ok-header.header in

@@ -6,4 +6,4 @@ abbrev pub invariant-reads : goal.invariant-reads
 invariant-reads l = Progress l.fn.self l.fn.perf_file l.self l.perf_file
 
 abbrev pub decreases-reads : goal.decreases-reads
-decreases-reads l = 2 * (2 ^ 64 - l.self.records.iter.offset) + pending_records l.self.pending
+decreases-reads l = 2 * (2 ^ 64 - l.self.records.records.offset) + pending_records l.self.pending

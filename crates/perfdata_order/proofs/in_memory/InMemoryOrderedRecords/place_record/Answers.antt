@@ -11,12 +11,12 @@ pub returns-in-Ok-insert_unordered : goal.returns-in-Ok-insert_unordered
 returns-in-Ok-insert_unordered c =
     let ended = c.end_rounds.new.self in
     let new : InMemoryOrderedRecords = record { records = ended.records; sorter = c.insert_unordered.new.self; round = ended.round; pending = Nothing } in
-    let placed = rounds_placed c.args.self.now ended (Some c.args.key) c.args.place c.args.found c.requires c.in-Ok.ensures in
-    record_placed c.args.self.now ended new c.args.key c.args.place c.args.found c.requires placed c.in-Ok-insert_unordered.ensures refl refl refl
+    let placed = rounds_placed c.args.self.now ended (Some c.args.key) c.args.place c.args.record c.requires c.in-Ok.ensures in
+    record_placed c.args.self.now ended new c.args.key c.args.place c.args.record c.requires placed c.in-Ok-insert_unordered.ensures refl refl refl
 
 pub returns-in-Err-insert_unordered : goal.returns-in-Err-insert_unordered
 returns-in-Err-insert_unordered c =
     let ended = c.end_rounds.new.self in
     let new : InMemoryOrderedRecords = record { records = ended.records; sorter = c.insert_unordered.new.self; round = ended.round; pending = ended.pending } in
-    let placed = rounds_placed c.args.self.now ended (Some c.args.key) c.args.place c.args.found c.requires c.in-Ok.ensures in
+    let placed = rounds_placed c.args.self.now ended (Some c.args.key) c.args.place c.args.record c.requires c.in-Ok.ensures in
     places_kept c.args.self.now ended new placed.places (record { unchanged = c.in-Err-insert_unordered.ensures.1; pending = refl; same_records = refl; round = refl })

@@ -1,4 +1,4 @@
-use Rattle.std.proofs.Common.{rules, arith, ◌≡◌, ◌+◌, length, take, refl}
+use Rattle.std.proofs.Common.{rules, arith, ◌≡◌, ◌+◌, take, refl}
 use Rattle.std.specs.List.{slice_range}
 use Rattle.std.specs.Io.Cursor.{cursor_inner, cursor_position}
 use Rattle.perfdata_base.specs.Source.{Consumed}
@@ -10,7 +10,7 @@ use Rattle.linux_perf_data.proofs.in_memory.file_walk.FileWalk.take_from.Goals a
 
 pub returns : goal.returns
 returns c = λ file.
-    let it = c.args.iter.now in
+    let it = c.args.records.now in
     let walk = c.args.self in
     let next = c.args.next in
     let bytes = walk.remaining.now in

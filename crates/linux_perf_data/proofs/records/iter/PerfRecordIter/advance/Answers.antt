@@ -48,8 +48,8 @@ returns-in-Ok-clause-advances g c =
     let piece = c.next_raw_record.new.self in
     let header_bytes = c.in-Ok-Some.header in
     let t = some_record state c.raw_records.self piece _ header_bytes c.in-Ok-Some.field-0-is c.in-Ok-Some.ensures.raw_record in
-    let step = subst (λ f. RecordProcessed state piece f c.raw_records.self.offset c.raw_records.self.round header_bytes c.in-Ok.found c.process_record.new.self c.process_record.new.file) i.file c.in-Ok.ensures.processes in
-    returns_record state c.args.self.now c.raw_records.self piece c.process_record.new.self c.args.file.now c.process_record.new.file header_bytes c.in-Ok.found i.idles t c.if-header-ne-PERF_RECORD_FINISHED_ROUND.true c.raw_records-test.ensures step
+    let step = subst (λ f. RecordProcessed state piece f c.raw_records.self.offset c.raw_records.self.round header_bytes c.in-Ok.info c.process_record.new.self c.process_record.new.perf_file) i.file c.in-Ok.ensures.processes in
+    returns_record state c.args.self.now c.raw_records.self piece c.process_record.new.self c.args.perf_file.now c.process_record.new.perf_file header_bytes c.in-Ok.info i.idles t c.if-header-ne-PERF_RECORD_FINISHED_ROUND.true c.raw_records-test.ensures step
 
 pub returns-in-Err-process_record-clause-advances : goal.returns-in-Err-process_record-clause-advances
 returns-in-Err-process_record-clause-advances g c =
@@ -59,13 +59,13 @@ returns-in-Err-process_record-clause-advances g c =
     let header_bytes = c.in-Ok-Some.header in
     let e = c.in-Err-process_record.error in
     let t = some_record state c.raw_records.self piece _ header_bytes c.in-Ok-Some.field-0-is c.in-Ok-Some.ensures.raw_record in
-    let d = subst (λ f. RecordRejected state piece f header_bytes e c.process_record.new.self c.process_record.new.file) i.file c.in-Err-process_record.ensures.processes in
+    let d = subst (λ f. RecordRejected state piece f header_bytes e c.process_record.new.self c.process_record.new.perf_file) i.file c.in-Err-process_record.ensures.processes in
     record {
       stage_failed = refl;
       not_ended = λ ended. let ran = i.idles.ran in cc;
       if_failed = λ failed. let ran = i.idles.ran in absurd cc;
       only_if_failed = λ is. absurd (d.not_failed is);
-      if_running = λ _. late_stops state c.args.self.now c.raw_records.self piece c.process_record.new.self _ c.args.file.now c.process_record.new.file header_bytes e i.idles t c.if-header-ne-PERF_RECORD_FINISHED_ROUND.true c.raw_records-test.ensures d
+      if_running = λ _. late_stops state c.args.self.now c.raw_records.self piece c.process_record.new.self _ c.args.perf_file.now c.process_record.new.perf_file header_bytes e i.idles t c.if-header-ne-PERF_RECORD_FINISHED_ROUND.true c.raw_records-test.ensures d
           (record { source = refl; input = refl; body = refl; round = refl }) refl;
       same_file = d.same_file;
     }
@@ -95,8 +95,8 @@ returns-in-Err-clause-advances g c =
       not_ended = λ ended. let ran = i.idles.ran in cc;
       if_failed = λ failed. let ran = i.idles.ran in absurd cc;
       only_if_failed = λ is. absurd (r.error.not_failed is);
-      if_running = λ _. stops state c.args.self.now c.raw_records.self new _ c.args.file.now c.in-Err.error i.idles c.raw_records-test.ensures r (record { source = refl; input = refl; body = refl; round = refl }) refl;
-      same_file = same_later c.raw_records.file c.args.file.now i.file;
+      if_running = λ _. stops state c.args.self.now c.raw_records.self new _ c.args.perf_file.now c.in-Err.error i.idles c.raw_records-test.ensures r (record { source = refl; input = refl; body = refl; round = refl }) refl;
+      same_file = same_later c.raw_records.perf_file c.args.perf_file.now i.file;
     }
 
 pub returns-clause-advances : goal.returns-clause-advances
@@ -124,5 +124,5 @@ returns-in-Err-process_record-clause-memory_only_to_grow g c = λ m.
     let state = g.R.Source.state in
     let header_bytes = c.in-Ok-Some.header in
     let t = some_record state c.raw_records.self c.next_raw_record.new.self _ header_bytes c.in-Ok-Some.field-0-is c.in-Ok-Some.ensures.raw_record in
-    inr (buffers_metadata state c.args.self.now c.raw_records.self c.next_raw_record.new.self c.process_record.new.self c.raw_records.file c.process_record.new.file header_bytes c.in-Err-process_record.error c.raw_records.invariant.idles t c.if-header-ne-PERF_RECORD_FINISHED_ROUND.true
+    inr (buffers_metadata state c.args.self.now c.raw_records.self c.next_raw_record.new.self c.process_record.new.self c.raw_records.perf_file c.process_record.new.perf_file header_bytes c.in-Err-process_record.error c.raw_records.invariant.idles t c.if-header-ne-PERF_RECORD_FINISHED_ROUND.true
     c.in-Err-process_record.ensures.processes)

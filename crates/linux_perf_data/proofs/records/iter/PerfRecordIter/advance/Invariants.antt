@@ -7,7 +7,7 @@ invariant-raw_records g l = record {
   idles : Idles g.R.Source.state l.fn.self l.self;
   pauses : (g.R.Source.state l.self.source).pauses ≡ (g.R.Source.state l.fn.self.source).pauses;
   same_loan : g.R.Source.loan l.self.source ≡ g.R.Source.loan l.fn.self.source;
-  file : l.file ≡ l.fn.file;
+  file : l.perf_file ≡ l.fn.perf_file;
   capacity : vec_capacity l.fn.self.body ≤ vec_capacity l.self.body;
 }
 
