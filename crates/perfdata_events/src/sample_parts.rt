@@ -135,6 +135,7 @@ impl<'a> BranchStack<'a> {
     }
 
     // The same if samples of the format have one.
+    #[inline(always)]
     pub(crate) fn parse_if(
         format: &EventFormat,
         fields: &mut RawData<'a>,
@@ -170,6 +171,7 @@ impl<'a> UserStack<'a> {
     }
 
     // The same if samples of the format have one.
+    #[inline(always)]
     pub(crate) fn parse_if(
         format: &EventFormat,
         fields: &mut RawData<'a>,
@@ -199,6 +201,7 @@ pub(crate) fn read_raw_data<'a>(endian: Endianness, fields: &mut RawData<'a>) ->
 }
 
 // Removes raw data if samples of the format have some.
+#[inline(always)]
 pub(crate) fn read_raw_data_if<'a>(
     format: &EventFormat,
     fields: &mut RawData<'a>,

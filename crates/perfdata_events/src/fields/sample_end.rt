@@ -187,6 +187,7 @@ impl<'a> SampleEnd<'a> {
     /// pages.
     ///
     /// Fails with an `UnexpectedEof` error if they are truncated.
+    #[inline(always)]
     pub fn parse(
         endian: Endianness,
         sample_format: SampleFields,
