@@ -27,4 +27,4 @@ pub use case_error::{CaseError, CaseResult};
 pub use outcome::Call;
 pub use runner::run;
 pub use source_steps::error_kind;
-pub use text::{push_error, push_io_result, push_line, push_other, push_result};
+pub use text::Output;

@@ -9,10 +9,10 @@ mod slices;
 mod sorting;
 mod sources;
 
-use crate::cases::{Call, CaseResult, push_line};
+use crate::cases::{Call, CaseResult, Output};
 
 /// Makes the call of a case, if this module has it.
-pub fn call(call: &Call<'_>, out: &mut String) -> CaseResult<bool> {
+pub fn call(call: &Call<'_>, out: &mut Output) -> CaseResult<bool> {
     match call.case.call {
         "list-file" | "list-pipe" | "list-jit" => listing::push_listing(call, out)?,
         "record-line" | "jit-line" | "error-line" => output::push_numbers(&call.case, out)?,
@@ -23,11 +23,11 @@ pub fn call(call: &Call<'_>, out: &mut String) -> CaseResult<bool> {
         "order-file" | "order-pipe" => orders::push_ordered(call, out)?,
         "sort" => sorting::sort(call, out)?,
         "metadata" => metadata::push_metadata(call, out)?,
-        "bytes-left" => slices::push_bytes_left(call, out)?,
+        "bytes-left" => slices::push_bytes_left(call, out),
         "entries" | "two-bodies" => slices::push_in_memory(call, out)?,
-        "count-file" | "count-pipe" => slices::push_count(call, out)?,
-        "code-size" => slices::push_code_size(call, out)?,
-        "size" => push_line(out, &call.input.bytes.len())?,
+        "count-file" | "count-pipe" => slices::push_count(call, out),
+        "code-size" => slices::push_code_size(call, out),
+        "size" => out.push_line(&call.input.bytes.len()),
         _ => return Ok(false),
     }
     Ok(true)

@@ -3,6 +3,7 @@ use crate::cases::case::{Case, number_of, split_argument};
 use crate::cases::case_error::{CaseError, CaseResult};
 use crate::cases::ranges::lines_of;
 use crate::cases::source_steps::{error_kind, parse_steps};
+use crate::cases::text::Output;
 use crate::cases::values::{Scope, Value, values_of};
 use crate::{formats, reader};
 use perfdata_base::raw::{Endianness, RawData};
@@ -127,11 +128,10 @@ impl Variation {
 }
 
 fn call_once(call: &Call<'_>) -> CaseResult<String> {
-    let mut out = String::with_capacity(call.alloc, RESULT_SIZE)?;
-    if reader::call(call, &mut out)? || formats::call(call, &mut out)? {
-        Ok(out)
-    } else {
-        Err(CaseError::Invalid("an unknown call"))
+    let mut out = Output::new(String::with_capacity(call.alloc, RESULT_SIZE)?);
+    match reader::call(call, &mut out)? || formats::call(call, &mut out)? {
+        true => out.finish(),
+        false => Err(CaseError::Invalid("an unknown call")),
     }
 }
 

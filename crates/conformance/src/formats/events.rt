@@ -1,5 +1,5 @@
 //! Event bodies, and those of their fields that consist of numbers.
-use crate::cases::{Call, CaseError, CaseResult, push_io_result, push_line};
+use crate::cases::{Call, CaseError, CaseResult, Output};
 use byteorder::{BigEndian, LittleEndian};
 use perfdata_base::attr::PerfEventAttr;
 use perfdata_base::event::{CpuMode, RawEventRecord, RecordType};
@@ -12,6 +12,7 @@ use perfdata_events::read_values::GroupValues;
 use perfdata_events::sample_parts::BranchStack;
 use perfdata_events::sample_words::WeightStruct;
 use perfdata_events::u64s::RawDataU64;
+use std::alloc::Global;
 use std::io;
 
 // The attribute after the body; without one an attribute of zeros.
@@ -31,22 +32,18 @@ fn attr_of(call: &Call<'_>) -> CaseResult<PerfEventAttr> {
 }
 
 // Appends a record in the form of `{:?}`, without fields that are `None`.
-fn push_event(
-    call: &Call<'_>,
-    out: &mut String,
-    event: &io::Result<EventRecord<'_>>,
-) -> CaseResult {
-    let mut text = String::new(call.alloc);
-    push_io_result(&mut text, event)?;
-    for part in text.as_str().split(": None") {
+fn push_event(alloc: Global, out: &mut Output, event: &io::Result<EventRecord<'_>>) -> CaseResult {
+    let mut text = Output::new(String::new(alloc));
+    text.push_io_result(event);
+    for part in text.finish()?.split(": None") {
         let part = part.trim_start_matches([',', ' ']);
-        out.push_str(part.trim_end_matches(|c: char| c == '_' || c.is_alphanumeric()))?;
+        out.push_str(part.trim_end_matches(|c: char| c == '_' || c.is_alphanumeric()));
     }
     Ok(())
 }
 
 /// Makes the call of a case, if this module has it. The input is the body of a record, or numbers.
-pub fn call(call: &Call<'_>, out: &mut String) -> CaseResult<bool> {
+pub fn call(call: &Call<'_>, out: &mut Output) -> CaseResult<bool> {
     let attr = attr_of(call)?;
     let format = EventFormat::new(&attr, call.input.endian);
     let record = RawEventRecord {
@@ -56,9 +53,9 @@ pub fn call(call: &Call<'_>, out: &mut String) -> CaseResult<bool> {
         parse_info: RecordParseInfo::new(&attr, call.input.endian),
     };
     match call.case.call {
-        "cpu-mode" => push_line(out, &CpuMode::from_misc(record.misc))?,
-        "event" => push_event(call, out, &format.parse(&record))?,
-        "sample-id" => push_io_result(out, &format.sample_id(&record))?,
+        "cpu-mode" => out.push_line(&CpuMode::from_misc(record.misc)),
+        "event" => push_event(call.alloc, out, &format.parse(&record))?,
+        "sample-id" => out.push_io_result(&format.sample_id(&record)),
         _ => return push_numbers(call, out),
     }
     Ok(true)
@@ -66,20 +63,20 @@ pub fn call(call: &Call<'_>, out: &mut String) -> CaseResult<bool> {
 
 // The numbers of weights, or the frames of a call chain; or how many counters, branches or numbers there are,
 // and what is at each index of the option `get`.
-fn push_numbers(call: &Call<'_>, out: &mut String) -> CaseResult<bool> {
+fn push_numbers(call: &Call<'_>, out: &mut Output) -> CaseResult<bool> {
     let Some(values) = RawDataU64::new(call.input.endian, call.input.raw()) else {
-        push_line(out, &"no whole numbers")?;
+        out.push_line(&"no whole numbers");
         return Ok(true);
     };
     match call.case.call {
         "weight-struct" => {
             for weight in values.iter() {
-                push_line(out, &WeightStruct::new(weight))?;
+                out.push_line(&WeightStruct::new(weight));
             }
         }
         "call-chain" => {
             for frame in (CallChain { values }).iter() {
-                push_line(out, &frame)?;
+                out.push_line(&frame);
             }
         }
         "group-values" | "branch-stack" | "u64s" => push_at_indices(call, values, out)?,
@@ -88,7 +85,7 @@ fn push_numbers(call: &Call<'_>, out: &mut String) -> CaseResult<bool> {
     Ok(true)
 }
 
-fn push_at_indices(call: &Call<'_>, values: RawDataU64<'_>, out: &mut String) -> CaseResult {
+fn push_at_indices(call: &Call<'_>, values: RawDataU64<'_>, out: &mut Output) -> CaseResult {
     let group = GroupValues {
         time_enabled: None,
         time_running: None,
@@ -104,9 +101,9 @@ fn push_at_indices(call: &Call<'_>, values: RawDataU64<'_>, out: &mut String) ->
     for index in call.case.numbers(call.alloc, "get")?.iter() {
         let index = usize::try_from(*index).unwrap_or(usize::MAX);
         match call.case.call {
-            "group-values" => push_line(out, &(group.len(), group.get(index)))?,
-            "branch-stack" => push_line(out, &(stack.len(), stack.get(index)))?,
-            _ => push_line(out, &(values.len(), values.is_empty(), values.get(index)))?,
+            "group-values" => out.push_line(&(group.len(), group.get(index))),
+            "branch-stack" => out.push_line(&(stack.len(), stack.get(index))),
+            _ => out.push_line(&(values.len(), values.is_empty(), values.get(index))),
         }
     }
     Ok(())

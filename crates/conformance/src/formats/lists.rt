@@ -1,12 +1,7 @@
 //! Lists of calls, and results that several calls print.
-use crate::cases::{
-    Call, CaseError, CaseResult, push_io_result, push_line, size_of, split_argument, split_count,
-};
-use perfdata_base::raw::RawData;
+use crate::cases::{Call, CaseError, CaseResult, Output, size_of, split_argument, split_count};
 use std::alloc::Global;
-use std::fmt::Write;
 use std::hash::{DefaultHasher, Hash, Hasher};
-use std::io;
 
 /// The error for a call that isn't one of the list's.
 pub const UNKNOWN_CALL: CaseError = CaseError::Invalid("an unknown call in a list");
@@ -58,23 +53,9 @@ fn hash_of<T: Hash>(value: &T) -> u64 {
     state.finish()
 }
 
-/// Appends raw data as a line, in whatever slices it is; `None` if there is none, and `Err(KIND)` for an
-/// error.
-pub fn push_raw(
-    alloc: Global,
-    out: &mut String,
-    read: io::Result<Option<RawData<'_>>>,
-) -> CaseResult {
-    match read {
-        Ok(Some(bytes)) => push_line(out, &bytes.as_slice(alloc)?.as_slice()),
-        none => push_io_result(out, &none),
-    }
-}
-
 /// Appends `N left` as a line if this number of unread bytes isn't 0.
-pub fn push_left(out: &mut String, count: u64) -> CaseResult {
+pub fn push_left(out: &mut Output, count: u64) {
     if count != 0 {
-        writeln!(out, "{count} left")?;
+        writeln!(out, "{count} left");
     }
-    Ok(())
 }

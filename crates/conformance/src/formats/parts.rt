@@ -1,5 +1,5 @@
 //! Record headers, section entries, attributes with their parse infos, and the headers of files and pipes.
-use crate::cases::{Call, CaseResult, push_io_result, push_line, push_other};
+use crate::cases::{Call, CaseResult, Output};
 use perfdata_base::attr::PerfEventAttr;
 use perfdata_base::event::{PerfEventHeader, RecordType};
 use perfdata_base::header::{PerfHeader, PerfPipeHeader};
@@ -13,50 +13,46 @@ use std::io::Cursor;
 
 /// Parses a part of a slice and of a cursor, at the offset of the option `at`. Prints it, and the number of
 /// bytes that it takes.
-pub fn call<T: FileOrder>(call: &Call<'_>, out: &mut String) -> CaseResult<bool> {
+pub fn call<T: FileOrder>(call: &Call<'_>, out: &mut Output) -> CaseResult<bool> {
     let at = call.case.size("at", 0)?;
     let mut rest = call.input.bytes.get(at..).unwrap_or(&[]);
     let mut cursor = Cursor::new(call.input.bytes);
     cursor.set_position(at as u64);
     let (name, len) = (call.case.call, rest.len());
     if name == "PerfHeader::parse" {
-        push_io_result(out, &PerfHeader::parse(&mut cursor))?;
-        push_line(out, &cursor.position().saturating_sub(at as u64))?;
+        out.push_io_result(&PerfHeader::parse(&mut cursor));
+        out.push_line(&cursor.position().saturating_sub(at as u64));
         return Ok(true);
     }
-    if !push_part::<_, T>(name, &mut rest, out)? {
+    if !push_part::<_, T>(name, &mut rest, out) {
         return push_info::<T>(call, out);
     }
-    push_line(out, &len.saturating_sub(rest.len()))?;
-    let (first, mut other) = (out.clone()?, String::new(call.alloc));
-    push_part::<_, T>(name, &mut cursor, &mut other)?;
-    push_line(&mut other, &cursor.position().saturating_sub(at as u64))?;
-    push_other(out, &first, "cursor", &other)?;
+    out.push_line(&len.saturating_sub(rest.len()));
+    let (first, mut other) = (out.clone()?, Output::new(String::new(call.alloc)));
+    push_part::<_, T>(name, &mut cursor, &mut other);
+    other.push_line(&cursor.position().saturating_sub(at as u64));
+    out.append_other(&first, "cursor", &other);
     Ok(true)
 }
 
-fn push_part<S: Source, T: FileOrder>(
-    name: &str,
-    source: &mut S,
-    out: &mut String,
-) -> CaseResult<bool> {
+fn push_part<S: Source, T: FileOrder>(name: &str, source: &mut S, out: &mut Output) -> bool {
     match name {
-        "PerfEventHeader::parse" => push_io_result(out, &PerfEventHeader::parse::<_, T>(source))?,
-        "PerfFileSection::parse" => push_io_result(out, &PerfFileSection::parse::<_, T>(source))?,
-        "PerfEventAttr::parse" => push_io_result(out, &PerfEventAttr::parse::<_, T>(source))?,
-        "PerfPipeHeader::parse" => push_io_result(out, &PerfPipeHeader::parse(source))?,
+        "PerfEventHeader::parse" => out.push_io_result(&PerfEventHeader::parse::<_, T>(source)),
+        "PerfFileSection::parse" => out.push_io_result(&PerfFileSection::parse::<_, T>(source)),
+        "PerfEventAttr::parse" => out.push_io_result(&PerfEventAttr::parse::<_, T>(source)),
+        "PerfPipeHeader::parse" => out.push_io_result(&PerfPipeHeader::parse(source)),
         "PerfPipeHeader::parse_with_extra" => {
-            push_io_result(out, &PerfPipeHeader::parse_with_extra(source))?;
+            out.push_io_result(&PerfPipeHeader::parse_with_extra(source));
         }
-        _ => return Ok(false),
+        _ => return false,
     }
-    Ok(true)
+    true
 }
 
 // Prints the record header at the start of the input, and the one in its first eight bytes; or the parse info
 // of the attribute in the last argument, for bodies in the input's byte order, or in
 // little-endian with the option `little-endian-info`; or a number of the record whose body is the input.
-fn push_info<T: FileOrder>(call: &Call<'_>, out: &mut String) -> CaseResult<bool> {
+fn push_info<T: FileOrder>(call: &Call<'_>, out: &mut Output) -> CaseResult<bool> {
     let record_type = RecordType(call.case.u32("type")?);
     let (body, bytes) = (call.input.raw(), call.input.bytes);
     let has_ids = call.case.has("sample_id_all");
@@ -68,14 +64,14 @@ fn push_info<T: FileOrder>(call: &Call<'_>, out: &mut String) -> CaseResult<bool
     let info = attr.map(|(attr, _)| RecordParseInfo::new(&attr, order));
     let number = match (call.case.call, info) {
         ("PerfEventHeader::peek", _) => {
-            push_line(out, &PerfEventHeader::peek(call.input.endian, bytes))?;
+            out.push_line(&PerfEventHeader::peek(call.input.endian, bytes));
             if let Some(first) = bytes.first_chunk::<8>() {
-                push_line(out, &PerfEventHeader::from_bytes(call.input.endian, first))?;
+                out.push_line(&PerfEventHeader::from_bytes(call.input.endian, first));
             }
             return Ok(true);
         }
         ("RecordParseInfo::new", Ok(info)) => {
-            push_line(out, &info)?;
+            out.push_line(&info);
             return Ok(true);
         }
         ("get_record_identifier", _) => get_record_identifier::<T>(record_type, body, has_ids),
@@ -88,6 +84,6 @@ fn push_info<T: FileOrder>(call: &Call<'_>, out: &mut String) -> CaseResult<bool
         }
         _ => return Ok(false),
     };
-    push_line(out, &number)?;
+    out.push_line(&number);
     Ok(true)
 }

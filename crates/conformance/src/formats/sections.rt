@@ -1,6 +1,6 @@
 //! The parsers of sections and of records that tools write: features, attributes, build ids, and the keys of
 //! mapped objects.
-use crate::cases::{Call, CaseError, CaseResult, push_io_result, push_line, push_result};
+use crate::cases::{Call, CaseError, CaseResult, Output};
 use crate::formats::lists::{equalities, push_left};
 use perfdata_base::event::{CpuMode, RecordType};
 use perfdata_base::raw::FileOrder;
@@ -14,12 +14,11 @@ use perfdata_records::thread_map::ThreadMap;
 use perfdata_sections::error::Error;
 use perfdata_sections::event_type::SimplePerfEventType;
 use perfdata_sections::feature_sections::*;
-use std::fmt::Write;
 use std::io::{self, SeekFrom};
 
 /// Makes the call of a case, if this module has it. With the option `left` it prints the number of bytes that
 /// are left unread.
-pub fn call<T: FileOrder>(call: &Call<'_>, out: &mut String) -> CaseResult<bool> {
+pub fn call<T: FileOrder>(call: &Call<'_>, out: &mut Output) -> CaseResult<bool> {
     if push_parsed::<T>(call, out)? {
         return Ok(true);
     }
@@ -30,7 +29,7 @@ pub fn call<T: FileOrder>(call: &Call<'_>, out: &mut String) -> CaseResult<bool>
         return Ok(false);
     }
     if call.case.has("left") {
-        push_left(out, skip_up_to(&mut source, u64::MAX)?)?;
+        push_left(out, skip_up_to(&mut source, u64::MAX)?);
     }
     Ok(true)
 }
@@ -38,22 +37,22 @@ pub fn call<T: FileOrder>(call: &Call<'_>, out: &mut String) -> CaseResult<bool>
 fn push_section<T: FileOrder>(
     call: &Call<'_>,
     source: &mut Script,
-    out: &mut String,
+    out: &mut Output,
 ) -> CaseResult<bool> {
     let alloc = call.alloc;
     match call.case.call {
-        "NrCpus::parse" => push_io_result(out, &NrCpus::parse::<_, T>(source))?,
-        "SampleTimeRange::parse" => push_io_result(out, &SampleTimeRange::parse::<_, T>(source))?,
-        "CompressionInfo::parse" => push_io_result(out, &CompressionInfo::parse::<_, T>(source))?,
-        "ClockData::parse" => push_io_result(out, &ClockData::parse::<_, T>(source))?,
-        "HeaderString::parse" => push_io_result(out, &HeaderString::parse::<_, T>(alloc, source))?,
+        "NrCpus::parse" => out.push_io_result(&NrCpus::parse::<_, T>(source)),
+        "SampleTimeRange::parse" => out.push_io_result(&SampleTimeRange::parse::<_, T>(source)),
+        "CompressionInfo::parse" => out.push_io_result(&CompressionInfo::parse::<_, T>(source)),
+        "ClockData::parse" => out.push_io_result(&ClockData::parse::<_, T>(source)),
+        "HeaderString::parse" => out.push_io_result(&HeaderString::parse::<_, T>(alloc, source)),
         "PmuMappings::parse" => {
             let mappings = PmuMappings::parse::<_, T>(alloc, source);
-            push_io_result(out, &mappings.map(|mappings| mappings.0))?;
+            out.push_io_result(&mappings.map(|mappings| mappings.0));
         }
         "BuildIdEvent::parse" => {
             for _ in 0..call.case.size("count", 1)? {
-                push_io_result(out, &BuildIdEvent::parse::<_, T>(alloc, &mut *source))?;
+                out.push_io_result(&BuildIdEvent::parse::<_, T>(alloc, &mut *source));
             }
         }
         _ => return Ok(false),
@@ -92,7 +91,7 @@ fn parse<T: FileOrder>(
 fn push_attributes<T: FileOrder>(
     call: &Call<'_>,
     source: &mut Script,
-    out: &mut String,
+    out: &mut Output,
 ) -> CaseResult {
     let numbers = call.case.numbers(call.alloc, "section")?;
     let (offset, size) = match numbers.as_slice() {
@@ -110,37 +109,35 @@ fn push_attributes<T: FileOrder>(
     }
     match parse::<T>(call, source, &section, attr_size, &types) {
         Ok(all) => {
-            writeln!(out, "{} attributes", all.len())?;
+            writeln!(out, "{} attributes", all.len());
             for description in all.iter() {
                 let (name, ids) = (description.name(), description.ids());
-                writeln!(out, "{name:?}, {ids:?}, {:?}", description.attributes())?;
+                writeln!(out, "{name:?}, {ids:?}, {:?}", description.attributes());
             }
-            Ok(())
         }
-        Err(error) => push_result(out, &Err::<(), _>(error)),
+        Err(error) => out.push_result(&Err::<(), _>(error)),
     }
+    Ok(())
 }
 
 // Parses the body of a record, or an entry of build ids in bytes, or makes a call of keys.
-fn push_parsed<T: FileOrder>(call: &Call<'_>, out: &mut String) -> CaseResult<bool> {
+fn push_parsed<T: FileOrder>(call: &Call<'_>, out: &mut Output) -> CaseResult<bool> {
     let body = call.input.raw();
     match call.case.call {
-        "Auxtrace::parse" => push_io_result(out, &Auxtrace::parse::<T>(body))?,
-        "HeaderAttr::parse" => push_io_result(out, &HeaderAttr::parse::<T>(call.alloc, body))?,
-        "HeaderFeature::parse" => {
-            push_io_result(out, &HeaderFeature::parse::<T>(call.alloc, body))?;
-        }
+        "Auxtrace::parse" => out.push_io_result(&Auxtrace::parse::<T>(body)),
+        "HeaderAttr::parse" => out.push_io_result(&HeaderAttr::parse::<T>(call.alloc, body)),
+        "HeaderFeature::parse" => out.push_io_result(&HeaderFeature::parse::<T>(call.alloc, body)),
         "ThreadMap::parse" => match ThreadMap::parse::<T>(body) {
             Ok(map) => push_threads(call, out, &map)?,
-            Err(error) => push_io_result(out, &Err::<(), _>(error))?,
+            Err(error) => out.push_io_result(&Err::<(), _>(error)),
         },
         "RawUserRecord::parse" => push_user_record(call, out)?,
-        "before_nul" => push_line(out, &before_nul(call.input.bytes))?,
+        "before_nul" => out.push_line(&before_nul(call.input.bytes)),
         "BuildIdEvent::read_from_in" => {
             let mut bytes = call.input.bytes;
             let entry = BuildIdEvent::read_from_in(call.alloc, call.input.endian, &mut bytes);
-            push_io_result(out, &entry.map_err(io::Error::from))?;
-            push_left(out, bytes.len() as u64)?;
+            out.push_io_result(&entry.map_err(io::Error::from));
+            push_left(out, bytes.len() as u64);
         }
         "DsoKey::detect" => push_keys(call, out)?,
         "DsoKey::eq" => push_equalities(call, out)?,
@@ -150,18 +147,18 @@ fn push_parsed<T: FileOrder>(call: &Call<'_>, out: &mut String) -> CaseResult<bo
 }
 
 // Appends the length of a map, and a line for each of its threads.
-fn push_threads(call: &Call<'_>, out: &mut String, map: &ThreadMap<'_>) -> CaseResult {
+fn push_threads(call: &Call<'_>, out: &mut Output, map: &ThreadMap<'_>) -> CaseResult {
     let (len, is_empty) = (map.len(), map.is_empty());
-    writeln!(out, "ThreadMap: len {len}, is_empty {is_empty}")?;
+    writeln!(out, "ThreadMap: len {len}, is_empty {is_empty}");
     for thread in map.iter() {
         let name = thread.name.as_slice(call.alloc)?;
-        push_line(out, &(thread.tid, name.as_slice()))?;
+        out.push_line(&(thread.tid, name.as_slice()));
     }
     Ok(())
 }
 
 // Parses a record of the type in the option `type`, with the option `misc`.
-fn push_user_record(call: &Call<'_>, out: &mut String) -> CaseResult {
+fn push_user_record(call: &Call<'_>, out: &mut Output) -> CaseResult {
     let record_type = RecordType(call.case.u32("type")?);
     let Some(record_type) = UserRecordType::try_from(record_type) else {
         return Err(CaseError::Invalid("a type that isn't a user record's"));
@@ -173,25 +170,26 @@ fn push_user_record(call: &Call<'_>, out: &mut String) -> CaseResult {
         body: call.input.raw(),
     };
     match record.parse(call.alloc) {
-        Ok(UserRecord::ThreadMap(map)) => push_threads(call, out, &map),
-        parsed => push_io_result(out, &parsed),
+        Ok(UserRecord::ThreadMap(map)) => push_threads(call, out, &map)?,
+        parsed => out.push_io_result(&parsed),
     }
+    Ok(())
 }
 
 // Prints the key and the name of a path in each mode.
-fn push_keys(call: &Call<'_>, out: &mut String) -> CaseResult {
+fn push_keys(call: &Call<'_>, out: &mut Output) -> CaseResult {
     for misc in [1u16, 4, 2, 5, 3, 0] {
         let mode = CpuMode::from_misc(misc);
         match DsoKey::detect(call.alloc, call.input.bytes, mode)? {
-            Some(key) => writeln!(out, "{mode:?}: {key:?} {:?}", key.name())?,
-            None => writeln!(out, "{mode:?}: None")?,
+            Some(key) => writeln!(out, "{mode:?}: {key:?} {:?}", key.name()),
+            None => writeln!(out, "{mode:?}: None"),
         }
     }
     Ok(())
 }
 
 // Compares the keys of two paths, and the hashes of the keys.
-fn push_equalities(call: &Call<'_>, out: &mut String) -> CaseResult {
+fn push_equalities(call: &Call<'_>, out: &mut Output) -> CaseResult {
     let mode = match call.case.option("mode") {
         Some("Kernel") => CpuMode::Kernel,
         Some("User") | None => CpuMode::User,
@@ -202,5 +200,6 @@ fn push_equalities(call: &Call<'_>, out: &mut String) -> CaseResult {
     let (Some(first), Some(second)) = (first, second) else {
         return Err(CaseError::Invalid("a path without a key"));
     };
-    push_line(out, &equalities(&first, &second))
+    out.push_line(&equalities(&first, &second));
+    Ok(())
 }

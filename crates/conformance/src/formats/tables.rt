@@ -1,5 +1,5 @@
 //! Tables of constants by their names, and of errors with their texts.
-use crate::cases::{Call, CaseResult, push_line};
+use crate::cases::{Call, Output};
 use perfdata_base::features::*;
 use perfdata_base::source::unexpected_eof;
 use perfdata_jit::JitDumpRecordType;
@@ -11,7 +11,7 @@ use perfdata_sections::error::{Error, ReadError, unsupported};
 use perfdata_sections::feature_sections::{ClockData, CompressionInfo, NrCpus, SampleTimeRange};
 use perfdata_simpleperf::simpleperf::simpleperf_dso_type::*;
 use std::alloc::{AllocError, AllocFailed};
-use std::fmt::{Debug, Display, Write};
+use std::fmt::{Debug, Display};
 use std::io::{self, ErrorKind};
 use std::str;
 
@@ -72,54 +72,52 @@ const READ_ERRORS: [ReadError; 10] = variants![
 ];
 
 /// Makes the call of a case, if this module has it.
-pub fn call(call: &Call<'_>, out: &mut String) -> CaseResult<bool> {
+pub fn call(call: &Call<'_>, out: &mut Output) -> bool {
     match call.case.call {
-        "feature-numbers" => push_rows(out, &FEATURE_NUMBERS)?,
-        "features" => push_rows(out, &FEATURES)?,
-        "record-numbers" => push_rows(out, &RECORD_NUMBERS)?,
-        "perf_record_types" => push_line(out, &perf_record_types())?,
-        "simpleperf_record_types" => push_line(out, &simpleperf_record_types())?,
-        "dso-types" => push_rows(out, &DSO_TYPES)?,
-        "JitDumpRecordType" => push_rows(out, &JIT_TYPES)?,
+        "feature-numbers" => push_rows(out, &FEATURE_NUMBERS),
+        "features" => push_rows(out, &FEATURES),
+        "record-numbers" => push_rows(out, &RECORD_NUMBERS),
+        "perf_record_types" => out.push_line(&perf_record_types()),
+        "simpleperf_record_types" => out.push_line(&simpleperf_record_types()),
+        "dso-types" => push_rows(out, &DSO_TYPES),
+        "JitDumpRecordType" => push_rows(out, &JIT_TYPES),
         "sizes" => {
-            writeln!(out, "NrCpus {}", NrCpus::STRUCT_SIZE)?;
-            writeln!(out, "SampleTimeRange {}", SampleTimeRange::STRUCT_SIZE)?;
-            writeln!(out, "CompressionInfo {}", CompressionInfo::STRUCT_SIZE)?;
-            writeln!(out, "ClockData {}", ClockData::STRUCT_SIZE)?;
-            writeln!(out, "Auxtrace {}", Auxtrace::FIXED_SIZE)?;
+            writeln!(out, "NrCpus {}", NrCpus::STRUCT_SIZE);
+            writeln!(out, "SampleTimeRange {}", SampleTimeRange::STRUCT_SIZE);
+            writeln!(out, "CompressionInfo {}", CompressionInfo::STRUCT_SIZE);
+            writeln!(out, "ClockData {}", ClockData::STRUCT_SIZE);
+            writeln!(out, "Auxtrace {}", Auxtrace::FIXED_SIZE);
         }
-        "CompressionInfo::ZSTD_TYPE" => push_line(out, &CompressionInfo::ZSTD_TYPE)?,
-        "ReadError" => push_texts(out, &READ_ERRORS)?,
+        "CompressionInfo::ZSTD_TYPE" => out.push_line(&CompressionInfo::ZSTD_TYPE),
+        "ReadError" => push_texts(out, &READ_ERRORS),
         "DecodeError" => {
             let errors = variants![
                 DecodeError: Truncated Varint Key WireType Group Depth Utf8 Memory
             ];
-            push_texts(out, &errors)?;
+            push_texts(out, &errors);
         }
-        "Error" => push_error_texts(out)?,
-        "Error::from" => push_converted(out)?,
-        _ => return Ok(false),
+        "Error" => push_error_texts(out),
+        "Error::from" => push_converted(out),
+        _ => return false,
     }
-    Ok(true)
+    true
 }
 
 // Appends a line for each value.
-fn push_rows<T: Debug>(out: &mut String, rows: &[T]) -> CaseResult {
+fn push_rows<T: Debug>(out: &mut Output, rows: &[T]) {
     for row in rows {
-        push_line(out, row)?;
+        out.push_line(row);
     }
-    Ok(())
 }
 
 // Appends the name and the text of each error.
-fn push_texts<E: Debug + Display>(out: &mut String, errors: &[E]) -> CaseResult {
+fn push_texts<E: Debug + Display>(out: &mut Output, errors: &[E]) {
     for error in errors {
-        writeln!(out, "{error:?}: {error}")?;
+        writeln!(out, "{error:?}: {error}");
     }
-    Ok(())
 }
 
-fn push_error_texts(out: &mut String) -> CaseResult {
+fn push_error_texts(out: &mut Output) {
     let with_values = [
         Error::Read(ReadError::PerfEventData),
         Error::IoError(unexpected_eof()),
@@ -130,18 +128,18 @@ fn push_error_texts(out: &mut String) -> CaseResult {
         Error::ProtobufParsingSimpleperfFileSection(DecodeError::WireType),
         Error::ParsingSimpleperfFileV1Section(unexpected_eof()),
     ];
-    push_texts(out, &with_values)?;
+    push_texts(out, &with_values);
     let others = variants![
         Error: SectionSizeTooBig NoAttributes NotEnoughSpaceForStringLen
         NotEnoughSpaceForStringListLen FeatureSectionTooSmall NoEventTypesInSimpleperfMetaInfo
         StringLengthTooLong StringListLengthBiggerThanUsize StringLengthBiggerThanUsize StringUtf8
         InvalidPerfEventSize Failed Memory
     ];
-    push_texts(out, &others)
+    push_texts(out, &others);
 }
 
 // Appends errors that are made from other errors.
-fn push_converted(out: &mut String) -> CaseResult {
+fn push_converted(out: &mut Output) {
     let not_utf8 = str::from_utf8(b"\xff").map_err(Error::from);
     let errors = [
         Error::from(ReadError::NrCpus),
@@ -151,5 +149,5 @@ fn push_converted(out: &mut String) -> CaseResult {
         Error::from(AllocFailed { value: 7u8 }),
         unsupported(),
     ];
-    push_texts(out, &errors)
+    push_texts(out, &errors);
 }

@@ -1,41 +1,39 @@
 //! The calls of listings.
-use crate::cases::{Call, CaseResult, push_error, push_line};
+use crate::cases::{Call, CaseResult, Output};
 use crate::reader::sink::Sink;
-use crate::reader::sources::{SourceCall, push_for_sources};
+use crate::reader::sources::{SourceCall, push_sources};
 use linux_perf_data::jitdump::JitDumpError;
 use linux_perf_data::source::PlacedSource;
 use perfdata_listing::list::{ListCause, ListFault, list_file, list_pipe};
 use perfdata_listing::{list_jit, list_live_jit, list_live_pipe};
-use std::fmt::Write;
 use std::io::Cursor;
 
 // Appends the complete lines of a text, the number of lines that the listing reports if it is another one,
 // and the end of the listing.
-fn push_listed(out: &mut String, text: &[u8], listed: &Result<u64, ListFault>) -> CaseResult {
+fn push_listed(out: &mut Output, text: &[u8], listed: &Result<u64, ListFault>) {
     let text = str::from_utf8(text).unwrap_or("");
-    out.push_str(text.rsplit_once('\n').map_or("", |(lines, _)| lines))?;
-    let count = text.matches('\n').count() as u64;
-    if count != 0 {
-        out.push_str("\n")?;
+    if let Some((lines, _)) = text.rsplit_once('\n') {
+        writeln!(out, "{lines}");
     }
+    let count = text.matches('\n').count() as u64;
     let reported = match listed {
         Ok(lines) => *lines,
         Err(fault) => fault.lines,
     };
     if reported != count {
-        writeln!(out, "{reported} lines")?;
+        writeln!(out, "{reported} lines");
     }
     match listed {
-        Ok(_) => out.push_str("end")?,
+        Ok(_) => out.push_str("end"),
         Err(fault) => match &fault.cause {
-            ListCause::Perf(error) => push_error(out, error)?,
-            ListCause::Write(error) => write!(out, "Write({:?})", error.kind())?,
-            ListCause::Read(error) => write!(out, "Read({:?})", error.kind())?,
-            ListCause::Jit(JitDumpError::Io(error)) => write!(out, "Jit(Io({:?}))", error.kind())?,
-            ListCause::Jit(error) => write!(out, "Jit({error:?})")?,
+            ListCause::Perf(error) => out.push_error(error),
+            ListCause::Write(error) => write!(out, "Write({:?})", error.kind()),
+            ListCause::Read(error) => write!(out, "Read({:?})", error.kind()),
+            ListCause::Jit(JitDumpError::Io(error)) => write!(out, "Jit(Io({:?}))", error.kind()),
+            ListCause::Jit(error) => write!(out, "Jit({error:?})"),
         },
     }
-    Ok(out.push_str("\n")?)
+    out.push_str("\n");
 }
 
 fn list<C: PlacedSource + Drop>(
@@ -60,16 +58,16 @@ struct Listing<'a> {
 }
 
 impl SourceCall for Listing<'_> {
-    fn push<C: PlacedSource + Drop>(&self, source: C, out: &mut String) -> CaseResult {
+    fn push<C: PlacedSource + Drop>(&self, source: C, out: &mut Output) -> CaseResult {
         let mut sink = Sink::of_case(&self.call)?;
         let listed = list(&self.call, source, &mut sink);
-        push_listed(out, &sink.written, &listed)?;
+        push_listed(out, &sink.written, &listed);
         if !self.complete.starts_with(&sink.written) {
-            out.push_str("another text\n")?;
+            out.push_str("another text\n");
         }
         if self.call.case.has("live") {
-            out.push_str("flushed at ")?;
-            push_line(out, &sink.flushed_at)?;
+            out.push_str("flushed at ");
+            out.push_line(&sink.flushed_at);
         }
         Ok(())
     }
@@ -77,9 +75,9 @@ impl SourceCall for Listing<'_> {
 
 /// Lists an input, and prints the complete lines. With the option `live` prints the number of bytes written
 /// before each flush.
-pub fn push_listing(call: &Call<'_>, out: &mut String) -> CaseResult {
+pub fn push_listing(call: &Call<'_>, out: &mut Output) -> CaseResult {
     let mut sink = Sink::unlimited(call.alloc);
     let _ = list(call, Cursor::new(call.input.bytes), &mut sink);
     let (call, complete) = (*call, sink.written.as_slice());
-    push_for_sources(&call, &Listing { call, complete }, out)
+    push_sources(&call, &Listing { call, complete }, out)
 }

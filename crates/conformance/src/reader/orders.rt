@@ -1,33 +1,27 @@
 //! Records in order of time.
-use crate::cases::{Call, CaseResult, push_line, push_other, push_result};
-use crate::reader::reading::{is_pipe, open, open_in_memory};
+use crate::cases::{Call, CaseResult, Output};
+use crate::reader::reading::{Next, Opened, is_pipe, open, open_in_memory};
 use linux_perf_data::source::Script;
-use linux_perf_data::{Error, PerfFile, PerfFileRecord, RecordPlace};
 use perfdata_order::in_memory::InMemoryOrderedRecords;
 use perfdata_order::streaming::OrderedRecords;
-use std::fmt::Write;
 
 // Appends the line of a record, with its body or its body's size, or how the records end. Returns whether
 // there is a record.
-fn push_next(
-    out: &mut String,
-    has_sizes: bool,
-    next: Result<Option<(RecordPlace, PerfFileRecord<'_>)>, Error>,
-) -> CaseResult<bool> {
+fn push_next(out: &mut Output, has_sizes: bool, next: Next<'_>) -> bool {
     match next {
         Ok(Some((place, record))) => {
             let kind = (record.attr_index(), record.record_type().0, record.misc());
             let (offset, round, time) = (place.offset, place.round, place.timestamp);
             match has_sizes {
-                true => push_line(out, &(offset, round, time, kind, record.body().len()))?,
-                false => push_line(out, &(offset, round, time, kind, record.body()))?,
+                true => out.push_line(&(offset, round, time, kind, record.body().len())),
+                false => out.push_line(&(offset, round, time, kind, record.body())),
             }
-            return Ok(true);
+            return true;
         }
-        Ok(None) => out.push_str("end\n")?,
-        Err(error) => push_result(out, &Err::<(), _>(error))?,
+        Ok(None) => out.push_str("end\n"),
+        Err(error) => out.push_result(&Err::<(), _>(error)),
     }
-    Ok(false)
+    false
 }
 
 // Appends the lines of all records, how they end, and the result of the next call, each with the number of
@@ -38,9 +32,9 @@ macro_rules! push_all {
             Ok((mut perf_file, mut $records)) => {
                 let mut is_ended = false;
                 for _ in 0..u64::MAX {
-                    let is_record = push_next($out, $has_sizes, $records.next_record(&mut perf_file))?;
+                    let is_record = push_next($out, $has_sizes, $records.next_record(&mut perf_file));
                     if !is_record && $early != 0 {
-                        writeln!($out, "early {}", $early)?;
+                        writeln!($out, "early {}", $early);
                     }
                     if is_ended {
                         break;
@@ -48,12 +42,10 @@ macro_rules! push_all {
                     is_ended = !is_record;
                 }
             }
-            Err(error) => push_result($out, &Err::<(), _>(error))?,
+            Err(error) => $out.push_result(&Err::<(), _>(error)),
         }
     };
 }
-
-type Opened<R> = Result<(PerfFile, R), Error>;
 
 // Opens a source, with a budget unless it is 0.
 fn ordered(call: &Call<'_>, source: Script, budget: u64) -> Opened<OrderedRecords<Script>> {
@@ -73,7 +65,7 @@ fn ordered_in_memory<'a>(call: &Call<'a>) -> Opened<InMemoryOrderedRecords<'a>> 
 
 /// The records of a source in order of time. Those of the input in memory follow if they differ, unless the
 /// source has steps or there is a budget.
-pub fn push_ordered(call: &Call<'_>, out: &mut String) -> CaseResult {
+pub fn push_ordered(call: &Call<'_>, out: &mut Output) -> CaseResult {
     let budget = call.case.number("budget")?.unwrap_or(0);
     let has_sizes = call.case.has("sizes");
     let script = call.input.script(call.alloc)?;
@@ -81,8 +73,9 @@ pub fn push_ordered(call: &Call<'_>, out: &mut String) -> CaseResult {
     if budget != 0 || !call.input.steps.is_empty() {
         return Ok(());
     }
-    let mut in_memory = String::new(call.alloc);
+    let mut in_memory = Output::new(String::new(call.alloc));
     push_all!(&mut in_memory, has_sizes, ordered_in_memory(call), records => 0u64);
     let first = out.clone()?;
-    push_other(out, &first, "in memory", &in_memory)
+    out.append_other(&first, "in memory", &in_memory);
+    Ok(())
 }

@@ -1,5 +1,5 @@
 //! The calls that write lines: their text, the buffer of lines, and the end of a program.
-use crate::cases::{Call, Case, CaseResult, number_of, push_io_result, push_line, u32_of};
+use crate::cases::{Call, Case, CaseResult, Output, number_of, u32_of};
 use crate::reader::sink::Sink;
 use linux_perf_data::Error;
 use perfdata_listing::line::{Line, RecordFields};
@@ -7,6 +7,9 @@ use perfdata_listing::list::{ListCause, ListFault, flush_listing, list_file};
 use perfdata_listing::output::{CountingBufWriter, finish, write_line};
 use std::alloc::{AllocError, Global};
 use std::io::{Cursor, Error as IoError, ErrorKind, Write};
+
+// A buffer of lines before the writer of a case.
+type Buffer<'a> = CountingBufWriter<&'a mut Sink>;
 
 // The number that is the option with this index; 0 for `-`, with which it isn't there.
 fn word(case: &Case<'_>, index: usize) -> CaseResult<Option<u64>> {
@@ -22,7 +25,7 @@ fn number(case: &Case<'_>, index: usize) -> CaseResult<u64> {
 
 /// Prints the line of the numbers that are the options: those of a record, of a jitdump record, or of an
 /// error.
-pub fn push_numbers(case: &Case<'_>, out: &mut String) -> CaseResult {
+pub fn push_numbers(case: &Case<'_>, out: &mut Output) -> CaseResult {
     let first = number(case, 0)?;
     let mut line = Line::for_error(first);
     match case.call {
@@ -41,7 +44,8 @@ pub fn push_numbers(case: &Case<'_>, out: &mut String) -> CaseResult {
         }
         _ => {}
     }
-    Ok(out.push_str(str::from_utf8(line.as_bytes()).unwrap_or(""))?)
+    out.push_str(str::from_utf8(line.as_bytes()).unwrap_or(""));
+    Ok(())
 }
 
 // The number of records of a listed file, or of the lines before its error.
@@ -53,23 +57,25 @@ fn listed_count(alloc: Global, bytes: &[u8]) -> Result<Result<u64, u64>, AllocEr
 
 /// Prints the exit status after a listing, and what is written to standard error. The listing has `records=N`
 /// records, or fails after `fault=N`, or is that of the input.
-pub fn push_finish(call: &Call<'_>, out: &mut String) -> CaseResult {
+pub fn push_finish(call: &Call<'_>, out: &mut Output) -> CaseResult {
     let listed = match (call.case.number("records")?, call.case.number("fault")?) {
         (Some(records), _) => Ok(records),
         (None, Some(records)) => Err(records),
         (None, None) => listed_count(call.alloc, call.input.bytes)?,
     };
     let mut sink = Sink::of_case(call)?;
-    push_io_result(out, &finish(listed, &mut sink))?;
-    sink.push_text(out)
+    out.push_io_result(&finish(listed, &mut sink));
+    sink.push_text(out);
+    Ok(())
 }
 
 /// Writes a line, and prints the result and the written text.
-pub fn push_write(call: &Call<'_>, out: &mut String) -> CaseResult {
+pub fn push_write(call: &Call<'_>, out: &mut Output) -> CaseResult {
     let mut sink = Sink::of_case(call)?;
-    push_io_result(out, &write_line(&mut sink, call.input.bytes))?;
-    sink.push_text(out)?;
-    sink.push_counts(out)
+    out.push_io_result(&write_line(&mut sink, call.input.bytes));
+    sink.push_text(out);
+    sink.push_counts(out);
+    Ok(())
 }
 
 // The result of a listing of this name, with this number of lines.
@@ -83,50 +89,40 @@ fn listing_of(name: &str, lines: u64) -> Result<u64, ListFault> {
 }
 
 // Writes a line this many times. Returns whether all writes succeed, and appends the error of one that fails.
-fn write_lines<W: Write>(
-    buffer: &mut CountingBufWriter<W>,
-    line: &[u8],
-    count: u64,
-    out: &mut String,
-) -> CaseResult<bool> {
+fn write_lines(buffer: &mut Buffer<'_>, line: &[u8], count: u64, out: &mut Output) -> bool {
     for _ in 0..count {
         let written = write_line(buffer, line);
         if written.is_err() {
-            push_io_result(out, &written)?;
-            return Ok(false);
+            out.push_io_result(&written);
+            return false;
         }
     }
-    Ok(true)
+    true
 }
 
 // Flushes the buffer, or ends the listings that the option `listed` names.
-fn push_flushes<W: Write>(
-    case: &Case<'_>,
-    buffer: &mut CountingBufWriter<W>,
-    lines: u64,
-    out: &mut String,
-) -> CaseResult {
+fn push_flushes(case: &Case<'_>, buffer: &mut Buffer<'_>, lines: u64, out: &mut Output) {
     let Some(names) = case.option("listed") else {
-        return push_io_result(out, &buffer.flush());
+        return out.push_io_result(&buffer.flush());
     };
     for name in names.split(',') {
-        push_line(out, &flush_listing(listing_of(name, lines), buffer))?;
+        out.push_line(&flush_listing(listing_of(name, lines), buffer));
     }
-    Ok(())
 }
 
 /// Writes the input `lines=N` times into a buffer of lines, and flushes it; with `listed=NAMES` as the end of
 /// listings that return `ok`, or fail with `perf` or `write`. Prints the number of lines that reach the
 /// writer before and after that.
-pub fn push_flush(call: &Call<'_>, out: &mut String) -> CaseResult {
+pub fn push_flush(call: &Call<'_>, out: &mut Output) -> CaseResult {
     let lines = call.case.number("lines")?.unwrap_or(1);
     let mut sink = Sink::of_case(call)?;
     let mut buffer = CountingBufWriter::new(call.alloc, &mut sink)?;
-    if write_lines(&mut buffer, call.input.bytes, lines, out)? {
-        push_line(out, &buffer.lines_written())?;
-        push_flushes(&call.case, &mut buffer, lines, out)?;
+    if write_lines(&mut buffer, call.input.bytes, lines, out) {
+        out.push_line(&buffer.lines_written());
+        push_flushes(&call.case, &mut buffer, lines, out);
     }
-    push_line(out, &buffer.lines_written())?;
+    out.push_line(&buffer.lines_written());
     drop(buffer);
-    sink.push_counts(out)
+    sink.push_counts(out);
+    Ok(())
 }

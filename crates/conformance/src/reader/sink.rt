@@ -1,10 +1,9 @@
 //! Writers with a limit.
 ghost use Rattle.std.specs.Prelude.{[]};
 
-use crate::cases::{Call, CaseResult, error_kind, push_line, split_argument};
+use crate::cases::{Call, CaseResult, Output, error_kind, split_argument};
 use perfdata_listing::FlushPending;
 use std::alloc::Global;
-use std::fmt::Write as _;
 use std::io::{Error, ErrorKind, Result as IoResult, Write};
 
 /// A writer that accepts a number of bytes, a number of bytes a write, and a number of flushes.
@@ -52,14 +51,14 @@ impl Sink {
     }
 
     /// Appends the written text in quotes.
-    pub fn push_text(&self, out: &mut String) -> CaseResult {
-        push_line(out, &str::from_utf8(&self.written).unwrap_or("not UTF-8"))
+    pub fn push_text(&self, out: &mut Output) {
+        out.push_line(&str::from_utf8(&self.written).unwrap_or("not UTF-8"));
     }
 
     /// Appends the numbers of bytes, writes and flushes.
-    pub fn push_counts(&self, out: &mut String) -> CaseResult {
+    pub fn push_counts(&self, out: &mut Output) {
         let (size, writes, flushes) = (self.written.len(), self.writes, self.flushed_at.len());
-        Ok(write!(out, "{size} bytes, {writes} writes, {flushes} flushes\n")?)
+        write!(out, "{size} bytes, {writes} writes, {flushes} flushes\n");
     }
 }
 

@@ -1,13 +1,13 @@
 //! The sources that a call reads the bytes of its input from.
-use crate::cases::{Call, CaseResult, error_kind, push_other};
+use crate::cases::{Call, CaseResult, Output, error_kind};
 use perfdata_base::source::{Counted, PlacedSource, Script, Source};
-use std::fmt::Write;
+use std::alloc::Global;
 use std::io::{BufReader, Cursor};
 
 /// A call that reads a source.
 pub trait SourceCall {
     /// Appends the result of the call on a source, in lines.
-    fn push<C: PlacedSource + Drop>(&self, source: C, out: &mut String) -> CaseResult;
+    fn push<C: PlacedSource + Drop>(&self, source: C, out: &mut Output) -> CaseResult;
 }
 
 // The largest number of bytes that a source returns one by one.
@@ -21,29 +21,31 @@ pub fn is_plain(call: &Call<'_>) -> bool {
 
 // Appends the result of a call on a further source, if it isn't the first.
 fn push_further<C: PlacedSource + Drop, V: SourceCall>(
+    alloc: Global,
     reading: &V,
     source: C,
-    (first, name): (&str, &str),
-    out: &mut String,
+    (first, name): (&Output, &str),
+    out: &mut Output,
 ) -> CaseResult {
-    let mut text = String::new(*out.allocator());
-    reading.push(source, &mut text)?;
-    push_other(out, first, name, &text)
+    let mut result = Output::new(String::new(alloc));
+    reading.push(source, &mut result)?;
+    out.append_other(first, name, &result);
+    Ok(())
 }
 
 // Appends the result of a call on a slice, and those on other sources if they differ.
-fn push_plain<V: SourceCall>(call: &Call<'_>, reading: &V, out: &mut String) -> CaseResult {
-    let mut input = call.input;
-    let mut first = String::new(call.alloc);
+fn push_plain<V: SourceCall>(call: &Call<'_>, reading: &V, out: &mut Output) -> CaseResult {
+    let (alloc, mut input) = (call.alloc, call.input);
+    let mut first = Output::new(String::new(alloc));
     reading.push(Cursor::new(input.bytes), &mut first)?;
-    out.push_str(&first)?;
-    let owned = Cursor::new(Vec::from_slice(call.alloc, input.bytes)?);
-    push_further(reading, owned, (&first, "an owned cursor"), out)?;
-    let buffered = Counted::new(BufReader::new(call.alloc, Cursor::new(input.bytes))?);
-    push_further(reading, buffered, (&first, "a buffered reader"), out)?;
+    out.append(&first);
+    let owned = Cursor::new(Vec::from_slice(alloc, input.bytes)?);
+    push_further(alloc, reading, owned, (&first, "an owned cursor"), out)?;
+    let buffered = Counted::new(BufReader::new(alloc, Cursor::new(input.bytes))?);
+    push_further(alloc, reading, buffered, (&first, "a buffered reader"), out)?;
     input.single_bytes = input.bytes.len().min(MAX_SINGLE_BYTES);
-    let single_bytes = input.script(call.alloc)?;
-    push_further(reading, single_bytes, (&first, "single bytes"), out)
+    let single_bytes = input.script(alloc)?;
+    push_further(alloc, reading, single_bytes, (&first, "single bytes"), out)
 }
 
 /// Appends the result of a call on the source of the input. If its reads aren't scripted, the call is made on
@@ -51,11 +53,7 @@ fn push_plain<V: SourceCall>(call: &Call<'_>, reading: &V, out: &mut String) -> 
 /// the first are appended.
 ///
 /// With the option `unread=KIND` a read after the call must fail with this kind.
-pub fn push_for_sources<V: SourceCall>(
-    call: &Call<'_>,
-    reading: &V,
-    out: &mut String,
-) -> CaseResult {
+pub fn push_sources<V: SourceCall>(call: &Call<'_>, reading: &V, out: &mut Output) -> CaseResult {
     if is_plain(call) {
         return push_plain(call, reading, out);
     }
@@ -68,11 +66,11 @@ pub fn push_for_sources<V: SourceCall>(
 }
 
 // Appends what a further read of the source returns, if it isn't an error of this kind.
-fn push_unread(script: &mut Script, kind: &str, out: &mut String) -> CaseResult {
+fn push_unread(script: &mut Script, kind: &str, out: &mut Output) -> CaseResult {
     match script.read_front(&mut [0]) {
         Err(error) if error.kind() == error_kind(kind)? => {}
-        Ok(count) => write!(out, "a further read: {count}\n")?,
-        Err(error) => write!(out, "a further read: {:?}\n", error.kind())?,
+        Ok(count) => write!(out, "a further read: {count}\n"),
+        Err(error) => write!(out, "a further read: {:?}\n", error.kind()),
     }
     Ok(())
 }
