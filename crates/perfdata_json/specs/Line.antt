@@ -1,5 +1,5 @@
 -- The line of a record.
-use Rattle.std.specs.Prelude.{◌≡◌, ℕ, List, [], ◌∷◌, ◌++◌, Option, None, slice_get}
+use Rattle.std.specs.Prelude.{◌≡◌, ℕ, List, [], ◌∷◌, ◌++◌, Option, None, drop, slice_get}
 use Rattle.std.specs.Option.{option_map}
 use Rattle.perfdata_base.specs.declared.raw.Endianness.{Endianness}
 use Rattle.perfdata_sections.specs.AttributeDescription.{attr_in, name_in}
@@ -10,9 +10,9 @@ use Rattle.linux_perf_data.specs.Layout.{RecordView}
 use Rattle.perfdata_json.specs.declared.line.Envelope.{Envelope}
 use Rattle.perfdata_json.specs.declared.line.JsonLine.{JsonLine}
 
--- the text of a line
+-- the text of a line, behind its margin
 abbrev pub json_text : JsonLine → List ℕ
-json_text l = l.bytes.items
+json_text l = drop 512 l.bytes.items
 
 -- a line of a record: a JSON object and a newline
 pub record IsLineOf (h : RecordView) (text : List ℕ) : Type 0 where

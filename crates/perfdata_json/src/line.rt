@@ -118,9 +118,14 @@ impl<'a> Envelope<'a> {
     }
 }
 
+// The bytes before a line. The writer of JSON makes room for as many bytes as its buffer contains, at least
+// 128, so it makes room for most lines at once.
+const MARGIN: usize = 512;
+
 /// The line of a record as JSON. It can be set to one line after another.
 #[derive(Drop)]
 pub struct JsonLine {
+    // The margin and the line; nothing at first.
     bytes: Vec<u8>,
     printed: String,
     byte_limit: usize,
@@ -164,14 +169,16 @@ impl RecordLine for JsonLine {
             byte_limit: self.byte_limit,
         };
         let mut json = mem::replace(&mut self.bytes, Vec::new(self.alloc));
-        json.clear();
+        if json.resize(MARGIN, 0).is_err() {
+            return Err(Error::Memory);
+        }
         let printed = mem::replace(&mut self.printed, String::new(self.alloc));
         let mut out = LineSerializer::new(json, printed);
         let written = writer.write_record(&mut out, perf_file, place, record);
         let (json, printed) = out.into_buffers();
         self.bytes = json;
         self.printed = printed;
-        if written.is_err() {
+        if written.is_err() || self.bytes.len() < MARGIN {
             return Err(Error::Memory);
         }
         match self.bytes.push(b'\n') {
@@ -181,6 +188,9 @@ impl RecordLine for JsonLine {
     }
 
     fn as_bytes(&self) -> &[u8] {
-        self.bytes.as_slice()
+        match self.bytes.as_slice().split_at_checked(MARGIN) {
+            Some((_, line)) => line,
+            None => &[],
+        }
     }
 }

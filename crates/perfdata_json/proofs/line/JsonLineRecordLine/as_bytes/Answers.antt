@@ -1,0 +1,8 @@
+use Rattle.std.proofs.Common.{rules, sym, length, ◌≤◌}
+use Rattle.std.proofs.lemmas.List.{drop_all}
+use Rattle.perfdata_json.proofs.line.JsonLineRecordLine.as_bytes.Goals as goal
+
+pub returns-in-None : goal.returns-in-None
+returns-in-None c =
+    let short : length c.args.self.now.bytes.items ≤ 512 = search rules in
+    sym (drop_all 512 c.args.self.now.bytes.items short)

@@ -1,0 +1,10 @@
+use Rattle.std.proofs.Common.{rules, ◌≡◌, ap, [], ◌∷◌, ◌++◌, length, ◌≤◌, drop, ◌∙◌}
+use Rattle.std.proofs.lemmas.List.{drop-append-le}
+use Rattle.perfdata_json.proofs.line.JsonLineRecordLine.set.Goals as goal
+
+pub returns-in-Ok-clause-on_ok : goal.returns-in-Ok-clause-on_ok
+returns-in-Ok-clause-on_ok c =
+    let written = c.into_buffers-json.result.0.items in
+    let long : 512 ≤ length written = search rules in
+    let pushed : c.push.new.self.items ≡ written ++ (10 ∷ []) = search rules in
+    record { json = drop 512 written; is = ap (drop 512) pushed ∙ drop-append-le 512 written (10 ∷ []) long }
