@@ -150,12 +150,11 @@ impl BodyWriter {
         raw: &RawEventRecord<'_>,
     ) -> Result<(), AllocError> {
         let mut fields = raw.body;
-        match SampleRecord::parse(format, &mut fields) {
-            Ok(sample) => {
-                let members = Sample::new(&sample, format, self.byte_limit);
-                line.write(out, &members)
-            }
-            Err(error) => self.invalid(out, line, &error),
+        // Borrowed, since a sample is large to move.
+        let parsed = SampleRecord::parse(format, &mut fields);
+        match &parsed {
+            Ok(sample) => line.write(out, &Sample::new(sample, format, self.byte_limit)),
+            Err(error) => self.invalid(out, line, error),
         }
     }
 
