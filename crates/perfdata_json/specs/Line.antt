@@ -12,7 +12,7 @@ use Rattle.perfdata_json.specs.declared.line.JsonLine.{JsonLine}
 
 -- the text of a line, behind its margin
 abbrev pub json_text : JsonLine → List ℕ
-json_text l = drop 512 l.bytes.items
+json_text l = drop l.start l.bytes.items
 
 -- a line of a record: a JSON object and a newline
 pub record IsLineOf (h : RecordView) (text : List ℕ) : Type 0 where

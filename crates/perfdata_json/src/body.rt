@@ -150,9 +150,8 @@ impl BodyWriter {
         raw: &RawEventRecord<'_>,
     ) -> Result<(), AllocError> {
         let mut fields = raw.body;
-        // Borrowed, since a sample is large to move.
-        let parsed = SampleRecord::parse(format, &mut fields);
-        match &parsed {
+        // Borrowed where it is parsed, since a sample is large to move.
+        match &SampleRecord::parse(format, &mut fields) {
             Ok(sample) => line.write(out, &Sample::new(sample, format, self.byte_limit)),
             Err(error) => self.invalid(out, line, error),
         }

@@ -127,6 +127,8 @@ const MARGIN: usize = 512;
 pub struct JsonLine {
     // The margin and the line; nothing at first.
     bytes: Vec<u8>,
+    // Where the line starts.
+    start: usize,
     printed: String,
     byte_limit: usize,
     alloc: Global,
@@ -141,6 +143,7 @@ impl JsonLine {
     {
         JsonLine {
             bytes: Vec::new(alloc),
+            start: 0,
             printed: String::new(alloc),
             byte_limit,
             alloc,
@@ -176,9 +179,10 @@ impl RecordLine for JsonLine {
         let mut out = LineSerializer::new(json, printed);
         let written = writer.write_record(&mut out, perf_file, place, record);
         let (json, printed) = out.into_buffers();
+        self.start = json.len().min(MARGIN);
         self.bytes = json;
         self.printed = printed;
-        if written.is_err() || self.bytes.len() < MARGIN {
+        if written.is_err() {
             return Err(Error::Memory);
         }
         match self.bytes.push(b'\n') {
@@ -188,7 +192,7 @@ impl RecordLine for JsonLine {
     }
 
     fn as_bytes(&self) -> &[u8] {
-        match self.bytes.as_slice().split_at_checked(MARGIN) {
+        match self.bytes.as_slice().split_at_checked(self.start) {
             Some((_, line)) => line,
             None => &[],
         }

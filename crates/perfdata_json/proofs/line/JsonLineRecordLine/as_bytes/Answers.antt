@@ -4,5 +4,5 @@ use Rattle.perfdata_json.proofs.line.JsonLineRecordLine.as_bytes.Goals as goal
 
 pub returns-in-None : goal.returns-in-None
 returns-in-None c =
-    let short : length c.args.self.now.bytes.items ≤ 512 = search rules in
-    sym (drop_all 512 c.args.self.now.bytes.items short)
+    let short : length c.args.self.now.bytes.items ≤ c.args.self.now.start = search rules in
+    sym (drop_all c.args.self.now.start c.args.self.now.bytes.items short)
