@@ -90,6 +90,7 @@ impl<'a> SampleRecord<'a> {
     /// Parses the fields that a format selects at the start of `fields`, and removes them.
     ///
     /// Fails with an `UnexpectedEof` error if they are truncated.
+    #[inline(always)]
     pub fn parse(format: &EventFormat, fields: &mut RawData<'a>) -> Result<SampleRecord<'a>>
         ensures decodes { Decodes (sample (number_in format.now.endian) format.now) sample_of
             (bytes_of fields.old) result (bytes_of fields.new) }
