@@ -49,6 +49,7 @@ pub struct ListFault {
 ///
 /// Fails if memory runs out, and nothing of the line is written then, or if the writer fails, and a prefix of
 /// the line is written then.
+#[inline(always)]
 pub fn write_record<L: RecordLine, W: Write>(
     place: RecordPlace,
     record: &PerfFileRecord<'_>,

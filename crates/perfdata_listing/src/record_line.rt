@@ -38,6 +38,7 @@ pub trait RecordLine {
 }
 
 // The fields of a record's line.
+#[inline(always)]
 fn record_fields(place: RecordPlace, record: &PerfFileRecord<'_>) -> RecordFields
     ensures { fields_text result ≡ record_line (record_view_of place «record».now) }
 {
@@ -59,7 +60,7 @@ impl RecordLine for Line {
 
     ghost text = { text_of };
 
-    #[inline]
+    #[inline(always)]
     fn set(
         &mut self,
         place: RecordPlace,
