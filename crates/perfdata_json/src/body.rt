@@ -166,8 +166,9 @@ impl BodyWriter {
         raw: &RawEventRecord<'_>,
     ) -> Result<(), AllocError> {
         let id = format.sample_id(raw).ok();
+        let id = id.and_then(|id| SampleIdMembers::new(&id));
         let line = Envelope {
-            sample_id: id.and_then(|id| SampleIdMembers::new(&id)),
+            sample_id: id.as_ref(),
             ..*line
         };
         match format.parse(raw) {

@@ -45,7 +45,7 @@ struct Line<'a, T> {
     #[serde(flatten)]
     body: &'a T,
     #[serde(skip_serializing_if = "Option::is_none")]
-    sample_id: Option<SampleIdMembers>,
+    sample_id: Option<&'a SampleIdMembers>,
 }
 
 /// The members of a line that aren't its body's.
@@ -56,7 +56,7 @@ pub(crate) struct Envelope<'a> {
     pub(crate) event: Option<&'a str>,
     pub(crate) record_type: u32,
     pub(crate) misc: u16,
-    pub(crate) sample_id: Option<SampleIdMembers>,
+    pub(crate) sample_id: Option<&'a SampleIdMembers>,
 }
 
 impl<'a> Envelope<'a> {
@@ -161,6 +161,7 @@ impl RecordLine for JsonLine {
 
     ghost text = { json_text };
 
+    #[inline(always)]
     fn set(
         &mut self,
         place: RecordPlace,
