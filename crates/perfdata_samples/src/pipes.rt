@@ -49,7 +49,7 @@ fn count_record(
     used: usize,
 ) -> AddedCounts
     ensures { CountsRecord (endian_of_file perf_file.now) (attributes_of_file perf_file.now)
-        (record_view_of place record.now) count used samples.old frames.old result samples.new frames.new }
+        (record_view_of place «record».now) count used samples.old frames.old result samples.new frames.new }
 {
     let Some(parts) = sample_parts(perf_file, record) else {
         return AddedCounts {

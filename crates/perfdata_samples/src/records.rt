@@ -36,7 +36,7 @@ pub(crate) fn sample_parts<'a>(
     record: &PerfFileRecord<'a>,
 ) -> Option<SampleParts<'a>>
     ensures { (place : RecordPlace) → ArePartsOf (endian_of_file perf_file.now)
-        (attributes_of_file perf_file.now) (record_view_of place record.now) result }
+        (attributes_of_file perf_file.now) (record_view_of place «record».now) result }
 {
     let PerfFileRecord::EventRecord { attr_index, event } = record else {
         return None;
@@ -97,7 +97,7 @@ pub(crate) fn add_record(
     requires free { count < length samples.old }
     requires within { used ≤ length frames.old }
     ensures { AddsRecord (endian_of_file perf_file.now) (attributes_of_file perf_file.now)
-        (record_view_of place record.now) count used samples.old frames.old result samples.new frames.new }
+        (record_view_of place «record».now) count used samples.old frames.old result samples.new frames.new }
 {
     let Some(parts) = sample_parts(perf_file, record) else {
         return Ok(AddedCounts {
