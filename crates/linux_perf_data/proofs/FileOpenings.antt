@@ -24,7 +24,7 @@ use Rattle.perfdata_base.specs.declared.features.Feature.{Feature}
 use Rattle.perfdata_sections.specs.Error.{IsIoError}
 use Rattle.linux_perf_data.specs.FeatureData.{ReadsFeatures, SectionsTruncated, SourceErrorInBytes, feature_data_of}
 use Rattle.linux_perf_data.specs.declared.file.opening.FileOpening.{FileOpening}
-use Rattle.linux_perf_data.specs.FileOpening.{table_offset, HoldsSections, section_data, attribute_sources_of, DescribesAttributes, IsAttributesError, OpenAfterHeaderError, IsErrorAfterHeader, SourceErrorInOpening, HasHeader, IsFileError, FileOpenError, FileOpened, OpenedFileAt, OpenedAfterHeader, OpensAfterHeader, OpensPerfFile}
+use Rattle.linux_perf_data.specs.FileOpening.{table_offset, HoldsSections, section_data, attribute_sources_of, DescribesAttributes, IsAttributesErrorWith, ReadsSections, ReadsConsistentAttributes, OpenAfterHeaderError, IsErrorAfterHeader, SourceErrorInOpening, HasHeader, IsFileError, FileOpenError, FileOpened, OpenedFileAt, OpenedAfterHeader, OpensAfterHeader, OpensPerfFile}
 use Rattle.linux_perf_data.specs.FeatureNumbers.{event_desc, simpleperf_meta_info}
 use Rattle.linux_perf_data.specs.NamedErrors.{IsFileOpeningError}
 use Rattle.linux_perf_data.proofs.NamedErrors.{file_bytes, file_inconsistency, file_io}
@@ -44,7 +44,7 @@ bytes_source_error a b e (inl io) = inl io
 bytes_source_error a b e (inr paused) = inr (inl paused)
 
 -- reading the feature sections fails
-pub sections_error : (order : Endianness) (h : PerfHeader) (a b : State) (S : Type 0) (e : Error) → EndFitsU64 h.data_section
+sections_error : (order : Endianness) (h : PerfHeader) (a b : State) (S : Type 0) (e : Error) → EndFitsU64 h.data_section
     → ReadsFeatures {S = S} order (table_offset h) (features_of h.features) a (Err e) b → OpenAfterHeaderError order h a e b
 sections_error order h a b S e end_fits_u64 error = record {
   after_seek = error.0;
@@ -55,66 +55,87 @@ sections_error order h a b S e end_fits_u64 error = record {
   ];
 }
 
+-- reading the feature sections after the data section
+pub sections_read : (order : Endianness) (h : PerfHeader) (a b : State) (S : Type 0) (table : ℕ) (r : Result (IndexMap Feature (Vec ℕ Global) S) Error) → (table ≡ table_offset h) × EndFitsU64 h.data_section → ReadsFeatures order table (features_of h.features) a r b → ReadsSections order h a r b
+sections_read order h a b S table (Ok m) (at, end_fits_u64) reads = (end_fits_u64, subst (λ t. ReadsFeatures order t (features_of h.features) a (Ok m) b) at reads)
+sections_read order h a b S table (Err e) (at, end_fits_u64) reads = sections_error order h a b S e end_fits_u64 (subst (λ t. ReadsFeatures {S = S} order t (features_of h.features) a (Err e) b) at reads)
+
 -- the sections that are read before the attributes, EVENT_DESC among them
 pub sources_both : (d d' i i' : Option (List ℕ)) → d ≡ d' → i ≡ i' → known_sections d i ≡ known_sections d' i'
 sources_both d d' i i' x y = ap (λ o. known_sections o i) x ∙ ap (known_sections d') y
 
 pub record HasRead (order : Endianness) (h : PerfHeader) (a b : State) (sources : KnownSections) : Type 0 where
+  pub end_fits : EndFitsU64 h.data_section
   pub seek : AfterSeek a b
   pub holds : IfSome (all_bytes_of a.position) (λ all. HoldsSections order h all × (sources ≡ attribute_sources_of order h all))
 
 pub has_read : {S : Type 0} (order : Endianness) (h : PerfHeader) (a b : State) (m : IndexMap Feature (Vec ℕ Global) S) (sources : KnownSections) → sources ≡ known_sections (feature_data_of m event_desc) (feature_data_of m simpleperf_meta_info)
-    → ReadsFeatures order (table_offset h) (features_of h.features) a (Ok m) b → HasRead order h a b sources
-has_read order h a b m sources is read = record {
+    → ReadsSections order h a (Ok m) b → HasRead order h a b sources
+has_read order h a b m sources is (end_fits_u64, read) = record {
+  end_fits = end_fits_u64;
   seek = read.0;
   holds = if_more (all_bytes_of a.position) (λ all. HoldsSections order h all × ((n : ℕ) → feature_data_of m n ≡ section_data order h all n)) (λ all. HoldsSections order h all × (sources ≡ attribute_sources_of order h all)) (λ all both. (both.0, is ∙ ap (λ d. known_sections d (feature_data_of m simpleperf_meta_info)) (both.1 event_desc) ∙ ap (known_sections (section_data order h all event_desc)) (both.1 simpleperf_meta_info))) read.1;
 }
 
--- an error after the sections is an error after the header
-at_attributes : (order : Endianness) (h : PerfHeader) (a b : State) (sources : KnownSections) (e : Error) (P : KnownSections → List ℕ → Type 0) → EndFitsU64 h.data_section → HasRead order h a b sources → ((all : List ℕ) → P (attribute_sources_of order h all) all → IsAttributesError order h all e)
-    → IfSome (all_bytes_of b.position) (P sources) → IfSome (all_bytes_of a.position) (λ all. IsErrorAfterHeader order h all e)
-at_attributes order h a b sources e P end_fits_u64 read stops seen_here =
-    if_both (all_bytes_of a.position) (λ all. HoldsSections order h all × (sources ≡ attribute_sources_of order h all)) (P sources) (λ all. IsErrorAfterHeader order h all e)
-    (λ all has here. inr (inr (end_fits_u64, has.0, stops all (subst (λ d. P d all) has.1 here)))) read.holds (is_visible_before a b (P sources) read.seek seen_here)
+-- an error in the attributes is an error after the header
+at_attributes : (order : Endianness) (h : PerfHeader) (a b : State) (sources : KnownSections) (e : Error) → HasRead order h a b sources → IfSome (all_bytes_of b.position) (λ all. IsAttributesErrorWith order h sources all e)
+    → IfSome (all_bytes_of a.position) (λ all. IsErrorAfterHeader order h all e)
+at_attributes order h a b sources e read seen_here =
+    if_both (all_bytes_of a.position) (λ all. HoldsSections order h all × (sources ≡ attribute_sources_of order h all)) (λ all. IsAttributesErrorWith order h sources all e) (λ all. IsErrorAfterHeader order h all e)
+    (λ all has here. inr (inr (read.end_fits, has.0, subst (λ d. IsAttributesErrorWith order h d all e) has.1 here))) read.holds (is_visible_before a b (λ all. IsAttributesErrorWith order h sources all e) read.seek seen_here)
 
 -- reading the attributes fails
-pub attributes_error : (order : Endianness) (h : PerfHeader) (a b c : State) (sources : KnownSections) (e : Error) → EndFitsU64 h.data_section → HasRead order h a b sources → ReadsAttributes order h sources b (Err e) c → IsFileOpeningError e → OpenAfterHeaderError order h a e c
-attributes_error order h a b c sources e end_fits_u64 read (seek, reason) named = record {
-  after_seek = after_seek_more a b c read.seek seek;
-  named_error = named;
-  cause = λ m. elim (reason m) [
-    | inl seen_here ↦ inl (at_attributes order h a b sources e (λ d all. IsSourcesError order h d all e) end_fits_u64 read (λ all stops. inl stops) seen_here)
-    | inr source_error ↦ inr (earlier_source_error a b c e read.seek source_error)
-  ];
-}
+pub sources_error : (order : Endianness) (h : PerfHeader) (a b : State) (sources : KnownSections) (e : Error) → ReadsAttributes order h sources a (Err e) b → IsFileOpeningError e → ReadsConsistentAttributes order h sources a (Err e) b
+sources_error order h a b sources e (seek, reason) named = (
+  seek,
+  named,
+  λ m. elim (reason m) [
+    | inl seen_here ↦ inl (if_more (all_bytes_of a.position) (λ all. IsSourcesError order h sources all e) (λ all. IsAttributesErrorWith order h sources all e) (λ all stops. inl stops) seen_here)
+    | inr source_error ↦ inr source_error
+  ],
+)
 
 items_none : {X : Type 0} (xs : List X) → length xs ≡ 0 → xs ≡ []
 items_none [] none = refl
 items_none (x ∷ xs) none = absurd (omega (arith, none))
 
 -- the file has no attributes
-pub attributes_none : (order : Endianness) (h : PerfHeader) (a b c : State) (sources : KnownSections) (v : Vec AttributeDescription Global) → EndFitsU64 h.data_section → HasRead order h a b sources → ReadsAttributes order h sources b (Ok v) c → length v.items ≡ 0
-    → OpenAfterHeaderError order h a NoAttributes c
-attributes_none order h a b c sources v end_fits_u64 read (seek, is) none = record {
-  after_seek = after_seek_more a b c read.seek seek;
-  named_error = tt;
-  cause = λ _. inl (at_attributes order h a b sources NoAttributes (λ d all. DescribesFrom order h d all v.items) end_fits_u64 read
-      (λ all described. inr (inl (refl, subst (DescribesFrom order h (attribute_sources_of order h all) all) (items_none v.items none) described))) is);
-}
+pub attributes_none : (order : Endianness) (h : PerfHeader) (a b : State) (sources : KnownSections) (v : Vec AttributeDescription Global) → ReadsAttributes order h sources a (Ok v) b → length v.items ≡ 0 → ReadsConsistentAttributes order h sources a (Err NoAttributes) b
+attributes_none order h a b sources v (seek, is) none = (
+  seek,
+  tt,
+  λ _. inl (if_more (all_bytes_of a.position) (λ all. DescribesFrom order h sources all v.items) (λ all. IsAttributesErrorWith order h sources all NoAttributes)
+      (λ all described. inr (inl (refl, subst (DescribesFrom order h sources all) (items_none v.items none) described))) is),
+)
 
 -- the attributes are inconsistent
-pub attributes_inconsistent : (order : Endianness) (h : PerfHeader) (a b c : State) (sources : KnownSections) (v : Vec AttributeDescription Global) (e : Error) → EndFitsU64 h.data_section → HasRead order h a b sources → ReadsAttributes order h sources b (Ok v) c
-    → (breach : Inconsistency) × AreInconsistent (described_attributes v.items) breach × (e ≡ error_of_inconsistency breach) → OpenAfterHeaderError order h a e c
-attributes_inconsistent order h a b c sources v e end_fits_u64 read (seek, is) (breach, breaks, error_is) = record {
-  after_seek = after_seek_more a b c read.seek seek;
-  named_error = file_inconsistency e breach error_is;
-  cause = λ _. inl (at_attributes order h a b sources e (λ d all. DescribesFrom order h d all v.items) end_fits_u64 read
-      (λ all described. inr (inr (record { descriptions = v.items; attributes_match = described; inconsistency = breach; is_inconsistent = breaks; matches = error_is }))) is);
-}
+pub attributes_inconsistent : (order : Endianness) (h : PerfHeader) (a b : State) (sources : KnownSections) (v : Vec AttributeDescription Global) (e : Error) → ReadsAttributes order h sources a (Ok v) b
+    → (breach : Inconsistency) × AreInconsistent (described_attributes v.items) breach × (e ≡ error_of_inconsistency breach) → ReadsConsistentAttributes order h sources a (Err e) b
+attributes_inconsistent order h a b sources v e (seek, is) (breach, breaks, error_is) = (
+  seek,
+  file_inconsistency e breach error_is,
+  λ _. inl (if_more (all_bytes_of a.position) (λ all. DescribesFrom order h sources all v.items) (λ all. IsAttributesErrorWith order h sources all e)
+      (λ all described. inr (inr (record { descriptions = v.items; attributes_match = described; inconsistency = breach; is_inconsistent = breaks; matches = error_is }))) is),
+)
 
 some_length : {X : Type 0} (xs : List X) → length xs ≢ 0 → 0 < length xs
 some_length [] none = absurd (none refl)
 some_length (x ∷ xs) some = omega arith
+
+-- the attributes are consistent
+pub attributes_consistent : (order : Endianness) (h : PerfHeader) (a b : State) (sources : KnownSections) (v : Vec AttributeDescription Global) → ReadsAttributes order h sources a (Ok v) b → length v.items ≢ 0 → AreConsistent (described_attributes v.items) → ReadsConsistentAttributes order h sources a (Ok v) b
+attributes_consistent order h a b sources v (seek, is) some all_consistent = (seek, is, some_length v.items some, all_consistent)
+
+-- reading consistent attributes fails after the sections
+pub attributes_error : (order : Endianness) (h : PerfHeader) (a b c : State) (sources : KnownSections) (e : Error) → HasRead order h a b sources → ReadsConsistentAttributes order h sources b (Err e) c → OpenAfterHeaderError order h a e c
+attributes_error order h a b c sources e read (seek, named, reason) = record {
+  after_seek = after_seek_more a b c read.seek seek;
+  named_error = named;
+  cause = λ m. elim (reason m) [
+    | inl seen_here ↦ inl (at_attributes order h a b sources e read seen_here)
+    | inr source_error ↦ inr (earlier_source_error a b c e read.seek source_error)
+  ];
+}
 
 -- an offset in the same bytes is the same position
 put_same : (n : ℕ) (o o' : Option Position) → all_bytes_of o' ≡ all_bytes_of o → at_offset n o' ≡ at_offset n o
@@ -124,9 +145,9 @@ put_same n (Some p) None same = cc
 put_same n (Some p) (Some q) same = let all : q.all_bytes ≡ p.all_bytes = cc in ap (λ l. Some (record { all_bytes = l; offset = n })) all
 
 -- the seek to the records fails
-pub records_error : (order : Endianness) (h : PerfHeader) (a b c d : State) (sources : KnownSections) (v : Vec AttributeDescription Global) (e : Error) → HasRead order h a b sources → ReadsAttributes order h sources b (Ok v) c → AfterSeek c d × IsIoError e × SourceFailed c d
+pub records_error : (order : Endianness) (h : PerfHeader) (a b c d : State) (sources : KnownSections) (v : Vec AttributeDescription Global) (e : Error) → HasRead order h a b sources → ReadsConsistentAttributes order h sources b (Ok v) c → AfterSeek c d × IsIoError e × SourceFailed c d
     → OpenAfterHeaderError order h a e d
-records_error order h a b c d sources v e read (seek_b, described) (seek, io, failed) =
+records_error order h a b c d sources v e read (seek_b, described, some, all_consistent) (seek, io, failed) =
     let seek_c = after_seek_more a b c read.seek seek_b in record {
       after_seek = after_seek_more a c d seek_c seek;
       named_error = file_io e io;
@@ -134,16 +155,16 @@ records_error order h a b c d sources v e read (seek_b, described) (seek, io, fa
     }
 
 -- the opening holds the values of the header and its sections
-pub after_read : (order : Endianness) (h : PerfHeader) (a b c d : State) (sources : KnownSections) (opening : FileOpening) → EndFitsU64 h.data_section → opening.perf_file.endian ≡ order → opening.perf_file.features ≡ h.features → opening.data_size ≡ h.data_section.size
-    → HasRead order h a b sources → ReadsFeatures order (table_offset h) (features_of h.features) a (Ok opening.perf_file.sections) b → ReadsAttributes order h sources b (Ok opening.perf_file.attributes) c → length opening.perf_file.attributes.items ≢ 0
-    → AreConsistent (described_attributes opening.perf_file.attributes.items) → AfterSeek c d × (d.position ≡ at_offset h.data_section.offset c.position) → OpenedAfterHeader order h a opening d
-after_read order h a b c d sources opening end_fits_u64 endian features size read sections (seek_b, described) some all_consistent (seek, seek_position) =
+pub after_read : (order : Endianness) (h : PerfHeader) (a b c d : State) (sources : KnownSections) (opening : FileOpening) → opening.perf_file.endian ≡ order → opening.perf_file.features ≡ h.features → opening.data_size ≡ h.data_section.size
+    → HasRead order h a b sources → ReadsSections order h a (Ok opening.perf_file.sections) b → ReadsConsistentAttributes order h sources b (Ok opening.perf_file.attributes) c
+    → AfterSeek c d × (d.position ≡ at_offset h.data_section.offset c.position) → OpenedAfterHeader order h a opening d
+after_read order h a b c d sources opening endian features size read (end_fits_u64, sections) (seek_b, described, some, all_consistent) (seek, seek_position) =
     let seek_c = after_seek_more a b c sections.0 seek_b in record {
       endian = endian;
       end_fits = end_fits_u64;
       features = features;
       data_size = size;
-      nonempty = some_length opening.perf_file.attributes.items some;
+      nonempty = some;
       consistent = all_consistent;
       after_seek = after_seek_more a c d seek_c seek;
       position = seek_position ∙ put_same h.data_section.offset a.position c.position seek_c.all_bytes;

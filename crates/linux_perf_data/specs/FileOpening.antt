@@ -1,5 +1,6 @@
 -- The metadata of a perf.data file, and the first error in opening it.
-use Rattle.std.specs.Prelude.{◌≡◌, ◌≢◌, ℕ, ◌+◌, ◌^◌, ◌<◌, ◌≤◌, ◌⊎◌, List, [], length, take, drop, Option, Result, Ok, Err, Some, IfSome}
+use Rattle.std.specs.Prelude.{◌≡◌, ◌≢◌, ℕ, ◌+◌, ◌^◌, ◌<◌, ◌≤◌, ◌⊎◌, List, [], length, take, drop, Option, Result, Ok, Err, Some, IfSome, Vec}
+use Rattle.std.specs.declared.alloc.Global.{Global}
 use Rattle.perfdata_base.specs.Source.{State, Position, AfterSeek, at_offset, all_bytes_of}
 use Rattle.perfdata_base.specs.Section.{EndFitsU64, EndOverflowsU64}
 use Rattle.perfdata_base.specs.Header.{file_header_of, magic_of}
@@ -11,13 +12,15 @@ use Rattle.perfdata_sections.specs.declared.feature_sections.AttributeDescriptio
 use Rattle.perfdata_sections.specs.declared.error.Error.{Error}
 use Rattle.perfdata_sections.specs.declared.error.Error.TheVariants.{Read, UnrecognizedMagicValue, NoAttributes, Memory}
 use Rattle.perfdata_sections.specs.declared.error.ReadError.TheVariants.{FeatureSection}
+use Rattle.indexmap.specs.IndexMap.{IndexMap}
+use Rattle.perfdata_base.specs.declared.features.Feature.{Feature}
 use Rattle.perfdata_base.specs.Features.{features_of}
 use Rattle.linux_perf_data.specs.Attribute.{Inconsistency, AreInconsistent, AreConsistent}
 use Rattle.linux_perf_data.specs.Descriptions.{described_attributes}
 use Rattle.linux_perf_data.specs.Consistency.{error_of_inconsistency}
 use Rattle.linux_perf_data.specs.AttributeSources.{KnownSections, known_sections, DescribesFrom, IsSourcesError}
 use Rattle.linux_perf_data.specs.FeatureNumbers.{simpleperf_meta_info, event_desc}
-use Rattle.linux_perf_data.specs.FeatureData.{HoldsAllSections, SectionsTruncated, feature_table_of, feature_data_by, feature_data_of}
+use Rattle.linux_perf_data.specs.FeatureData.{ReadsFeatures, HoldsAllSections, SectionsTruncated, feature_table_of, feature_data_by, feature_data_of}
 use Rattle.linux_perf_data.specs.NamedErrors.{IsFileOpeningError}
 use Rattle.linux_perf_data.specs.declared.file.opening.FileOpening.{FileOpening}
 
@@ -45,18 +48,30 @@ attribute_sources_of order h all = known_sections (section_data order h all even
 abbrev pub DescribesAttributes : Endianness → PerfHeader → List ℕ → List AttributeDescription → Type 0
 DescribesAttributes order h all ds = DescribesFrom order h (attribute_sources_of order h all) all ds
 
--- The attributes are inconsistent, and `e` reports it.
-pub record InconsistencyError (order : Endianness) (h : PerfHeader) (e : Error) (all : List ℕ) : Type 0 where
+-- The attributes of a file with these sections are inconsistent, and `e` reports it.
+pub record InconsistencyError (order : Endianness) (h : PerfHeader) (sections : KnownSections) (e : Error) (all : List ℕ) : Type 0 where
   pub descriptions : List AttributeDescription
-  pub attributes_match : DescribesAttributes order h all descriptions
+  pub attributes_match : DescribesFrom order h sections all descriptions
   pub inconsistency : Inconsistency
   pub is_inconsistent : AreInconsistent (described_attributes descriptions) inconsistency
   pub matches : e ≡ error_of_inconsistency inconsistency
 
--- The first error after the feature sections: the attributes are invalid, there are none, or they are inconsistent.
+-- The first error in the attributes of a file with these sections: they are invalid, there are none, or they are inconsistent.
+abbrev pub IsAttributesErrorWith : Endianness → PerfHeader → KnownSections → List ℕ → Error → Type 0
+IsAttributesErrorWith order h sections all e =
+    IsSourcesError order h sections all e ⊎ (((e ≡ NoAttributes) × DescribesFrom order h sections all []) ⊎ InconsistencyError order h sections e all)
+
+-- The first error after the feature sections, in the attributes.
 abbrev pub IsAttributesError : Endianness → PerfHeader → List ℕ → Error → Type 0
-IsAttributesError order h all e =
-    IsSourcesError order h (attribute_sources_of order h all) all e ⊎ (((e ≡ NoAttributes) × DescribesAttributes order h all []) ⊎ InconsistencyError order h e all)
+IsAttributesError order h all e = IsAttributesErrorWith order h (attribute_sources_of order h all) all e
+
+-- Reads the attributes of a file with these sections: consistent ones, at least one. The contract states no cause for a `Memory`
+-- error.
+abbrev pub ReadsConsistentAttributes : Endianness → PerfHeader → KnownSections → State → Result (Vec AttributeDescription Global) Error → State → Type 0
+ReadsConsistentAttributes order h sections old (Ok v) new =
+    AfterSeek old new × IfSome (all_bytes_of old.position) (λ all. DescribesFrom order h sections all v.items) × (0 < length v.items) × AreConsistent (described_attributes v.items)
+ReadsConsistentAttributes order h sections old (Err e) new =
+    AfterSeek old new × IsFileOpeningError e × (e ≢ Memory → IfSome (all_bytes_of old.position) (λ all. IsAttributesErrorWith order h sections all e) ⊎ IsAttributesSourceError old e new)
 
 -- The first error after the header, as the bytes show it: the end of the data section is 2^64 or more, the feature table or a
 -- section is truncated, or the attributes have an error.
@@ -88,6 +103,11 @@ pub record OpenAfterHeaderError (order : Endianness) (h : PerfHeader) (old : Sta
   pub after_seek : AfterSeek old new
   pub named_error : IsFileOpeningError e
   pub cause : e ≢ Memory → IfSome (all_bytes_of old.position) (λ all. IsErrorAfterHeader order h all e) ⊎ SourceErrorInOpening old e new
+
+-- Reads the feature sections of a file. Their table follows the data section.
+abbrev pub ReadsSections : {S : Type 0} → Endianness → PerfHeader → State → Result (IndexMap Feature (Vec ℕ Global) S) Error → State → Type 0
+ReadsSections order h old (Ok m) new = EndFitsU64 h.data_section × ReadsFeatures order (table_offset h) (features_of h.features) old (Ok m) new
+ReadsSections order h old (Err e) new = OpenAfterHeaderError order h old e new
 
 abbrev pub OpensAfterHeader : Endianness → PerfHeader → State → Result FileOpening Error → State → Type 0
 OpensAfterHeader order h old (Ok opening) new = OpenedAfterHeader order h old opening new

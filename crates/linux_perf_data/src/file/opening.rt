@@ -5,7 +5,9 @@ ghost use Rattle.std.specs.Option.{option_map};
 ghost use Rattle.linux_perf_data.specs.AttributeSources.{known_sections, ReadsAttributes, ReadsTypesSection};
 ghost use Rattle.linux_perf_data.specs.AttributeSources.{ParsesMetaEventTypes, ReadsSimpleperfSection};
 ghost use Rattle.linux_perf_data.specs.AttributeSources.{ReadsAttrsSection};
-ghost use Rattle.linux_perf_data.specs.FileOpening.{RecognizesMagic, OpensAfterHeader, OpensPerfFile};
+ghost use Rattle.linux_perf_data.specs.FileOpening.{RecognizesMagic, ReadsConsistentAttributes, OpensAfterHeader};
+ghost use Rattle.linux_perf_data.specs.FileOpening.{ReadsSections, OpensPerfFile};
+ghost use Rattle.linux_perf_data.specs.FeatureNumbers.{event_desc, simpleperf_meta_info};
 ghost use Rattle.linux_perf_data.specs.FeatureData.{feature_data_of};
 ghost use Rattle.linux_perf_data.specs.NamedErrors.{IsFileOpeningError};
 
@@ -185,6 +187,48 @@ fn read_attributes<C: PlacedSource>(
     }
 }
 
+// Reads the feature sections of a file. Their table follows the data section.
+fn read_sections<C: PlacedSource>(
+    alloc: Global,
+    source: &mut C,
+    endian: Endianness,
+    header: &PerfHeader,
+) -> Result<IndexMap<Feature, Vec<u8>>, Error>
+    ensures reads { ReadsSections endian header.now (C.state source.old) result (C.state source.new) }
+    ensures pauses { PausesOnlyOnError (C.state source.old) result (C.state source.new) }
+    ensures same_loan { C.loan source.new ≡ C.loan source.old }
+{
+    let data = header.data_section;
+    match data.offset.checked_add(data.size) {
+        Some(table) => read_features(alloc, source, endian, &header.features, table),
+        None => Err(Error::Read(ReadError::FeatureSection)),
+    }
+}
+
+// Reads the attributes of a file with these feature sections, which are consistent and at least one.
+fn read_consistent_attributes<C: PlacedSource>(
+    alloc: Global,
+    source: &mut C,
+    endian: Endianness,
+    header: &PerfHeader,
+    sections: &IndexMap<Feature, Vec<u8>>,
+) -> Result<Vec<AttributeDescription>, Error>
+    ensures reads { ReadsConsistentAttributes endian header.now
+        (known_sections (feature_data_of sections.now event_desc) (feature_data_of sections.now simpleperf_meta_info))
+        (C.state source.old) result (C.state source.new) }
+    ensures pauses { PausesOnlyOnError (C.state source.old) result (C.state source.new) }
+    ensures same_loan { C.loan source.new ≡ C.loan source.old }
+{
+    let event_desc = feature_bytes(sections, Feature::EVENT_DESC);
+    let meta_info = feature_bytes(sections, Feature::SIMPLEPERF_META_INFO);
+    let attributes = read_attributes(alloc, source, endian, header, event_desc, meta_info)?;
+    if attributes.is_empty() {
+        return Err(Error::NoAttributes);
+    }
+    check_consistency(&attributes)?;
+    Ok(attributes)
+}
+
 // Opens the file with this header and byte order. Leaves the source at the first record.
 fn open_after_header<C: PlacedSource>(
     alloc: Global,
@@ -196,20 +240,9 @@ fn open_after_header<C: PlacedSource>(
     ensures pauses { PausesOnlyOnError (C.state source.old) result (C.state source.new) }
     ensures same_loan { C.loan source.new ≡ C.loan source.old }
 {
-    let data = header.data_section;
-    let table = match data.offset.checked_add(data.size) {
-        Some(table) => table,
-        None => return Err(Error::Read(ReadError::FeatureSection)),
-    };
-    let sections = read_features(alloc, source, endian, &header.features, table)?;
-    let event_desc = feature_bytes(&sections, Feature::EVENT_DESC);
-    let meta_info = feature_bytes(&sections, Feature::SIMPLEPERF_META_INFO);
-    let attributes = read_attributes(alloc, source, endian, header, event_desc, meta_info)?;
-    if attributes.is_empty() {
-        return Err(Error::NoAttributes);
-    }
-    check_consistency(&attributes)?;
-    seek_to_offset(source, data.offset)?;
+    let sections = read_sections(alloc, source, endian, header)?;
+    let attributes = read_consistent_attributes(alloc, source, endian, header, &sections)?;
+    seek_to_offset(source, header.data_section.offset)?;
     let perf_file = PerfFile {
         endian,
         features: header.features,
@@ -220,7 +253,7 @@ fn open_after_header<C: PlacedSource>(
     };
     Ok(FileOpening {
         perf_file,
-        data_size: data.size,
+        data_size: header.data_section.size,
     })
 }
 
