@@ -7,7 +7,7 @@ use Rattle.perfdata_base.specs.Source.{State, Consumed, EndedOrPaused, SkippedEx
 use Rattle.perfdata_base.proofs.ConsumedLemmas.{consumed_more, consumed_none_later, failed_later, paused_later}
 use Rattle.perfdata_base.proofs.ReadErrors.{none_or_paused}
 use Rattle.perfdata_base.specs.Endian.{number_in}
-use Rattle.perfdata_base.specs.Event.{RecordHeaderParsed}
+use Rattle.perfdata_base.specs.Event.{record_header_of, RecordHeaderParsed}
 use Rattle.perfdata_base.proofs.Numbers.{number_prefix}
 use Rattle.perfdata_base.specs.declared.raw.Endianness.{Endianness}
 use Rattle.perfdata_base.specs.declared.event.PerfEventHeader.{PerfEventHeader}
@@ -17,7 +17,7 @@ use Rattle.perfdata_sections.specs.declared.error.ReadError.TheVariants.{PerfEve
 use Rattle.perfdata_sections.specs.Error.{IsUnexpectedEof, IsUnsupported, IsIoError}
 use Rattle.linux_perf_data.specs.Attribute.{Attribute}
 use Rattle.linux_perf_data.specs.Layout.{SectionSize, LayoutError, truncated_header, size_below_header, end_overflows, truncated_body, compressed_record, aux_body_too_short, aux_end_overflows, truncated_aux_data, ConcernsMetadata, ErrorAt, IsCompressed, IsTruncated, IsRecord, HasRecordHeader, HasCompleteBody, HasAuxSize, record_type_of, misc_of, record_size_of, aux_size_of, total_size_of}
-use Rattle.linux_perf_data.specs.RecordFraming.{ShownBy, IsErrorFor, EndedWithin, FailedWithin, ChecksBodySize, ChecksRecordEnd, BodyRead, BodyEnded, BodyPartlyRead, IsTruncatedBody, BodyErrorCause, IsTruncatedAfterHeader, StaysWithinRecord, SourceErrorInRecord, RecordErrorAt, RecordTruncatedAt, BodyExceedsCapacity, ExceedsCapacity}
+use Rattle.linux_perf_data.specs.RecordFraming.{BytesRead, IsHeaderError, ShownBy, IsErrorFor, EndedWithin, FailedWithin, ChecksBodySize, ChecksRecordEnd, BodyRead, BodyEnded, BodyPartlyRead, IsTruncatedBody, BodyErrorCause, IsTruncatedAfterHeader, StaysWithinRecord, SourceErrorInRecord, RecordErrorAt, RecordTruncatedAt, BodyExceedsCapacity, ExceedsCapacity}
 use Rattle.linux_perf_data.proofs.RecordHeaders.{record_type_prefix, misc_prefix, size_first_part, total_size_auxtrace, total_size_plain}
 
 -- the size in a record header is valid, and its record ends below 2^64
@@ -94,7 +94,7 @@ header_short order a b bound offset buffered e file empty short ended =
       ];
     }
 
-pub header_failed : (order : Endianness) (a b : State) (bound : SectionSize) (offset buffered : ℕ) (e : Error) → buffered ≡ 0 → IsIoError e × FailedWithin a 8 b → RecordErrorAt order a bound offset e buffered b
+header_failed : (order : Endianness) (a b : State) (bound : SectionSize) (offset buffered : ℕ) (e : Error) → buffered ≡ 0 → IsIoError e × FailedWithin a 8 b → RecordErrorAt order a bound offset e buffered b
 header_failed order a b bound offset buffered e empty (io, failed) =
     let less = failed.0.too_few in
     record {
@@ -108,7 +108,7 @@ header_failed order a b bound offset buffered e empty (io, failed) =
     }
 
 -- the size in the record header is below 8
-pub size_error : (order : Endianness) (a b : State) (bound : SectionSize) (offset buffered : ℕ) (header_bytes : PerfEventHeader) (e : Error) → buffered ≡ 0 → RecordHeaderParsed (number_in order) a header_bytes b → ChecksBodySize header_bytes.size (Err e) → RecordErrorAt order a bound offset e buffered b
+size_error : (order : Endianness) (a b : State) (bound : SectionSize) (offset buffered : ℕ) (header_bytes : PerfEventHeader) (e : Error) → buffered ≡ 0 → RecordHeaderParsed (number_in order) a header_bytes b → ChecksBodySize header_bytes.size (Err e) → RecordErrorAt order a bound offset e buffered b
 size_error order a b bound offset buffered header_bytes e empty t (is, small) = record {
   consumed_bytes = t.bytes;
   consumes = t.consumes;
@@ -121,7 +121,7 @@ size_error order a b bound offset buffered header_bytes e empty t (is, small) = 
 }
 
 -- the end of the record overflows
-pub end_error : (order : Endianness) (a b : State) (bound : SectionSize) (offset buffered : ℕ) (header_bytes : PerfEventHeader) (e : Error) → buffered ≡ 0 → RecordHeaderParsed (number_in order) a header_bytes b → 8 ≤ header_bytes.size → ChecksRecordEnd offset header_bytes.size (Err e) → RecordErrorAt order a bound offset e buffered b
+end_error : (order : Endianness) (a b : State) (bound : SectionSize) (offset buffered : ℕ) (header_bytes : PerfEventHeader) (e : Error) → buffered ≡ 0 → RecordHeaderParsed (number_in order) a header_bytes b → 8 ≤ header_bytes.size → ChecksRecordEnd offset header_bytes.size (Err e) → RecordErrorAt order a bound offset e buffered b
 end_error order a b bound offset buffered header_bytes e empty t least (is, overflows) = record {
   consumed_bytes = t.bytes;
   consumes = t.consumes;
@@ -132,6 +132,21 @@ end_error order a b bound offset buffered header_bytes e empty t least (is, over
   cause = λ _. inl (inl
       (λ rest. let h = headed order a b header_bytes t rest in let size = h.size in let long = h.long in (end_overflows, (λ _. (omega (arith, long), omega (arith, size, least), omega (arith, size, overflows))), (λ l. l), is)));
 }
+
+-- reading the record header fails
+pub header_error : (order : Endianness) (a b : State) (bound : SectionSize) (offset buffered : ℕ) (e : Error) → buffered ≡ 0 → IsHeaderError order offset a e b → RecordErrorAt order a bound offset e buffered b
+header_error order a b bound offset buffered e empty (inl failed) = header_failed order a b bound offset buffered e empty failed
+header_error order a b bound offset buffered e empty (inr (header_bytes, t, inl small)) = size_error order a b bound offset buffered header_bytes e empty t small
+header_error order a b bound offset buffered e empty (inr (header_bytes, t, inr (least, overflows))) = end_error order a b bound offset buffered header_bytes e empty t least overflows
+
+pub not_header_memory : (order : Endianness) (a b : State) (offset : ℕ) (e : Error) → IsHeaderError order offset a e b → e ≡ Memory → ⊥
+not_header_memory order a b offset e (inl (io, failed)) m = not_io_memory e io m
+not_header_memory order a b offset e (inr (header_bytes, t, inl (is, small))) m = cc
+not_header_memory order a b offset e (inr (header_bytes, t, inr (least, (is, overflows)))) m = cc
+
+-- these eight bytes are a record header
+pub header_parsed : (order : Endianness) (a b : State) (bytes : List ℕ) (header_bytes : PerfEventHeader) → header_bytes ≡ record_header_of (number_in order) bytes → BytesRead a 8 bytes b → RecordHeaderParsed (number_in order) a header_bytes b
+header_parsed order a b bytes header_bytes is read = record { bytes = bytes; exact_len = read.exact_len; consumes = read.consumes; matches = is }
 
 has_header_bytes : (order : Endianness) (header_bytes : PerfEventHeader) (offset end : ℕ) (all x : List ℕ) → Head order header_bytes all x → EndChecked offset header_bytes.size end → HasRecordHeader order offset all
 has_header_bytes order header_bytes offset end all x h (least, (ends, fits)) =

@@ -12,6 +12,7 @@ use Rattle.linux_perf_data.specs.declared.records.input.Input.{Input}
 use Rattle.linux_perf_data.specs.declared.records.input.Input.TheVariants.{Section, Pipe}
 use Rattle.linux_perf_data.specs.Input.{HasNoPendingHeader, with_leading_bytes, input_source_state, AnswersTruncation, section_size_in}
 use Rattle.linux_perf_data.specs.RecordFraming.{ReadsRecordHeader, SkipsBody, AppendsBody, ReadsRecordBody, EndedWithin, FailedWithin, BodyPartlyRead, BodyRead, BodyEnded, BodyErrorCause, BodyExceedsCapacity}
+use Rattle.linux_perf_data.proofs.RecordReads.{EndChecked}
 
 prepend_none : (o : Option (List ℕ)) → prepend [] o ≡ o
 prepend_none None = refl
@@ -101,11 +102,11 @@ pass_true a b count r is passes = subst (λ o. SkipsBody a count (Ok o) b) is pa
 pub pass_false : (a b : State) (count : ℕ) (r : Bool) → r ≡ false → SkipsBody a count (Ok r) b → EndedWithin a count b
 pass_false a b count r is passes = subst (λ o. SkipsBody a count (Ok o) b) is passes
 
-pub header_some : (order : Endianness) (a b : State) (r : Option PerfEventHeader) (header : PerfEventHeader) → r ≡ Some header → ReadsRecordHeader order a (Ok r) b → RecordHeaderParsed (number_in order) a header b
-header_some order a b r header is reads = subst (λ o. ReadsRecordHeader order a (Ok o) b) is reads
+pub header_some : (order : Endianness) (offset : ℕ) (a b : State) (r : Option (PerfEventHeader × ℕ)) (start : PerfEventHeader × ℕ) → r ≡ Some start → ReadsRecordHeader order offset a (Ok r) b → RecordHeaderParsed (number_in order) a start.0 b × EndChecked offset start.0.size start.1
+header_some order offset a b r start is reads = let read = subst (λ o. ReadsRecordHeader order offset a (Ok o) b) is reads in (read.0, (read.1, read.2))
 
-pub header_none : (order : Endianness) (a b : State) (r : Option PerfEventHeader) → r ≡ None → ReadsRecordHeader order a (Ok r) b → EndedWithin a 8 b
-header_none order a b r is reads = subst (λ o. ReadsRecordHeader order a (Ok o) b) is reads
+pub header_none : (order : Endianness) (offset : ℕ) (a b : State) (r : Option (PerfEventHeader × ℕ)) → r ≡ None → ReadsRecordHeader order offset a (Ok r) b → EndedWithin a 8 b
+header_none order offset a b r is reads = subst (λ o. ReadsRecordHeader order offset a (Ok o) b) is reads
 
 pub content_some : (order : Endianness) (a b : State) (header : PerfEventHeader) (end whole : ℕ) (now : List ℕ) (r : Option ℕ) → r ≡ Some whole → ReadsRecordBody order a header end (Ok r) now b → BodyRead order a header end whole now b
 content_some order a b header end whole now r is reads = subst (λ o. ReadsRecordBody order a header end (Ok o) now b) is reads

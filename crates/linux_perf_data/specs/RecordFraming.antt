@@ -49,12 +49,6 @@ ReadsHeaderBytes old (Ok (Some bytes)) new = BytesRead old 8 bytes new
 ReadsHeaderBytes old (Ok None) new = EndedWithin old 8 new
 ReadsHeaderBytes old (Err e) new = IsIoError e × FailedWithin old 8 new
 
--- The record header was read; or the source ended or paused before, or failed.
-abbrev pub ReadsRecordHeader : Endianness → State → Result (Option PerfEventHeader) Error → State → Type 0
-ReadsRecordHeader order old (Ok (Some header)) new = RecordHeaderParsed (number_in order) old header new
-ReadsRecordHeader order old (Ok None) new = EndedWithin old 8 new
-ReadsRecordHeader order old (Err e) new = IsIoError e × FailedWithin old 8 new
-
 -- The size of a record's body, or the error if the size in the record header is below 8.
 abbrev pub ChecksBodySize : ℕ → Result ℕ Error → Type 0
 ChecksBodySize size (Ok count) = (8 ≤ size) × (count ≡ size - 8)
@@ -64,6 +58,18 @@ ChecksBodySize size (Err e) = (e ≡ InvalidPerfEventSize) × (size < 8)
 abbrev pub ChecksRecordEnd : ℕ → ℕ → Result ℕ Error → Type 0
 ChecksRecordEnd offset size (Ok end) = (end ≡ offset + size) × (end < 2 ^ 64)
 ChecksRecordEnd offset size (Err e) = (e ≡ Read PerfEventData) × (2 ^ 64 ≤ offset + size)
+
+-- The error of the header of a record at `offset`: the source failed in it, its size is below 8, or the record ends at 2^64 or later.
+abbrev pub IsHeaderError : Endianness → ℕ → State → Error → State → Type 0
+IsHeaderError order offset old e new =
+    (IsIoError e × FailedWithin old 8 new)
+    ⊎ ((header : PerfEventHeader) × RecordHeaderParsed (number_in order) old header new × (ChecksBodySize header.size (Err e) ⊎ ((8 ≤ header.size) × ChecksRecordEnd offset header.size (Err e))))
+
+-- The header of a record at `offset` was read, and the record ends at this offset; or the source ended or paused before.
+abbrev pub ReadsRecordHeader : Endianness → ℕ → State → Result (Option (PerfEventHeader × ℕ)) Error → State → Type 0
+ReadsRecordHeader order offset old (Ok (Some start)) new = RecordHeaderParsed (number_in order) old start.0 new × (8 ≤ start.0.size) × ChecksRecordEnd offset start.0.size (Ok start.1)
+ReadsRecordHeader order offset old (Ok None) new = EndedWithin old 8 new
+ReadsRecordHeader order offset old (Err e) new = IsHeaderError order offset old e new
 
 -- The whole body was skipped; or the source ended or paused before its end, or failed.
 abbrev pub SkipsBody : State → ℕ → Result Bool Error → State → Type 0

@@ -9,7 +9,7 @@ use crate::in_memory::framing::{skip_bytes, take_record_body};
 use crate::in_memory::whole_record::take_whole_record;
 use crate::perf_file::PerfFile;
 use crate::pipe::late_metadata::apply_metadata;
-use crate::records::framing::{body_size, read_header, record_end};
+use crate::records::framing::{HEADER_SIZE, read_header};
 use crate::records::input::Input;
 use crate::records::iter::{PerfRecordIter, RecordInfo, Stage};
 use perfdata_base::event::PerfEventHeader;
@@ -45,14 +45,13 @@ fn take_record_parts<'a>(
     ensures raw_record { TakesRawRecord records.old result records.new }
     ensures same_buffer { records.new.body ≡ records.old.body }
 {
-    let header = match read_header(&mut records.source, &mut records.input, records.endian)? {
-        Some(header) => header,
+    let (input, offset) = (&mut records.input, records.offset);
+    let (header, end) = match read_header(&mut records.source, input, records.endian, offset)? {
+        Some(header_and_end) => header_and_end,
         None => return end_or_error(records.input, Error::from(unexpected_eof())),
     };
-    let body_size = body_size(header)?;
-    let end = record_end(records.offset, header.size)?;
     if header.type_ == PERF_RECORD_FINISHED_ROUND {
-        if !skip_bytes(&mut records.source, body_size as u64) {
+        if !skip_bytes(&mut records.source, (header.size - HEADER_SIZE) as u64) {
             return end_or_error(records.input, Error::Read(ReadError::PerfEventData));
         }
         records.round += 1;

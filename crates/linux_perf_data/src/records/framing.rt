@@ -23,7 +23,7 @@ use perfdata_sections::constants::{
 use perfdata_sections::error::{Error, ReadError, unsupported};
 
 // The size of a record header in bytes, as a `u16`.
-const HEADER_SIZE: u16 = PerfEventHeader::STRUCT_SIZE as u16;
+pub(crate) const HEADER_SIZE: u16 = PerfEventHeader::STRUCT_SIZE as u16;
 
 // The size in bytes of the body after a record header, without aux data.
 pub(crate) fn body_size(header: PerfEventHeader) -> Result<u16, Error>
@@ -114,24 +114,29 @@ pub(crate) fn peek_record(endian: Endianness, bytes: &[u8]) -> Option<(PerfEvent
     Some((header, length))
 }
 
-// The pending header, or the record header at the position of the source. `None` if the source has fewer
-// bytes.
+// The record header of the record at `offset`, and its end offset: the pending header, or the record header
+// at the position of the source. `None` if the source has fewer bytes.
 #[inline(always)]
 pub(crate) fn read_header<R: Source>(
     source: &mut R,
     input: &mut Input,
     endian: Endianness,
-) -> Result<Option<PerfEventHeader>, Error>
+    offset: u64,
+) -> Result<Option<(PerfEventHeader, u64)>, Error>
     ensures pending_header { TakesPendingHeader input.old input.new }
-    ensures header { ReadsRecordHeader endian (input_source_state input.old (R.state source.old)) result
+    ensures header { ReadsRecordHeader endian offset (input_source_state input.old (R.state source.old)) result
         (input_source_state input.new (R.state source.new)) }
     ensures pauses { PausesOnlyAtEndOrError (R.state source.old) result (R.state source.new) }
     ensures same_loan { R.loan source.new ≡ R.loan source.old }
 {
-    match next_header_bytes(source, input)? {
-        Some(bytes) => Ok(Some(PerfEventHeader::from_bytes(endian, &bytes))),
-        None => Ok(None),
-    }
+    let bytes = match next_header_bytes(source, input)? {
+        Some(bytes) => bytes,
+        None => return Ok(None),
+    };
+    let header = PerfEventHeader::from_bytes(endian, &bytes);
+    body_size(header)?;
+    let end = record_end(offset, header.size)?;
+    Ok(Some((header, end)))
 }
 
 // Skips `count` bytes. `false` if the source has fewer.

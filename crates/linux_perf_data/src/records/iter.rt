@@ -9,7 +9,7 @@ use crate::attributes::lookup::AttributeLookup;
 use crate::perf_file::PerfFile;
 use crate::pipe::late_metadata::apply_metadata;
 use crate::records::buffered::{contains_next_record, has_no_pending_header};
-use crate::records::framing::{body_size, read_header, read_record_body, record_end, skip_body};
+use crate::records::framing::{HEADER_SIZE, read_header, read_record_body, skip_body};
 use crate::records::input::{Input, at_truncation};
 use perfdata_base::event::{PerfEventHeader, RawEventRecord, RecordType};
 use perfdata_base::place::RecordParseInfo;
@@ -280,14 +280,13 @@ impl<R: Source> PerfRecordIter<R> {
         ensures pauses { PausesOnlyAtEndOrError (R.state self.old.source) result (R.state self.new.source) }
         ensures same_loan { R.loan self.new.source ≡ R.loan self.old.source }
     {
-        let header = match read_header(&mut self.source, &mut self.input, self.endian)? {
-            Some(header) => header,
+        let (input, offset) = (&mut self.input, self.offset);
+        let (header, end) = match read_header(&mut self.source, input, self.endian, offset)? {
+            Some(header_and_end) => header_and_end,
             None => return at_truncation(self.input, Error::from(unexpected_eof())),
         };
-        let body_size = body_size(header)?;
-        let end = record_end(self.offset, header.size)?;
         if header.type_ == PERF_RECORD_FINISHED_ROUND {
-            if !skip_body(&mut self.source, body_size as u64)? {
+            if !skip_body(&mut self.source, (header.size - HEADER_SIZE) as u64)? {
                 return at_truncation(self.input, Error::Read(ReadError::PerfEventData));
             }
             self.round += 1;
