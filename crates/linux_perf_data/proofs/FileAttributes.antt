@@ -17,7 +17,7 @@ use Rattle.perfdata_sections.specs.declared.feature_sections.AttributeDescriptio
 use Rattle.perfdata_sections.specs.declared.error.Error.{Error}
 use Rattle.perfdata_sections.proofs.Entries.{entries_described, entries_source_error}
 use Rattle.perfdata_sections.proofs.Events.{event_desc_described, event_desc_source_error}
-use Rattle.linux_perf_data.specs.AttributeSources.{known_sections, NamesEventTypes, DescribesFrom, IsSourcesError, ReadsAttributes, ParsesEventDesc, ReadsTypesSection, ReadsSimpleperfSection}
+use Rattle.linux_perf_data.specs.AttributeSources.{known_sections, NamesEventTypes, DescribesFrom, IsSourcesError, ReadsAttributes, ParsesEventDesc, ParsesMetaEventTypes, ReadsTypesSection, ReadsSimpleperfSection}
 
 -- a property of all values holds for the value of an option
 pub if_each : {T : Type 0} (o : Option T) (P : T → Type 0) → ((x : T) → P x) → IfSome o P
@@ -95,3 +95,13 @@ module _ (order : Endianness) (h : PerfHeader) (a : State) (placed : RemainsFrom
   named_read info types c (Err e) none names (inl (small, is, same)) =
       (subst (AfterSeek a) (sym same) (after_seek_none a placed), λ m. inl (if_each (all_bytes_of a.position) (λ all. IsSourcesError order h (known_sections None (Some info)) all e) (λ all. inr (none, inr (types, names, inl (small, is))))))
   named_read info types c (Err e) none names (inr (size_fits, error)) = named_entries info types c (Err e) none names size_fits error
+
+  -- EVENT_DESC contains the attributes
+  pub desc_read : (desc : List ℕ) (info : Option (List ℕ)) (r : Result (Vec AttributeDescription Global) Error) → ParsesEventDesc order desc r → ReadsAttributes order h (known_sections (Some desc) info) a r a
+  desc_read desc info (Ok v) parses = (after_seek_none a placed, if_each (all_bytes_of a.position) (λ all. DescribesFrom order h (known_sections (Some desc) info) all v.items) (λ all. parses))
+  desc_read desc info (Err e) parses = (after_seek_none a placed, λ m. inl (if_each (all_bytes_of a.position) (λ all. IsSourcesError order h (known_sections (Some desc) info) all e) (λ all. parses m)))
+
+  -- the meta info contains no event types
+  pub meta_info_error : (info : List ℕ) (e : Error) → h.event_types_section.size ≡ 0 → ParsesMetaEventTypes info (Err e) → ReadsAttributes order h (known_sections None (Some info)) a (Err e) a
+  meta_info_error info e none parses =
+      (after_seek_none a placed, λ m. inl (if_each (all_bytes_of a.position) (λ all. IsSourcesError order h (known_sections None (Some info)) all e) (λ all. inr (none, inl (parses m)))))

@@ -1,7 +1,10 @@
 -- Taking a record from memory does what a streaming iterator over the same bytes does.
 use Rattle.std.proofs.Common.{◌≡◌, ◌≢◌, ℕ, ◌^◌, ◌<◌, List, [], length, refl, sym, ap, ◌∙◌, subst, arith, None}
-use Rattle.std.specs.Prelude.{Result, Ok, Err, Vec}
+use Rattle.std.specs.Prelude.{Result, Ok, Err, Vec, Option}
 use Rattle.std.specs.declared.alloc.Global.{Global}
+use Rattle.perfdata_base.specs.Source.{State}
+use Rattle.std.specs.Borrow.{Bor}
+use Rattle.perfdata_base.specs.declared.raw.Endianness.{Endianness}
 use Rattle.perfdata_base.specs.declared.event.PerfEventHeader.{PerfEventHeader}
 use Rattle.perfdata_sections.specs.declared.error.Error.{Error}
 use Rattle.perfdata_sections.specs.declared.error.Error.TheVariants.{Memory}
@@ -19,7 +22,7 @@ use Rattle.linux_perf_data.specs.RecordFraming.{RecordTruncatedAt, RecordErrorAt
 use Rattle.linux_perf_data.specs.RecordViews.{IdentifiesRecord}
 use Rattle.linux_perf_data.specs.Iter.{iter_source_state, section_size_of, SameInput, StopsAtError, ConsumesMetadata}
 use Rattle.linux_perf_data.specs.IterSteps.{RawRecordRead, SameButLookup, RecordProcessed, RecordRejected}
-use Rattle.linux_perf_data.specs.InMemory.{memory_state, MemoryIter, with_buffer, EndsOrFails, TakesRawRecord}
+use Rattle.linux_perf_data.specs.InMemory.{memory_state, MemoryIter, with_buffer, EndsOrFails, TakesRawRecord, TakesRecordBody}
 use Rattle.linux_perf_data.proofs.IterCalls.{Idles, late_stops, consumes_metadata}
 use Rattle.linux_perf_data.proofs.ProcessedRecords.{record_processed, record_rejected}
 use Rattle.linux_perf_data.proofs.TruncatedRecords.{record_truncated}
@@ -89,3 +92,10 @@ pub rejected_consumes : (old now piece new final : MemoryIter) (buffer : Vec ℕ
 rejected_consumes old now piece new final buffer file file' header_bytes e idles read rejected source input round =
     let c = consumes_metadata memory_state old now (with_buffer piece buffer) (with_buffer new buffer) (with_buffer final buffer) file file' header_bytes e idles read rejected (record { source = source; input = input; body = refl; round = round }) in
     record { in_pipe = c.in_pipe; markers = c.markers; valid_markers = c.valid_markers; raw_record = c.raw_record; is_record = c.is_record; metadata_type = c.metadata_type; consumes = c.consumes }
+
+-- the same body, and the same raw record, by their names
+pub body_taken : (order : Endianness) (a b : State) (header : PerfEventHeader) (end : ℕ) (r taken : Option (Bor (List ℕ) × ℕ)) → r ≡ taken → TakesRecordBody order a header end (Ok r) b → TakesRecordBody order a header end (Ok taken) b
+body_taken order a b header end r taken is takes = subst (λ o. TakesRecordBody order a header end (Ok o) b) is takes
+
+pub raw_record_taken : (old new : MemoryIter) (r taken : RawRecord) → r ≡ taken → TakesRawRecord old (Ok r) new → TakesRawRecord old (Ok taken) new
+raw_record_taken old new r taken is takes = subst (λ x. TakesRawRecord old (Ok x) new) is takes

@@ -1,14 +1,18 @@
 -- Taking the parts of a record from bytes in memory.
-use Rattle.std.proofs.Common.{◌≡◌, ℕ, ◌+◌, ◌-◌, ◌^◌, ◌<◌, ◌≤◌, ◌++◌, List, [], length, take, drop, refl, sym, ap, ◌∙◌, subst, arith, length-append, Option, None, Some}
+use Rattle.std.proofs.Common.{◌≡◌, ◌≢◌, inl, inr, ℕ, ◌+◌, ◌-◌, ◌^◌, ◌<◌, ◌≤◌, ◌++◌, List, [], length, take, drop, refl, sym, ap, ◌∙◌, subst, arith, length-append, Option, None, Some}
 use Rattle.std.proofs.lemmas.List.{drop-drop, length-take-le}
 use Rattle.std.proofs.Math.Seq.{drop-length, take-append_seam}
 use Rattle.perfdata_base.specs.Source.{State, memory_source_at, prepend, Consumed, SkippedExactly, AppendedExactly}
 use Rattle.perfdata_base.proofs.Seeks.{buffered_from_cursor}
 use Rattle.perfdata_base.specs.declared.raw.Endianness.{Endianness}
 use Rattle.perfdata_base.specs.declared.event.PerfEventHeader.{PerfEventHeader}
+use Rattle.perfdata_sections.specs.Error.{IsUnsupported}
+use Rattle.perfdata_sections.specs.declared.error.Error.{Error}
+use Rattle.perfdata_sections.specs.declared.error.Error.TheVariants.{Memory}
 use Rattle.linux_perf_data.specs.Layout.{IsCompressed}
-use Rattle.linux_perf_data.specs.RecordFraming.{BytesRead, EndedWithin, AuxDataRead, BodyRead}
-use Rattle.linux_perf_data.proofs.BodiesWithAux.{content_auxtrace}
+use Rattle.linux_perf_data.specs.RecordFraming.{BytesRead, EndedWithin, AuxDataRead, AuxDataError, BodyRead, BodyEnded, BodyPartlyRead, BodyErrorCause}
+use Rattle.linux_perf_data.proofs.BodiesWithAux.{content_auxtrace, content_not_auxtrace}
+use Rattle.linux_perf_data.proofs.RecordReads.{not_unsupported_memory}
 
 -- enough bytes remain after a cursor's position
 pub skipped_all : (all : List ℕ) (at count : ℕ) → count ≤ length (drop at all) → SkippedExactly (memory_source_at all at) count (memory_source_at all (at + count))
@@ -46,6 +50,37 @@ prefix_read bytes a b count known skipped =
 
 appended : (bytes : List ℕ) (a b : State) (count : ℕ) → BytesRead a count bytes b → AppendedExactly a [] count bytes b
 appended bytes a b count read = record { bytes = bytes; exact_len = read.exact_len; buffer_content = refl; consumes = read.consumes }
+
+-- a truncated body
+pub body_ended : (a b : State) (header : PerfEventHeader) (count : ℕ) → count ≡ header.size - 8 → EndedWithin a count b → BodyEnded a header [] b
+body_ended a b header count is (part, none) =
+    let less = part.too_few in
+    record { consumed_bytes = part.consumed_bytes; too_few = omega (arith, is, less); consumes = part.consumes; ended_or_paused = none; buffer_bound = omega arith }
+
+-- the body of a compressed record
+pub body_compressed : (order : Endianness) (a b : State) (header : PerfEventHeader) (end count : ℕ) (e : Error) → count ≡ header.size - 8 → IsUnsupported e → IsCompressed header.type_ → SkippedExactly a count b → (e ≢ Memory) × BodyPartlyRead a e [] b (BodyErrorCause order a header end e b)
+body_compressed order a b header end count e is unsupported compressed skipped = (
+  not_unsupported_memory e unsupported,
+  record { consumed_bytes = skipped.bytes; consumes = skipped.consumes; buffer_bound = omega arith; cause = inr (inr (inl (unsupported, skipped.exact_len ∙ is, compressed))) },
+)
+
+-- a body without aux data
+pub body_consumed : (order : Endianness) (bytes : List ℕ) (a b : State) (header : PerfEventHeader) (end count : ℕ) → length bytes < 2 ^ 63 → a.bytes ≡ Some bytes → count ≡ header.size - 8 → ¬ IsCompressed header.type_ → header.type_ ≢ 71 → SkippedExactly a count b
+    → (length (take count bytes) < 2 ^ 63) × BodyRead order a header end end (take count bytes) b
+body_consumed order bytes a b header end count small known is plain other skipped =
+    let read = prefix_read bytes a b count known skipped in
+    let within = (consumed_prefix bytes skipped.bytes a b known skipped.consumes).1 in (
+      omega (arith, read.exact_len, skipped.exact_len, within, small),
+      record { consumes = read.consumes; not_compressed = plain; if_not_auxtrace = λ _. (read.exact_len ∙ is, refl); if_auxtrace = λ traced. absurd (other traced); end_fits = λ fits. fits },
+    )
+
+-- reading the aux data after a body fails
+pub aux_data_error : (order : Endianness) (bytes : List ℕ) (a b c : State) (header : PerfEventHeader) (end count : ℕ) (e : Error) → a.bytes ≡ Some bytes → 8 ≤ header.size → count ≡ header.size - 8 → header.type_ ≡ 71 → SkippedExactly a count b → AuxDataError order b (take count bytes) end e (take count bytes) c
+    → BodyPartlyRead a e [] c (BodyErrorCause order a header end e c)
+aux_data_error order bytes a b c header end count e known least is traced skipped aux =
+    let read = subst (λ n. BytesRead a n (take count bytes) b) is (prefix_read bytes a b count known skipped) in
+    let stops = content_not_auxtrace order a b c header [] (take count bytes) (take count bytes) end e refl least traced (appended (take count bytes) a b (header.size - 8) read) aux in
+    record { consumed_bytes = stops.consumed_bytes; consumes = stops.consumes; buffer_bound = omega arith; cause = stops.cause }
 
 -- a body with aux data
 pub body_with_aux_consumed : (order : Endianness) (bytes now : List ℕ) (a b c : State) (header : PerfEventHeader) (end record_end count size : ℕ) → length bytes < 2 ^ 63 → a.bytes ≡ Some bytes → 8 ≤ header.size → count ≡ header.size - 8 → ¬ IsCompressed header.type_ → header.type_ ≡ 71

@@ -16,7 +16,8 @@ use Rattle.linux_perf_data.specs.declared.records.input.Input.{Input}
 use Rattle.linux_perf_data.specs.declared.records.input.Input.TheVariants.{Section, Pipe}
 use Rattle.linux_perf_data.specs.declared.records.iter.PerfRecordIter.{PerfRecordIter}
 use Rattle.linux_perf_data.specs.declared.records.iter.RecordInfo.{RecordInfo}
-use Rattle.linux_perf_data.specs.declared.records.iter.Stage.TheVariants.{Running}
+use Rattle.linux_perf_data.specs.declared.records.iter.Stage.{Stage}
+use Rattle.linux_perf_data.specs.declared.records.iter.Stage.TheVariants.{Running, Failed, Ended}
 use Rattle.linux_perf_data.specs.declared.perf_file.PerfFile.{PerfFile}
 use Rattle.linux_perf_data.specs.declared.attributes.lookup.AttributeLookup.{AttributeLookup}
 use Rattle.linux_perf_data.specs.Attribute.{Attribute, AreConsistent}
@@ -34,6 +35,13 @@ use Rattle.linux_perf_data.proofs.AddedAttributes.{adds_none, added_one}
 use Rattle.linux_perf_data.proofs.RecordHeaders.{record_least, total_size_plain}
 use Rattle.linux_perf_data.proofs.ProcessedRecords.{LateFault, Foreign, consumed_record, marker_record, late_cause, needs_memory}
 use Rattle.linux_perf_data.proofs.LayoutSteps.{nothing_more, error_next, remaining_more}
+
+-- a running iterator has neither ended nor failed
+pub running_not_ended : (stage : Stage) → stage ≡ Running → stage ≢ Ended
+running_not_ended stage ran ended = cc
+
+pub running_not_failed : (stage : Stage) → stage ≡ Running → stage ≢ Failed
+running_not_failed stage ran failed = cc
 
 -- a property of the remaining bytes after a read gives one of the remaining bytes before it
 lift : (a b : Option (List ℕ)) (first_part : List ℕ) (P Q : List ℕ → Type 0) → a ≡ prepend first_part b → ((x y : List ℕ) → a ≡ Some x → b ≡ Some y → Q y → P x) → IfSome b Q → IfSome a P

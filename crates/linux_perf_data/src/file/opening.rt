@@ -151,7 +151,6 @@ fn read_simpleperf_attrs<C: PlacedSource>(
 }
 
 // Reads the attributes of a file from the first section that the file has for them.
-#[tactic(auto, using(crate::proofs::NamedErrors::file_event_desc, crate::proofs::NamedErrors::file_types, crate::proofs::NamedErrors::file_simpleperf, crate::proofs::NamedErrors::file_attrs, crate::proofs::NamedErrors::file_meta_info))]
 fn read_attributes<C: PlacedSource>(
     alloc: Global,
     source: &mut C,

@@ -1,11 +1,12 @@
 use Rattle.std.proofs.Common.{arith, refl, ap, subst, [], ◌∙◌}
 use Rattle.perfdata_base.proofs.ConsumedLemmas.{consumed_none}
+use Rattle.linux_perf_data.specs.declared.in_memory.iter.RawRecord.TheVariants.{Marker, Record, End}
 use Rattle.linux_perf_data.specs.RecordViews.{record_view_with}
 use Rattle.linux_perf_data.specs.Iter.{iter_source_state, ReturnsRecord}
 use Rattle.linux_perf_data.specs.IterSteps.{RecordProcessed, RecordRejected}
 use Rattle.linux_perf_data.specs.InMemory.{memory_state, with_buffer}
-use Rattle.linux_perf_data.proofs.IterCalls.{idles_on, returns_record, stops, section_ends, pipe_ends, same_later}
-use Rattle.linux_perf_data.proofs.InMemoryCalls.{rejected_stops, rejected_consumes}
+use Rattle.linux_perf_data.proofs.IterCalls.{running_not_ended, running_not_failed, idles_on, returns_record, stops, section_ends, pipe_ends, same_later}
+use Rattle.linux_perf_data.proofs.InMemoryCalls.{raw_record_taken, rejected_stops, rejected_consumes}
 use Rattle.linux_perf_data.proofs.in_memory.iter.take_next_record.Goals as goal
 
 pub raw_records-init : goal.raw_records-init
@@ -30,7 +31,7 @@ raw_records-init c = record {
 pub raw_records-preserved : goal.raw_records-preserved
 raw_records-preserved c =
     let i = c.raw_records.invariant in
-    let t = rw c.in-Ok-Marker.field-0-is at c.in-Ok-Marker.ensures.raw_record in
+    let t = raw_record_taken _ _ _ (Marker _) c.in-Ok-Marker.field-0-is c.in-Ok-Marker.ensures.raw_record in
     record {
       idles = idles_on memory_state _ c.raw_records.records c.take_raw_record.new.records _ i.idles t.1 t.0 c.raw_records-test.ensures;
       file = i.file;
@@ -41,7 +42,7 @@ returns-in-Ok c =
     let i = c.raw_records.invariant in
     let now = c.raw_records.records in
     let header_bytes = c.in-Ok-Record.header in
-    let t = rw c.in-Ok-Record.field-0-is at c.in-Ok-Record.ensures.raw_record in
+    let t = raw_record_taken _ _ _ (Record header_bytes c.in-Ok-Record.body) c.in-Ok-Record.field-0-is c.in-Ok-Record.ensures.raw_record in
     let piece = with_buffer c.take_raw_record.new.records t.buffer in
     let new = with_buffer c.process_record.new.records t.buffer in
     let step = subst (λ f. RecordProcessed memory_state piece f now.offset now.round header_bytes c.in-Ok.info new c.process_record.new.perf_file) i.file (c.in-Ok.ensures.processes t.buffer t.buffered_body) in
@@ -57,15 +58,15 @@ returns-in-Err-process_record c =
     let now = c.raw_records.records in
     let header_bytes = c.in-Ok-Record.header in
     let e = c.in-Err-process_record.error in
-    let t = rw c.in-Ok-Record.field-0-is at c.in-Ok-Record.ensures.raw_record in
+    let t = raw_record_taken _ _ _ (Record header_bytes c.in-Ok-Record.body) c.in-Ok-Record.field-0-is c.in-Ok-Record.ensures.raw_record in
     let piece = with_buffer c.take_raw_record.new.records t.buffer in
     let new = with_buffer c.process_record.new.records t.buffer in
     let d = subst (λ f. RecordRejected memory_state piece f header_bytes e new c.process_record.new.perf_file) i.file (c.in-Err-process_record.ensures.processes t.buffer t.buffered_body) in
     let empty = ap (λ v. v.items) (c.in-Err-process_record.ensures.same_buffer ∙ c.in-Ok-Record.ensures.same_buffer) ∙ i.idles.empty in (
       record {
         stage_failed = refl;
-        not_ended = λ ended. let ran = i.idles.ran in cc;
-        if_failed = λ failed. let ran = i.idles.ran in absurd cc;
+        not_ended = running_not_ended _ i.idles.ran;
+        if_failed = λ failed. absurd (running_not_failed _ i.idles.ran failed);
         only_if_failed = λ is. absurd (d.not_failed is);
         if_running = λ _. rejected_stops c.args.records.now now c.take_raw_record.new.records c.process_record.new.records _ t.buffer c.args.perf_file.now c.process_record.new.perf_file header_bytes e i.idles t.raw_record_read t.not_marker c.raw_records-test.ensures d refl refl refl refl empty;
         same_file = d.same_file;
@@ -77,11 +78,11 @@ pub returns-in-Ok-End : goal.returns-in-Ok-End
 returns-in-Ok-End c =
     let i = c.raw_records.invariant in
     let new = c.take_raw_record.new.records in
-    let cut = rw c.in-Ok-End.field-0-is at c.in-Ok-End.ensures.raw_record in
+    let cut = raw_record_taken _ _ _ End c.in-Ok-End.field-0-is c.in-Ok-End.ensures.raw_record in
     record {
       stage_ended = refl;
-      not_failed = λ failed. let ran = i.idles.ran in cc;
-      if_ended = λ ended. let ran = i.idles.ran in absurd cc;
+      not_failed = running_not_failed _ i.idles.ran;
+      if_ended = λ ended. absurd (running_not_ended _ i.idles.ran ended);
       if_running = λ _. pipe_ends memory_state c.args.records.now c.raw_records.records new _ i.idles cut (record { source = refl; input = refl; body = refl; round = refl }) refl;
       file_unchanged = i.file;
     }
@@ -93,8 +94,8 @@ returns-in-Err c =
     let r = c.in-Err.ensures.raw_record in (
       record {
         stage_failed = refl;
-        not_ended = λ ended. let ran = i.idles.ran in cc;
-        if_failed = λ failed. let ran = i.idles.ran in absurd cc;
+        not_ended = running_not_ended _ i.idles.ran;
+        if_failed = λ failed. absurd (running_not_failed _ i.idles.ran failed);
         only_if_failed = λ is. absurd (r.1.error.not_failed is);
         if_running = λ _. stops memory_state c.args.records.now c.raw_records.records new _ c.args.perf_file.now c.in-Err.error i.idles c.raw_records-test.ensures r.1 (record { source = refl; input = refl; body = refl; round = refl }) refl;
         same_file = same_later c.raw_records.perf_file c.args.perf_file.now i.file;
@@ -107,8 +108,8 @@ returns c =
     let i = c.raw_records.invariant in
     record {
       stage_ended = refl;
-      not_failed = λ failed. let ran = i.idles.ran in cc;
-      if_ended = λ ended. let ran = i.idles.ran in absurd cc;
+      not_failed = running_not_failed _ i.idles.ran;
+      if_ended = λ ended. absurd (running_not_ended _ i.idles.ran ended);
       if_running = λ _. section_ends memory_state c.args.records.now c.raw_records.records _ i.idles c.raw_records-test.ensures (record { source = refl; input = refl; body = refl; round = refl }) refl;
       file_unchanged = i.file;
     }

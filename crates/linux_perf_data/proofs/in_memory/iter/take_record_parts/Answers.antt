@@ -1,4 +1,4 @@
-use Rattle.std.proofs.Common.{◌++◌, [], length, rules, refl, ap, sym, subst}
+use Rattle.std.proofs.Common.{None, Some, ◌++◌, [], length, rules, refl, ap, sym, subst}
 use Rattle.std.proofs.lemmas.Result.{err_from_is_err_and}
 use Rattle.perfdata_sections.specs.Error.{IsUnexpectedEof}
 use Rattle.perfdata_sections.specs.declared.error.Error.TheVariants.{Read}
@@ -9,7 +9,7 @@ use Rattle.linux_perf_data.specs.RecordFraming.{RecordTruncatedAt, RecordErrorAt
 use Rattle.linux_perf_data.specs.InMemory.{memory_state}
 use Rattle.linux_perf_data.proofs.RecordReads.{header_truncated, header_short, header_error, not_header_memory, pass_truncated, pass_short, content_truncated, content_short, content_error, marker_whole, content_whole, after_header}
 use Rattle.linux_perf_data.proofs.SourceViews.{header_some, header_none, pass_true, pass_false, skipped_in, ended_in, content_in, ended_content_in, no_content_in}
-use Rattle.linux_perf_data.proofs.InMemoryCalls.{buffer_of, unexpected_not_memory, truncated_consumed}
+use Rattle.linux_perf_data.proofs.InMemoryCalls.{body_taken, buffer_of, unexpected_not_memory, truncated_consumed}
 use Rattle.linux_perf_data.proofs.in_memory.iter.take_record_parts.Goals as goal
 
 pub returns-in_err-header_and_end-clause-raw_record : goal.returns-in_err-header_and_end-clause-raw_record
@@ -108,7 +108,7 @@ returns-in-Some-2-clause-raw_record c =
     let t = start.0 in
     let now = c.in-Some-2.body.now in
     let end = c.in-Some-2.end in
-    let consumed_bytes = rw c.in-Some-2.is at c.in_ok-body.ensures in
+    let consumed_bytes = body_taken _ _ _ _ _ _ (Some (c.in-Some-2.body, end)) c.in-Some-2.is c.in_ok-body.ensures in
     let w = content_whole it.endian a b d it.offset _ end c.in-Some.header_and_end.0 now t start.1 (content_in input pending.no_pending_header (memory_state c.read_header.new.source) (memory_state c.take_record_body.new.source) it.endian c.in-Some.header_and_end.0 _ end now consumed_bytes.1) in
     record {
       not_marker = c.if-header-eq-PERF_RECORD_FINISHED_ROUND.false;
@@ -143,7 +143,7 @@ returns-in-None-2-clause-raw_record c =
     let start = header_some it.endian it.offset a b _ c.in-Some.header_and_end c.in-Some.is c.in_ok-header_and_end.ensures.header in
     let t = start.0 in
     let empty = ap length c.requires in
-    let ended = ended_content_in input pending.no_pending_header (memory_state c.read_header.new.source) (memory_state c.take_record_body.new.source) c.in-Some.header_and_end.0 [] (rw c.in-None-2.is at c.in_ok-body.ensures) in
+    let ended = ended_content_in input pending.no_pending_header (memory_state c.read_header.new.source) (memory_state c.take_record_body.new.source) c.in-Some.header_and_end.0 [] (body_taken _ _ _ _ _ _ None c.in-None-2.is c.in_ok-body.ensures) in
     truncated_consumed it _ (Read PerfEventData) c.end_or_error-in-None-2.result c.end_or_error-in-None-2.ensures (λ m. cc) (record { same_endian = refl; section_size = pending.section_size }) refl refl refl pending.no_pending_header
     (λ pipe. subst (λ n. RecordTruncatedAt it.endian a it.offset n d) (sym empty) (content_truncated it.endian a b d it.offset _ c.in-Some.header_and_end.0 [] t start.1 ended))
     (λ file. subst (λ n. RecordErrorAt it.endian a (section_size_of memory_state it) it.offset (Read PerfEventData) n d) (sym empty) (content_short it.endian a b d (section_size_of memory_state it) it.offset _ c.in-Some.header_and_end.0 (Read PerfEventData) [] file refl t start.1 ended))

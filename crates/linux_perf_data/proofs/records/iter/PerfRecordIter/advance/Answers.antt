@@ -2,8 +2,8 @@ use Rattle.std.proofs.Common.{rules, arith, refl, subst, inl, inr, [], ◌∙◌
 use Rattle.perfdata_base.proofs.ConsumedLemmas.{consumed_none}
 use Rattle.linux_perf_data.specs.Iter.{iter_source_state}
 use Rattle.linux_perf_data.specs.IterSteps.{RecordProcessed, RecordRejected}
-use Rattle.linux_perf_data.proofs.TruncatedRecords.{some_record, no_record}
-use Rattle.linux_perf_data.proofs.IterCalls.{idles_on, returns_record, stops, late_stops, larger_buffer, buffers_metadata, section_ends, pipe_ends, same_later}
+use Rattle.linux_perf_data.proofs.TruncatedRecords.{some_record, no_record, no_pause}
+use Rattle.linux_perf_data.proofs.IterCalls.{running_not_ended, running_not_failed, idles_on, returns_record, stops, late_stops, larger_buffer, buffers_metadata, section_ends, pipe_ends, same_later}
 use Rattle.linux_perf_data.proofs.records.iter.PerfRecordIter.advance.Goals as goal
 
 pub raw_records-init : goal.raw_records-init
@@ -35,7 +35,7 @@ raw_records-preserved g c =
     let t = some_record state c.raw_records.self c.next_raw_record.new.self _ c.in-Ok-Some.header c.in-Ok-Some.field-0-is c.in-Ok-Some.ensures.raw_record in
     record {
       idles = idles_on state _ c.raw_records.self c.next_raw_record.new.self c.in-Ok-Some.header i.idles t c.if-header-ne-PERF_RECORD_FINISHED_ROUND.false c.raw_records-test.ensures;
-      pauses = (rw c.in-Ok-Some.field-0-is at c.in-Ok-Some.ensures.pauses) ∙ i.pauses;
+      pauses = no_pause (state c.raw_records.self.source) (state c.next_raw_record.new.self.source) _ _ c.in-Ok-Some.field-0-is c.in-Ok-Some.ensures.pauses ∙ i.pauses;
       same_loan = c.in-Ok-Some.ensures.same_loan ∙ i.same_loan;
       file = i.file;
       capacity = (let before = i.capacity in let kept = c.in-Ok-Some.ensures.capacity in omega (arith, before, kept));
@@ -62,8 +62,8 @@ returns-in-Err-process_record-clause-advances g c =
     let d = subst (λ f. RecordRejected state piece f header_bytes e c.process_record.new.self c.process_record.new.perf_file) i.file c.in-Err-process_record.ensures.processes in
     record {
       stage_failed = refl;
-      not_ended = λ ended. let ran = i.idles.ran in cc;
-      if_failed = λ failed. let ran = i.idles.ran in absurd cc;
+      not_ended = running_not_ended _ i.idles.ran;
+      if_failed = λ failed. absurd (running_not_failed _ i.idles.ran failed);
       only_if_failed = λ is. absurd (d.not_failed is);
       if_running = λ _. late_stops state c.args.self.now c.raw_records.self piece c.process_record.new.self _ c.args.perf_file.now c.process_record.new.perf_file header_bytes e i.idles t c.if-header-ne-PERF_RECORD_FINISHED_ROUND.true c.raw_records-test.ensures d
           (record { source = refl; input = refl; body = refl; round = refl }) refl;
@@ -78,8 +78,8 @@ returns-in-Ok-None-clause-advances g c =
     let cut = no_record state c.raw_records.self new _ c.in-Ok-None.field-0-is c.in-Ok-None.ensures.raw_record in
     record {
       stage_ended = refl;
-      not_failed = λ failed. let ran = i.idles.ran in cc;
-      if_ended = λ ended. let ran = i.idles.ran in absurd cc;
+      not_failed = running_not_failed _ i.idles.ran;
+      if_ended = λ ended. absurd (running_not_ended _ i.idles.ran ended);
       if_running = λ _. pipe_ends state c.args.self.now c.raw_records.self new _ i.idles cut (record { source = refl; input = refl; body = refl; round = refl }) refl;
       file_unchanged = i.file;
     }
@@ -92,8 +92,8 @@ returns-in-Err-clause-advances g c =
     let r = c.in-Err.ensures.raw_record in
     record {
       stage_failed = refl;
-      not_ended = λ ended. let ran = i.idles.ran in cc;
-      if_failed = λ failed. let ran = i.idles.ran in absurd cc;
+      not_ended = running_not_ended _ i.idles.ran;
+      if_failed = λ failed. absurd (running_not_failed _ i.idles.ran failed);
       only_if_failed = λ is. absurd (r.error.not_failed is);
       if_running = λ _. stops state c.args.self.now c.raw_records.self new _ c.args.perf_file.now c.in-Err.error i.idles c.raw_records-test.ensures r (record { source = refl; input = refl; body = refl; round = refl }) refl;
       same_file = same_later c.raw_records.perf_file c.args.perf_file.now i.file;
@@ -105,8 +105,8 @@ returns-clause-advances g c =
     let i = c.raw_records.invariant in
     record {
       stage_ended = refl;
-      not_failed = λ failed. let ran = i.idles.ran in cc;
-      if_ended = λ ended. let ran = i.idles.ran in absurd cc;
+      not_failed = running_not_failed _ i.idles.ran;
+      if_ended = λ ended. absurd (running_not_ended _ i.idles.ran ended);
       if_running = λ _. section_ends state c.args.self.now c.raw_records.self _ i.idles c.raw_records-test.ensures (record { source = refl; input = refl; body = refl; round = refl }) refl;
       file_unchanged = i.file;
     }
