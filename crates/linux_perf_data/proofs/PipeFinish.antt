@@ -17,22 +17,19 @@ use Rattle.perfdata_base.proofs.Numbers.{number_drop_prefix}
 use Rattle.perfdata_sections.specs.declared.error.Error.{Error}
 use Rattle.perfdata_sections.specs.declared.error.Error.TheVariants.{Memory, NoAttributes, UnrecognizedMagicValue}
 use Rattle.perfdata_sections.specs.declared.feature_sections.AttributeDescription.{AttributeDescription}
-use Rattle.linux_perf_data.specs.Attribute.{Inconsistency, AreInconsistent, AreConsistent}
+use Rattle.linux_perf_data.specs.Attribute.{AreInconsistent, AreConsistent}
 use Rattle.linux_perf_data.specs.Descriptions.{described_attributes}
 use Rattle.linux_perf_data.specs.LateMetadata.{IsMetadataType}
 use Rattle.linux_perf_data.specs.Layout.{record_type_of, record_size_of}
-use Rattle.linux_perf_data.specs.NameTable.{IsNamesError}
 use Rattle.linux_perf_data.specs.FeatureNumbers.{event_desc}
-use Rattle.linux_perf_data.specs.Names.{IsReadableOrAbsent, NamedByEventDesc, IsReadableEventDesc}
+use Rattle.linux_perf_data.specs.Names.{IsReadableOrAbsent, NamedByEventDesc}
 use Rattle.linux_perf_data.specs.FileOpening.{RecognizesMagic}
 use Rattle.linux_perf_data.specs.PipeOpening.{MetadataEnded, HoldsPipeMetadata, IsPipeHeader, PipeOpened, OpensPerfPipe, FailsBy, IsMetadataReadError, IsPipeError, IsMetadataListError, OpeningRead, IsErrorCauseFor}
-use Rattle.linux_perf_data.specs.PipeSteps.{OpeningFinished, FinishesOpening, OpensAfterPipeHeader, IsFinishError, CollectsMetadata, MetadataRead}
-use Rattle.linux_perf_data.specs.Consistency.{error_of_inconsistency}
+use Rattle.linux_perf_data.specs.PipeSteps.{NamesConsistentAttributes, OpeningFinished, FinishesOpening, OpensAfterPipeHeader, IsFinishError, CollectsMetadata, MetadataRead}
 use Rattle.linux_perf_data.specs.FeatureData.{feature_data_of}
 use Rattle.linux_perf_data.specs.declared.pipe.opening.PipeMetadata.{PipeMetadata}
 use Rattle.linux_perf_data.specs.declared.pipe.pipe_opening.PipeOpening.{PipeOpening}
 use Rattle.linux_perf_data.proofs.RecordHeaders.{record_type_prefix, size_first_part}
-use Rattle.linux_perf_data.proofs.NameTables.{named_can}
 use Rattle.linux_perf_data.proofs.PipeErrors.{error_later, shows}
 use Rattle.linux_perf_data.proofs.PipeMetadataRuns.{ended_later}
 
@@ -45,21 +42,17 @@ names_kept order desc described ds named is same names = subst (λ o. NamedByEve
 pub not_none : (n : ℕ) → false ≡ (n == 0) → n ≢ 0
 not_none n other is = false≢true (other ∙ eq-eqb n 0 is)
 
-some_attributes : (ds : List AttributeDescription) → length ds ≢ 0 → described_attributes ds ≢ []
+pub some_attributes : (ds : List AttributeDescription) → length ds ≢ 0 → described_attributes ds ≢ []
 some_attributes [] some none = some refl
 some_attributes (d ∷ ds) some none = cc
 
--- EVENT_DESC isn't readable
-pub names_stop : (order : Endianness) (m : PipeMetadata) (desc : Option (List ℕ)) (e : Error) → length m.attributes.items ≢ 0 → desc ≡ feature_data_of m.sections event_desc → IsNamesError order desc e → e ≢ Memory → IsFinishError order m e
-names_stop order m None e some is failing other = absurd (other failing)
-names_stop order m (Some bytes) e some is failing other = inr (inl (bytes, some_attributes m.attributes.items some, sym is, failing other))
-
--- EVENT_DESC is readable, and the attributes are inconsistent
-pub inconsistency_stops : (order : Endianness) (m : PipeMetadata) (desc : Option (List ℕ)) (named : List AttributeDescription) (e : Error) → desc ≡ feature_data_of m.sections event_desc → NamedByEventDesc order desc named → described_attributes named ≡ described_attributes m.attributes.items
-    → (b : Inconsistency) × AreInconsistent (described_attributes named) b × (e ≡ error_of_inconsistency b) → IsFinishError order m e
-inconsistency_stops order m desc named e is names same (b, breaks, described) =
-    let can : (bytes : List ℕ) → feature_data_of m.sections event_desc ≡ Some bytes → IsReadableEventDesc order bytes = λ bytes there. subst (IsReadableOrAbsent order) (is ∙ there) (named_can order desc named names) in
-    inr (inr (b, can, subst (λ l. AreInconsistent l b) same breaks, described))
+-- the metadata is invalid
+pub finish_error : (order : Endianness) (m : PipeMetadata) (desc : Option (List ℕ)) (new : List AttributeDescription) (e : Error) → desc ≡ feature_data_of m.sections event_desc → NamesConsistentAttributes order desc m.attributes.items (Err e) new → e ≢ Memory → IsFinishError order m e
+finish_error order m desc new e is (inl none) other = inl none
+finish_error order m None new e is (inr (inl (some, failing))) other = absurd (other failing)
+finish_error order m (Some bytes) new e is (inr (inl (some, failing))) other = inr (inl (bytes, some, sym is, failing other))
+finish_error order m desc new e is (inr (inr (b, readable, breaks, described))) other =
+    inr (inr (b, (λ bytes there. subst (IsReadableOrAbsent order) (is ∙ there) readable), breaks, described))
 
 -- ---- after a header
 

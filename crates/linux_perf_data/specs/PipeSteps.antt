@@ -22,11 +22,14 @@ use Rattle.linux_perf_data.specs.Descriptions.{described_attributes}
 use Rattle.linux_perf_data.specs.LateMetadata.{AddsFeatures, IsMetadataType, IsMetadataError, features_in_record}
 use Rattle.linux_perf_data.specs.Layout.{attributes_in_record, record_type_of}
 use Rattle.linux_perf_data.specs.FeatureNumbers.{event_desc}
-use Rattle.linux_perf_data.specs.Names.{NamedByEventDesc, IsReadableEventDesc, feature_in_body}
+use Rattle.linux_perf_data.specs.Names.{NamedByEventDesc, IsReadableOrAbsent, IsReadableEventDesc, feature_in_body}
 use Rattle.linux_perf_data.specs.RecordFraming.{BytesRead}
 use Rattle.linux_perf_data.specs.PipeOpening.{AreMetadata, IsMetadataRecord, IsMetadataRecordError, IsMetadataReadError, MetadataEnded, HoldsPipeMetadata, HoldsMetadataOf, FailsBy}
 use Rattle.linux_perf_data.specs.Consistency.{error_of_inconsistency}
 use Rattle.linux_perf_data.specs.FeatureData.{feature_data_of}
+use Rattle.perfdata_sections.specs.declared.feature_sections.AttributeDescription.{AttributeDescription}
+use Rattle.linux_perf_data.specs.NameTable.{NamesAttributes, IsNamesError}
+use Rattle.linux_perf_data.specs.declared.attributes.name_table.NameTable.{NameTable}
 use Rattle.linux_perf_data.specs.declared.pipe.pipe_opening.PipeOpening.{PipeOpening}
 use Rattle.linux_perf_data.specs.declared.pipe.opening.PipeMetadata.{PipeMetadata}
 use Rattle.linux_perf_data.specs.declared.pipe.opening.NextInOpening.{NextInOpening}
@@ -110,6 +113,15 @@ module _ (order : Endianness) where
   ReadsMetadata old (Err e) new = FailsBy (IsMetadataReadError order) old e new
 
   -- ---- their metadata
+
+  -- Names attributes by EVENT_DESC: consistent ones, at least one. The error is the first: there is no attribute, EVENT_DESC can't be
+  -- read, or the attributes are inconsistent.
+  abbrev pub NamesConsistentAttributes : Option (List ℕ) → List AttributeDescription → Result NameTable Error → List AttributeDescription → Type 0
+  NamesConsistentAttributes desc old (Ok t) new = (0 < length new) × AreConsistent (described_attributes new) × NamesAttributes order desc old (Ok t) new
+  NamesConsistentAttributes desc old (Err e) new =
+      ((e ≡ NoAttributes) × (described_attributes old ≡ []))
+      ⊎ (((described_attributes old ≢ []) × IsNamesError order desc e)
+      ⊎ ((b : Inconsistency) × IsReadableOrAbsent order desc × AreInconsistent (described_attributes old) b × (e ≡ error_of_inconsistency b)))
 
   -- An opening was built from the metadata.
   pub record OpeningFinished (m : PipeMetadata) (ending_header : Option (List ℕ)) (opening : PipeOpening) : Type 0 where

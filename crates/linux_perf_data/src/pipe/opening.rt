@@ -9,9 +9,12 @@ ghost use Rattle.linux_perf_data.specs.PipeSteps.{FinishesOpening, AddsRecord, O
 ghost use Rattle.linux_perf_data.specs.PipeSteps.{ParsesAttribute, ParsesFeature, ReadsMetadata};
 ghost use Rattle.linux_perf_data.specs.PipeSteps.{ReadsMetadataBody, ReadsNext, CollectsMetadata};
 ghost use Rattle.linux_perf_data.specs.PipeSteps.{ReportsContentsError, TestsMetadataType};
+ghost use Rattle.linux_perf_data.specs.PipeSteps.{NamesConsistentAttributes};
+ghost use Rattle.std.specs.Option.{option_map};
 
 use crate::attributes::consistency::check_consistency;
 use crate::attributes::first_id_index::FirstIdIndex;
+use crate::attributes::name_table::NameTable;
 use crate::attributes::names::name_attributes;
 use crate::file::opening::{endian_of_magic, feature_bytes};
 use crate::perf_file::PerfFile;
@@ -218,6 +221,25 @@ fn read_metadata<R: Source>(
     }
 }
 
+// Names the attributes by EVENT_DESC, and returns the table of the names. Fails without attributes, and if
+// they are inconsistent.
+fn name_consistent_attributes(
+    alloc: Global,
+    endian: Endianness,
+    event_desc: Option<&[u8]>,
+    attributes: &mut [AttributeDescription],
+) -> Result<NameTable, Error>
+    ensures { NamesConsistentAttributes endian (option_map (λ s. s.now) event_desc.entry) attributes.old result
+        attributes.new }
+{
+    if attributes.is_empty() {
+        return Err(Error::NoAttributes);
+    }
+    let name_table = name_attributes(alloc, endian, event_desc, attributes)?;
+    check_consistency(attributes)?;
+    Ok(name_table)
+}
+
 // Builds the opening from the metadata and from the record header that ends the metadata records.
 fn finish_opening(
     alloc: Global,
@@ -233,12 +255,8 @@ fn finish_opening(
         attributes,
     } = metadata;
     let mut attributes = attributes;
-    if attributes.is_empty() {
-        return Err(Error::NoAttributes);
-    }
     let event_desc = feature_bytes(&sections, Feature::EVENT_DESC);
-    let name_table = name_attributes(alloc, endian, event_desc, &mut attributes)?;
-    check_consistency(&attributes)?;
+    let name_table = name_consistent_attributes(alloc, endian, event_desc, &mut attributes)?;
     let perf_file = PerfFile {
         endian,
         features,
