@@ -1,16 +1,19 @@
 -- Lemmas that check attributes one after another and conclude a fact about all of them.
-use Rattle.std.proofs.Common.{◌≡◌, ◌≢◌, ℕ, zero, suc, ◌+◌, ◌<◌, ◌≤◌, ◌++◌, List, [], ◌∷◌, Bool, true, false, length, get_or, take, drop, All, refl, sym, ap, ◌∙◌, subst, arith, take-append-drop, drop-cons, not, eq-eqb, eqb-true, Option, None, Some}
+use Rattle.std.proofs.Common.{◌≡◌, ◌≢◌, ℕ, zero, suc, ◌+◌, ◌<◌, ◌≤◌, ◌++◌, List, [], ◌∷◌, Bool, true, false, length, get_or, take, drop, map, All, refl, sym, ap, ◌∙◌, subst, arith, take-append-drop, drop-cons, not, eq-eqb, eqb-true, Option, None, Some}
 use Rattle.std.specs.Prelude.{◌&&◌, nat_eq, Result, Ok, Err}
 use Rattle.std.specs.Option.{option_eq}
 use Rattle.std.proofs.lemmas.Bool.{true≢false, false≢true}
 use Rattle.perfdata_base.specs.declared.place.RecordIdParseInfo.{RecordIdParseInfo}
 use Rattle.std.proofs.lemmas.List.{take_more, map_push, map-append, length-take-le}
 use Rattle.std.proofs.lemmas.List.Elements.{All-head, All-tail, All-push, All-cons}
-use Rattle.perfdata_base.specs.ParseInfo.{id_parse_info_of}
+use Rattle.perfdata_base.specs.declared.place.RecordParseInfo.{RecordParseInfo}
+use Rattle.perfdata_base.specs.declared.raw.Endianness.{Endianness}
+use Rattle.perfdata_sections.specs.AttributeDescription.{attr_in}
+use Rattle.perfdata_base.specs.ParseInfo.{id_parse_info_of, parse_info_of}
 use Rattle.perfdata_sections.specs.declared.feature_sections.AttributeDescription.{AttributeDescription}
 use Rattle.perfdata_sections.specs.declared.error.Error.{Error}
 use Rattle.linux_perf_data.specs.Attribute.{Attribute, AreConsistent, ConformsTo, FirstNonconformingAt}
-use Rattle.linux_perf_data.specs.Descriptions.{described_attribute, described_attributes}
+use Rattle.linux_perf_data.specs.Descriptions.{described_attribute, described_attributes, parse_infos_of}
 use Rattle.linux_perf_data.specs.Consistency.{SameIdOffsets, ChecksEach, ChecksConsistency}
 use Rattle.linux_perf_data.proofs.ConsistencyLemmas.{conforming_is_consistent, agreed}
 use Rattle.linux_perf_data.proofs.LookupIds.{described_counted}
@@ -27,6 +30,18 @@ pub all_more : (P : Attribute → Type 0) (ds : List AttributeDescription) (i : 
 all_more P ds i d inside is one all =
     let more : take (i + 1) ds ≡ take i ds ++ d ∷ [] = take_more ds i d inside ∙ ap (λ x. take i ds ++ x ∷ []) (sym is) in
     subst (All P) (sym (ap described_attributes more ∙ map_push described_attribute (take i ds) d)) (All-push P (described_attributes (take i ds)) (described_attribute d) all one)
+
+-- the parse infos of one more attribute
+pub infos_more : (order : Endianness) (ds : List AttributeDescription) (i : ℕ) (d : AttributeDescription) (before after : List RecordParseInfo) (info : RecordParseInfo) → i < length ds → d ≡ get_or ds i d → info ≡ parse_info_of (attr_in d) order → after ≡ before ++ info ∷ []
+    → before ≡ parse_infos_of order (described_attributes (take i ds)) → after ≡ parse_infos_of order (described_attributes (take (i + 1) ds))
+infos_more order ds i d before after info inside is new pushed known =
+    let info_of = λ (a : Attribute). parse_info_of a.attr order in
+    let more : take (i + 1) ds ≡ take i ds ++ d ∷ [] = take_more ds i d inside ∙ ap (λ x. take i ds ++ x ∷ []) (sym is) in
+    let grown = ap (λ l. parse_infos_of order (described_attributes l)) more ∙ ap (map info_of) (map_push described_attribute (take i ds) d) ∙ map_push info_of (described_attributes (take i ds)) (described_attribute d) in
+    pushed ∙ (λ k. known k ++ new k ∷ []) ∙ sym grown
+
+pub infos_all : (order : Endianness) (ds : List AttributeDescription) (i : ℕ) (infos : List RecordParseInfo) → length ds ≤ i → infos ≡ parse_infos_of order (described_attributes (take i ds)) → infos ≡ parse_infos_of order (described_attributes ds)
+infos_all order ds i infos done known = known ∙ ap (λ l. parse_infos_of order (described_attributes l)) (take_past ds i done)
 
 -- what holds for all attributes holds for each
 pub one_of_all : (P : Attribute → Type 0) (ds : List AttributeDescription) (i : ℕ) (d : AttributeDescription) → i < length ds → d ≡ get_or ds i d → All P (described_attributes ds) → P (described_attribute d)

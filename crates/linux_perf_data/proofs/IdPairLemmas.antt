@@ -1,5 +1,5 @@
 -- The index of an identifier: by the order of attributes, of unsorted ID pairs and of sorted ones.
-use Rattle.std.proofs.Common.{◌≡◌, ◌≢◌, ◌==◌, ℕ, zero, suc, ◌+◌, ◌<◌, ◌≤◌, ◌++◌, max, List, [], ◌∷◌, Bool, true, false, length, get_or, drop, map, All, refl, sym, ap, ◌∙◌, subst, arith, inl, inr, append_assoc, append-nil, length-append, drop-cons, eq-eqb}
+use Rattle.std.proofs.Common.{◌≡◌, ◌≢◌, ◌==◌, ℕ, zero, suc, ◌+◌, ◌<◌, ◌≤◌, ◌++◌, max, List, [], ◌∷◌, Bool, true, false, length, get_or, drop, map, take, All, refl, sym, ap, ◌∙◌, subst, arith, inl, inr, append_assoc, append-nil, length-append, drop-cons, eq-eqb}
 use Rattle.std.specs.Prelude.{◌⊎◌, if◌then◌else◌, Option, None, Some}
 use Rattle.std.specs.List.Sorted.{IsPermutation}
 use Rattle.std.specs.Option.{option_or, unwrap_or}
@@ -7,7 +7,7 @@ use Rattle.std.proofs.lemmas.Bool.{cases_eq, cases_order, cases_Bool, ne_eqb}
 use Rattle.std.proofs.lemmas.List.Elements.{All-nil, All-cons, All-head, All-tail, All-weaker}
 use Rattle.std.proofs.Math.Seq.{get_or-append_seam}
 use Rattle.std.proofs.Math.ListN.{get_or-append}
-use Rattle.std.proofs.lemmas.List.{drop_all}
+use Rattle.std.proofs.lemmas.List.{drop_all, take_all, map_more}
 use Rattle.std.proofs.lemmas.List.Quantifiers.{all_pairs_push}
 use Rattle.std.proofs.lemmas.List.Sorted.{All-permutation, IsPermutation-sym}
 use Rattle.perfdata_sections.specs.AttributeDescription.{ids_in}
@@ -309,3 +309,15 @@ pub table_resolves : (attrs : List Attribute) (pairs ordered last : Pairs) → p
     → (id : ℕ) → index_of_id id last ≡ last_index_of_id id 0 attrs
 table_resolves attrs pairs ordered last are moved up same id =
     index_ranked id last up ∙ ap index_by (same id ∙ rank_permuted id pairs ordered moved ∙ ap (rank_of_id id) are) ∙ index_listed id 0 attrs
+
+-- the id pairs of one more identifier, and of all
+abbrev pair_with : ℕ → ℕ → ℕ × ℕ
+pair_with index id = (id, index)
+
+pub appended_more : (before pairs after : List (ℕ × ℕ)) (ids : List ℕ) (i index : ℕ) → i < length ids → after ≡ pairs ++ (get_or ids i 0, index) ∷ [] → pairs ≡ before ++ map (pair_with index) (take i ids) → after ≡ before ++ map (pair_with index) (take (i + 1) ids)
+appended_more before pairs after ids i index inside pushed known =
+    let last = (get_or ids i 0, index) ∷ [] in
+    pushed ∙ ap (λ l. l ++ last) known ∙ append_assoc before (map (pair_with index) (take i ids)) last ∙ ap (λ l. before ++ l) (sym (map_more (pair_with index) ids i 0 inside))
+
+pub appended_all : (before pairs : List (ℕ × ℕ)) (ids : List ℕ) (i index : ℕ) → length ids ≤ i → pairs ≡ before ++ map (pair_with index) (take i ids) → pairs ≡ before ++ map (pair_with index) ids
+appended_all before pairs ids i index done known = known ∙ ap (λ l. before ++ map (pair_with index) l) (take_all i ids done)

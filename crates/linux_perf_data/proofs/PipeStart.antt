@@ -1,6 +1,7 @@
 -- The opening of a pipe determines a file and an iterator over its records.
 use Rattle.std.proofs.Common.{◌≡◌, ℕ, ◌<◌, ◌≤◌, ◌++◌, List, refl, sym, ap, ◌∙◌, subst, inl, inr, append_assoc, Option, None, Some, arith}
-use Rattle.std.specs.Prelude.{◌⊎◌, ◌↔◌, IsSome, Result, Ok, Err}
+use Rattle.std.specs.Prelude.{◌⊎◌, ◌↔◌, ◌+◌, IsSome, IfOk, Result, Ok, Err}
+use Rattle.linux_perf_data.specs.Pauses.{PausesOnlyAtEnd, PausesOnlyInEndedOpening}
 use Rattle.std.specs.List.{concat}
 use Rattle.perfdata_base.specs.Source.{State, prepend, Consumed, EndedOrPaused}
 use Rattle.perfdata_base.specs.Features.{HasFeature}
@@ -108,3 +109,12 @@ parses_pipe state source opening (Err e) is old o = record {
   final_state = state source;
   error = record { consumed_bytes = o.opening_read.header ++ (concat o.raw_records ++ o.opening_read.last_bytes); consumes = o.opening_read.consumes; cause = λ other. absurd (other is) };
 }
+
+-- a pipe's opening counts at most one pause
+at_most_one_pause : {A : Type 0} (a b : State) (next : Option A) → PausesOnlyAtEnd a next b → b.pauses ≤ a.pauses + 1
+at_most_one_pause a b None pauses = pauses
+at_most_one_pause a b (Some x) pauses = omega (arith, pauses)
+
+pub reader_pauses : {R : Type 0} (state : R → State) (source : R) (opening : PipeOpening) (r : Result (PerfFileReader R) Error) (old : State) → BuildsPipeReader state source opening r → PausesOnlyInEndedOpening {E = Error} old (Ok opening) (state source) → IfOk r (λ r. (state r.record_iter.source).pauses ≤ old.pauses + 1)
+reader_pauses state source opening (Ok r) old starts pauses = subst (λ s. (state s).pauses ≤ old.pauses + 1) (sym starts.same_source) (at_most_one_pause old (state source) opening.pending_header pauses)
+reader_pauses state source opening (Err e) old is pauses = tt

@@ -5,8 +5,8 @@ ghost use Rattle.std.specs.Option.{option_map};
 ghost use Rattle.linux_perf_data.specs.AttributeSources.{known_sections, ReadsAttributes, ReadsTypesSection};
 ghost use Rattle.linux_perf_data.specs.AttributeSources.{ParsesMetaEventTypes, ReadsSimpleperfSection};
 ghost use Rattle.linux_perf_data.specs.AttributeSources.{ReadsAttrsSection};
-ghost use Rattle.linux_perf_data.specs.FileOpening.{RecognizesMagic, ReadsConsistentAttributes, OpensAfterHeader};
-ghost use Rattle.linux_perf_data.specs.FileOpening.{ReadsSections, OpensPerfFile};
+ghost use Rattle.linux_perf_data.specs.FileOpening.{RecognizesMagic, OpensAfterHeader, OpensPerfFile};
+ghost use Rattle.linux_perf_data.specs.FileOpening.{ReadsSections, ReadsConsistentAttributes};
 ghost use Rattle.linux_perf_data.specs.FeatureNumbers.{event_desc, simpleperf_meta_info};
 ghost use Rattle.linux_perf_data.specs.FeatureData.{feature_data_of};
 ghost use Rattle.linux_perf_data.specs.NamedErrors.{IsFileOpeningError};
@@ -204,7 +204,8 @@ fn read_sections<C: PlacedSource>(
     }
 }
 
-// Reads the attributes of a file with these feature sections, which are consistent and at least one.
+// Reads the attributes of a file with these feature sections. Fails without attributes, and if they are
+// inconsistent.
 fn read_consistent_attributes<C: PlacedSource>(
     alloc: Global,
     source: &mut C,

@@ -229,8 +229,8 @@ fn name_consistent_attributes(
     event_desc: Option<&[u8]>,
     attributes: &mut [AttributeDescription],
 ) -> Result<NameTable, Error>
-    ensures { NamesConsistentAttributes endian (option_map (λ s. s.now) event_desc.entry) attributes.old result
-        attributes.new }
+    ensures { NamesConsistentAttributes endian (option_map (λ s. s.now) event_desc.entry) attributes.old
+        result attributes.new }
 {
     if attributes.is_empty() {
         return Err(Error::NoAttributes);

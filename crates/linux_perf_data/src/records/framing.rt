@@ -114,8 +114,8 @@ pub(crate) fn peek_record(endian: Endianness, bytes: &[u8]) -> Option<(PerfEvent
     Some((header, length))
 }
 
-// The record header of the record at `offset`, and its end offset: the pending header, or the record header
-// at the position of the source. `None` if the source has fewer bytes.
+// The header and the end offset of the record at `offset`. The header is the pending one, or the one at the
+// position of the source. `None` if the source has fewer bytes.
 #[inline(always)]
 pub(crate) fn read_header<R: Source>(
     source: &mut R,
@@ -124,8 +124,8 @@ pub(crate) fn read_header<R: Source>(
     offset: u64,
 ) -> Result<Option<(PerfEventHeader, u64)>, Error>
     ensures pending_header { TakesPendingHeader input.old input.new }
-    ensures header { ReadsRecordHeader endian offset (input_source_state input.old (R.state source.old)) result
-        (input_source_state input.new (R.state source.new)) }
+    ensures header { ReadsRecordHeader endian offset (input_source_state input.old (R.state source.old))
+        result (input_source_state input.new (R.state source.new)) }
     ensures pauses { PausesOnlyAtEndOrError (R.state source.old) result (R.state source.new) }
     ensures same_loan { R.loan source.new ≡ R.loan source.old }
 {

@@ -1,4 +1,5 @@
 use Rattle.std.proofs.Common.{◌≡◌, ◌<◌, ◌∙◌, ap, sym, subst, length, vec_len, rules, arith, None, Some, Option, ℕ, drop}
+use Rattle.perfdata_base.specs.ParseInfo.{parse_info_of}
 use Rattle.linux_perf_data.specs.Descriptions.{described_attribute, described_attributes}
 use Rattle.linux_perf_data.specs.IdBounds.{TableIndicesBelow}
 use Rattle.linux_perf_data.proofs.LookupIds.{all_counted, described_counted, first_more}
@@ -29,9 +30,9 @@ returns c =
       other_attributes = described_attributes (drop 1 ds);
       elements = first_more ds c.index-attributes-0.result c.requires.nonempty c.index-attributes-0.is;
       consistent = c.requires.consistent;
-      first_parse_info = search rules;
+      first_parse_info = c.new.ensures ∙ ap (λ a. parse_info_of a c.args.endian) c.attributes.ensures;
       parse_infos = c.in_ok-parse_infos.ensures;
-      first_without_identifier = search rules;
+      first_without_identifier = c.first_without_identifier.ensures;
       table = c.in_ok-table.ensures.resolves;
       cache = λ id i described. absurd (none_some i (sym (c.new-2.ensures id) ∙ described));
     }
