@@ -1,6 +1,7 @@
 -- A name table represents the names of descriptions, and attributes have the names of a table.
-use Rattle.std.proofs.Common.{◌≡◌, ◌==◌, ℕ, suc, ◌+◌, ◌<◌, ◌≤◌, Bool, true, false, List, [], ◌∷◌, ◌++◌, length, get_or, drop, refl, sym, ap, ◌∙◌, subst, arith, inl, inr, eq-eqb, Option, None, Some}
-use Rattle.std.specs.Prelude.{cond, if◌then◌else◌, nat_eq, Vec}
+use Rattle.std.proofs.Common.{◌≡◌, ◌==◌, ℕ, suc, ◌+◌, ◌<◌, ◌≤◌, Bool, true, false, List, [], ◌∷◌, ◌++◌, length, get_or, drop, take, refl, sym, ap, ◌∙◌, subst, arith, inl, inr, eq-eqb, Option, None, Some}
+use Rattle.std.specs.Prelude.{cond, if◌then◌else◌, nat_eq, String, Vec, string_bytes}
+use Rattle.std.specs.Option.{option_map}
 use Rattle.std.specs.BTreeMap.{BTreeMap, get, is_at}
 use Rattle.std.specs.Cmp.{nat_cmp_is}
 use Rattle.std.specs.Map.{lookup}
@@ -8,7 +9,7 @@ use Rattle.std.specs.Ordering.{is_eq, nat_cmp}
 use Rattle.std.specs.declared.cmp.Ordering.TheVariants.{Less, Equal, Greater}
 use Rattle.std.proofs.lemmas.Bool.{cases_Bool, cases_eq, cases_order, eqb-true, false≢true, ne_eqb}
 use Rattle.std.proofs.lemmas.List.Elements.{All-push}
-use Rattle.std.proofs.lemmas.List.{at_drop_all, at_drop_more, nil_from_length}
+use Rattle.std.proofs.lemmas.List.{take_more, take_all, map_push, at_drop_all, at_drop_more, nil_from_length}
 use Rattle.std.specs.declared.alloc.Global.{Global}
 use Rattle.indexmap.specs.IndexMap.{IndexMap, get as index_get}
 use Rattle.perfdata_base.specs.Endian.{number_in}
@@ -21,8 +22,8 @@ use Rattle.perfdata_sections.specs.declared.feature_sections.AttributeDescriptio
 use Rattle.perfdata_sections.proofs.EventPrefixes.{event_desc_is_unique, event_desc_or_not}
 use Rattle.linux_perf_data.specs.FirstIds.{IndexesFirstIds, InsertsFirstId, first_index_with_id}
 use Rattle.linux_perf_data.specs.FeatureNumbers.{event_desc}
-use Rattle.linux_perf_data.specs.NameTable.{HasTableWithEndian, IsTableOf, TableHasEvents, TableNamesAll, TableEmptyWithoutEventDesc, TableIsReadable}
-use Rattle.linux_perf_data.specs.Names.{IsReadableOrAbsent, NamedByEventDesc, NamedBy, name_by_first_id, same_first_id}
+use Rattle.linux_perf_data.specs.NameTable.{name_from_table, names_from_table, HasTableWithEndian, IsTableOf, TableHasEvents, TableNamesAll, TableEmptyWithoutEventDesc, TableIsReadable}
+use Rattle.linux_perf_data.specs.Names.{name_bytes_of, IsReadableOrAbsent, NamedByEventDesc, NamedBy, name_by_first_id, same_first_id}
 use Rattle.linux_perf_data.specs.FeatureData.{feature_data_of}
 use Rattle.linux_perf_data.specs.declared.attributes.name_table.NameTable.{NameTable}
 use Rattle.linux_perf_data.proofs.EventDescNames.{described_is_readable}
@@ -257,3 +258,14 @@ named_can order (Some bytes) ds (descriptions, is, names) = described_is_readabl
 pub named_by_table : (order : Endianness) (t : NameTable) (desc : Option (List ℕ)) (ds : List AttributeDescription) → t.endian ≡ order → IsTableOf t desc → NamedBy t.events.items ds → NamedByEventDesc order desc ds
 named_by_table order t None ds is table named = subst (λ descriptions. NamedBy descriptions ds) table named
 named_by_table order t (Some bytes) ds is table named = (t.events.items, subst (λ o. DescribesByEventDesc (number_in o) bytes t.events.items) is table, named)
+
+-- the copied names of one more attribute, and of all
+pub names_more : (t : NameTable) (ds : List AttributeDescription) (i : ℕ) (d : AttributeDescription) (before after : List (Option (String Global))) (name : Option (String Global)) → i < length ds → d ≡ get_or ds i d → option_map string_bytes name ≡ name_from_table t (ids_in d) → after ≡ before ++ name ∷ []
+    → name_bytes_of before ≡ names_from_table t (take i ds) → name_bytes_of after ≡ names_from_table t (take (i + 1) ds)
+names_more t ds i d before after name inside is new pushed known =
+    let name_of = λ (d : AttributeDescription). name_from_table t (ids_in d) in
+    let more : take (i + 1) ds ≡ take i ds ++ d ∷ [] = take_more ds i d inside ∙ ap (λ x. take i ds ++ x ∷ []) (sym is) in
+    ap name_bytes_of pushed ∙ map_push (λ (n : Option (String Global)). option_map string_bytes n) before name ∙ (λ k. known k ++ new k ∷ []) ∙ sym (ap (names_from_table t) more ∙ map_push name_of (take i ds) d)
+
+pub names_all : (t : NameTable) (ds : List AttributeDescription) (i : ℕ) (names : List (Option (String Global))) → length ds ≤ i → name_bytes_of names ≡ names_from_table t (take i ds) → name_bytes_of names ≡ names_from_table t ds
+names_all t ds i names done known = known ∙ ap (names_from_table t) (take_all i ds done)
