@@ -2,9 +2,10 @@
 use crate::escape::Escaped;
 use crate::names::clock_name;
 use crate::report::Report;
+use linux_perf_data::feature_sections::PmuMappings;
 use linux_perf_data::{Endianness, Error, PerfFile};
 use std::alloc::Global;
-use std::collections::HashMap;
+use std::collections::BTreeMap;
 use std::fmt;
 
 /// Writes all lines. A missing value has no line.
@@ -116,40 +117,39 @@ fn show_features(perf_file: &PerfFile, report: &mut Report) {
 fn show_pmu_mappings(alloc: Global, perf_file: &PerfFile, report: &mut Report) {
     let section = perf_file.pmu_mappings(alloc);
     if let Some(units) = report.value_or_note("PMU mappings", section) {
-        report.number("PMU mappings", units.0.len() as u64);
-        for (number, name) in units.0.iter() {
-            report.item(*number, Escaped(name.as_bytes()));
-        }
+        show_units(&units, report);
     }
 }
 
-// A key and its value.
-type Pair<'a> = (&'a &'a str, &'a &'a str);
+// Writes the number and the name of each performance monitoring unit.
+fn show_units(units: &PmuMappings, report: &mut Report) {
+    report.number("PMU mappings", units.0.len() as u64);
+    for (number, name) in units.0.iter() {
+        report.item(*number, Escaped(name.as_bytes()));
+    }
+}
 
 // Writes simpleperf's meta info, ordered by key.
 fn show_meta_info(alloc: Global, perf_file: &PerfFile, report: &mut Report) {
-    let section = perf_file.simpleperf_meta_info(alloc);
-    if let Some(map) = report.value_or_note("meta info", section) {
-        show_pairs(alloc, &map, report);
-    }
-}
-
-// Writes keys and their values, ordered by key.
-fn show_pairs(alloc: Global, map: &HashMap<&str, &str>, report: &mut Report) {
-    if let Some(pairs) = report.value_or_note("meta info", sorted_pairs(alloc, map)) {
-        report.number("meta info", pairs.len() as u64);
-        for (key, value) in pairs.iter() {
+    if let Some(values) = report.value_or_note("meta info", sorted_meta_info(alloc, perf_file)) {
+        report.number("meta info", values.len() as u64);
+        for (key, value) in values.iter() {
             report.item(Escaped(key.as_bytes()), Escaped(value.as_bytes()));
         }
     }
 }
 
-// Returns the pairs, ordered by key.
-fn sorted_pairs<'a>(
+// Returns simpleperf's meta info, ordered by key.
+fn sorted_meta_info(
     alloc: Global,
-    map: &'a HashMap<&'a str, &'a str>,
-) -> Result<Option<Vec<Pair<'a>>>, Error> {
-    let mut pairs: Vec<Pair<'a>> = map.iter().collect(alloc)?;
-    pairs.sort()?;
-    Ok(Some(pairs))
+    perf_file: &PerfFile,
+) -> Result<Option<BTreeMap<&str, &str>>, Error> {
+    let Some(values) = perf_file.simpleperf_meta_info(alloc)? else {
+        return Ok(None);
+    };
+    let mut sorted = BTreeMap::new(alloc);
+    for (key, value) in values {
+        sorted.insert(key, value)?;
+    }
+    Ok(Some(sorted))
 }
