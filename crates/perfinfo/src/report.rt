@@ -94,7 +94,7 @@ impl Report {
     // Counts a section that can't be read, and writes a line with the error.
     fn note(&mut self, name: &str, error: &Error) {
         self.unreadable_sections = self.unreadable_sections.saturating_add(1);
-        self.line(name, Unreadable(error));
+        self.line(name, format_args!("can't be read: {error}"));
     }
 
     /// Returns the value of a section, or `None` if the section is missing or can't be read. For an
@@ -143,15 +143,5 @@ impl Report {
             0 => Ok(()),
             count => Err(InputError::Sections(count).into()),
         }
-    }
-}
-
-// Displays why a section can't be read.
-#[derive(Clone, Copy)]
-struct Unreadable<'a>(&'a Error);
-
-impl Display for Unreadable<'_> {
-    fn fmt<W: fmt::Write>(&self, f: &mut fmt::Formatter<W>) -> fmt::Result {
-        write!(f, "can't be read: {}", self.0)
     }
 }
