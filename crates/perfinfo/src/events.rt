@@ -8,6 +8,7 @@ use linux_perf_data::attr::PerfEventAttr;
 use linux_perf_data::{AttributeDescription, PerfFile};
 use perfdata_events::bits::EventFlags;
 use std::fmt;
+use std::fmt::{Display, Write};
 
 /// Writes one item for each event, with the fields of its attribute, its ids and its counts.
 pub(crate) fn show(perf_file: &PerfFile, counts: &RecordCounts, report: &mut Report) {
@@ -52,7 +53,7 @@ fn period_name(attr: &PerfEventAttr) -> &'static str {
 }
 
 // Writes a field of an attribute that consists of bits with these names.
-fn show_bits(field: &str, bits: u64, names: &'static str, report: &mut Report) {
+fn show_bits(field: &str, bits: u64, names: &'static [&'static str], report: &mut Report) {
     report.detail(field, BitNames { bits, names });
 }
 
@@ -62,11 +63,12 @@ struct IdList<'a>(&'a [u64]);
 
 impl fmt::Display for IdList<'_> {
     fn fmt<W: fmt::Write>(&self, f: &mut fmt::Formatter<W>) -> fmt::Result {
-        write!(f, "{}", self.0.len())?;
-        let mut separator = ":";
+        self.0.len().fmt(f)?;
+        if !self.0.is_empty() {
+            f.write_str(":")?;
+        }
         for id in self.0 {
-            write!(f, "{separator} {id}")?;
-            separator = "";
+            write!(f, " {id}")?;
         }
         Ok(())
     }

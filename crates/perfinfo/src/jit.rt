@@ -1,16 +1,16 @@
 //! Prints a jitdump file: its header, its records by type, and its code.
 
-use crate::counting::{count_one, to_vec};
+use crate::counting::{count_one, show_types, to_vec};
 use crate::escape::Escaped;
 use crate::header_info::byte_order_name;
-use crate::names::jit_record_type_name;
-use crate::report::{Named, Report};
+use crate::names::RecordTypes;
+use crate::report::Report;
 use linux_perf_data::jitdump::{JitDumpHeader, JitDumpRawRecord, JitDumpReader, JitDumpRecord};
 use linux_perf_data::raw::RawData;
 use linux_perf_data::source::Source;
 use perfdata_cli::error::InputError;
 use perfdata_cli::position::Position;
-use std::alloc::{AllocError, Global};
+use std::alloc::Global;
 use std::cmp::Reverse;
 use std::collections::BTreeMap;
 use std::io;
@@ -55,12 +55,7 @@ impl JitCounts {
     }
 
     // Adds a function with `size` bytes of code to the counts.
-    fn add_function(
-        &mut self,
-        alloc: Global,
-        size: u64,
-        name: RawData<'_>,
-    ) -> Result<(), AllocError> {
+    fn add_function(&mut self, alloc: Global, size: u64, name: RawData<'_>) -> io::Result<()> {
         self.code_bytes = self.code_bytes.saturating_add(size);
         let name = to_vec(alloc, name)?;
         self.largest.push(JitFunction { size, name })?;
@@ -69,19 +64,27 @@ impl JitCounts {
         Ok(())
     }
 
+    // Adds the function of a record to the counts, if it is a load record.
+    fn add_code(&mut self, alloc: Global, raw: &JitDumpRawRecord<'_>) -> io::Result<()> {
+        match raw.parse(alloc)? {
+            JitDumpRecord::CodeLoad(load) => {
+                self.add_function(alloc, load.code_bytes.len() as u64, load.function_name)
+            }
+            _ => Ok(()),
+        }
+    }
+
     // Adds a record to the counts.
     fn add(&mut self, alloc: Global, raw: &JitDumpRawRecord<'_>) -> io::Result<()> {
-        if let JitDumpRecord::CodeLoad(load) = raw.parse(alloc)? {
-            self.add_function(alloc, load.code_bytes.len() as u64, load.function_name)?;
-        }
+        self.add_code(alloc, raw)?;
         count_one(&mut self.per_type, raw.record_type.0)?;
         self.records = self.records.saturating_add(1);
         self.end = raw.start_offset.saturating_add(raw.record_size as u64);
         Ok(())
     }
 
-    /// Adds the remaining records until the last complete one or the first error.
-    pub(crate) fn read<R: Source>(
+    // Adds the remaining records until the last complete one or the first error.
+    fn add_all<R: Source>(
         &mut self,
         alloc: Global,
         reader: &mut JitDumpReader<R>,
@@ -96,8 +99,13 @@ impl JitCounts {
         Ok(())
     }
 
-    /// Fails with the error that ends the records, if `read` returned one.
-    pub(crate) fn outcome(&self, read: io::Result<()>) -> Result<(), InputError> {
+    /// Adds the remaining records until the last complete one or the first error.
+    pub(crate) fn read<R: Source>(
+        &mut self,
+        alloc: Global,
+        reader: &mut JitDumpReader<R>,
+    ) -> Result<(), InputError> {
+        let read = self.add_all(alloc, reader);
         let position = Position {
             records: self.records,
             offset: Some(self.end),
@@ -113,7 +121,7 @@ impl JitCounts {
 pub(crate) fn show<R: Source>(reader: &JitDumpReader<R>, counts: &JitCounts, report: &mut Report) {
     report.word("byte order", byte_order_name(reader.endian()));
     show_header(reader.header(), report);
-    show_types(counts, report);
+    show_types(RecordTypes::JitDump, &counts.per_type, report);
     report.number("bytes of records", counts.end);
     report.number("bytes of code", counts.code_bytes);
     show_functions(&counts.largest, report);
@@ -126,15 +134,6 @@ fn show_header(header: &JitDumpHeader, report: &mut Report) {
     report.number("process", header.pid as u64);
     report.number("time", header.timestamp);
     report.number("flags", header.flags);
-}
-
-// Writes the number of records of each type.
-fn show_types(counts: &JitCounts, report: &mut Report) {
-    report.number("records by type", counts.per_type.len() as u64);
-    for (record_type, count) in counts.per_type.iter() {
-        let name = jit_record_type_name(*record_type);
-        report.item(Named(name, *record_type), *count);
-    }
 }
 
 // Writes the sizes and names of functions.

@@ -15,8 +15,8 @@ mod report;
 
 use clap::{ArgMatches, Error};
 use jit::JitCounts;
-use linux_perf_data::PerfFileReader;
 use linux_perf_data::jitdump::{JitDumpError, JitDumpReader};
+use linux_perf_data::{PerfFile, PerfFileReader};
 use perfdata_base::source::CountedBuffer;
 use perfdata_cli::command_line::{
     FILE, RECORDING_OR_JITDUMP_HELP, SUCCESS, arguments, command, print_argument_error,
@@ -42,28 +42,38 @@ const ABOUT: &str =
 type Source = CountedBuffer<InputBytes>;
 
 // Reads the records of a file or pipe to their end or to the first error, and prints the report.
+fn report_records(
+    rt: &HostRuntime,
+    reader: &mut PerfFileReader<Source>,
+    size: Option<u64>,
+) -> Result<(), ProgramError> {
+    let mut progress = Progress::start(rt, size);
+    let mut counts = RecordCounts::new(rt.alloc());
+    let read = counts.read(rt.alloc(), reader, &mut progress);
+    progress.finish();
+    let printed = print_report(rt, &reader.perf_file, &counts);
+    read?;
+    printed
+}
+
+// Reports on a file or pipe that was opened.
 fn report_recording(
     rt: &HostRuntime,
     opened: Result<PerfFileReader<Source>, linux_perf_data::Error>,
     size: Option<u64>,
 ) -> Result<(), ProgramError> {
-    let mut reader = opened.map_err(InputError::Metadata)?;
-    let mut progress = Progress::start(rt, size);
-    let mut counts = RecordCounts::new(rt.alloc());
-    let read = counts.read(rt.alloc(), &mut reader, &mut progress);
-    progress.finish();
-    let printed = print_report(rt, &reader, &counts);
-    counts.outcome(read)?;
-    printed
+    match opened {
+        Ok(mut reader) => report_records(rt, &mut reader, size),
+        Err(error) => Err(InputError::Metadata(error).into()),
+    }
 }
 
 // Prints the report on the metadata and the records of a file or pipe.
 fn print_report(
     rt: &HostRuntime,
-    reader: &PerfFileReader<Source>,
+    perf_file: &PerfFile,
     counts: &RecordCounts,
 ) -> Result<(), ProgramError> {
-    let perf_file = &reader.perf_file;
     let mut report = Report::new(rt.alloc(), rt.stdout()).map_err(InputError::Io)?;
     header_info::show(rt.alloc(), perf_file, &mut report);
     events::show(perf_file, counts, &mut report);
@@ -74,16 +84,26 @@ fn print_report(
 }
 
 // Reads the records of a jitdump to the last complete one or to the first error, and prints the report.
+fn report_jit_records(
+    rt: &HostRuntime,
+    reader: &mut JitDumpReader<Source>,
+) -> Result<(), ProgramError> {
+    let mut counts = JitCounts::new(rt.alloc());
+    let read = counts.read(rt.alloc(), reader);
+    let printed = print_jit_report(rt, reader, &counts);
+    read?;
+    printed
+}
+
+// Reports on a jitdump that was opened.
 fn report_jitdump(
     rt: &HostRuntime,
     opened: Result<JitDumpReader<Source>, JitDumpError>,
 ) -> Result<(), ProgramError> {
-    let mut reader = opened.map_err(InputError::JitHeader)?;
-    let mut counts = JitCounts::new(rt.alloc());
-    let read = counts.read(rt.alloc(), &mut reader);
-    let printed = print_jit_report(rt, &reader, &counts);
-    counts.outcome(read)?;
-    printed
+    match opened {
+        Ok(mut reader) => report_jit_records(rt, &mut reader),
+        Err(error) => Err(InputError::JitHeader(error).into()),
+    }
 }
 
 // Prints the report on the header and the records of a jitdump.

@@ -1,14 +1,14 @@
 //! Counts the records by event and by type.
 
 use crate::contents::Contents;
-use crate::counting::count_one;
-use crate::names::record_type_name;
-use crate::report::{Named, Report};
-use linux_perf_data::event::RecordType;
+use crate::counting::{count_one, show_types};
+use crate::names::RecordTypes;
+use crate::report::Report;
+use linux_perf_data::event::{RawEventRecord, RecordType};
 use linux_perf_data::source::Source;
 use linux_perf_data::{
-    Error, PerfFile, PerfFileReader, PerfFileRecord, PerfRecordIter, RawUserRecord, RecordPlace,
-    UserRecord, UserRecordType,
+    Error, PerfFile, PerfFileReader, PerfFileRecord, RawUserRecord, RecordPlace, UserRecord,
+    UserRecordType,
 };
 use perfdata_cli::error::InputError;
 use perfdata_cli::position::{Position, record_end};
@@ -40,40 +40,14 @@ impl EventCounts {
     };
 
     // Adds a record to the counts.
-    fn add(&mut self, summary: RecordSummary) {
+    fn add(&mut self, record_type: RecordType, timestamp: Option<u64>) {
         self.records = self.records.saturating_add(1);
-        if summary.record_type == RecordType::SAMPLE.0 {
+        if record_type == RecordType::SAMPLE {
             self.samples = self.samples.saturating_add(1);
-            if let Some(time) = summary.timestamp {
+            if let Some(time) = timestamp {
                 self.first_sample = Some(self.first_sample.unwrap_or(time).min(time));
                 self.last_sample = Some(self.last_sample.unwrap_or(time).max(time));
             }
-        }
-    }
-}
-
-// The values of a record that are counted.
-#[derive(Clone, Copy)]
-struct RecordSummary {
-    record_type: u32,
-    attr_index: Option<usize>,
-    timestamp: Option<u64>,
-    round: u64,
-    /// Offset of the record's end in bytes, from the start of the first record.
-    end: u64,
-    aux_size: u64,
-}
-
-impl RecordSummary {
-    // Returns the values of a record with this size of aux data.
-    fn new(place: &RecordPlace, record: &PerfFileRecord<'_>, aux_size: u64) -> RecordSummary {
-        RecordSummary {
-            record_type: record.record_type().0,
-            attr_index: record.attr_index(),
-            timestamp: place.timestamp,
-            round: place.round,
-            end: record_end(place, record),
-            aux_size,
         }
     }
 }
@@ -114,27 +88,88 @@ impl RecordCounts {
     }
 
     // Adds a record to the counts of its event.
-    fn count_for_event(&mut self, index: usize, summary: RecordSummary) -> Result<(), AllocError> {
+    fn count_for_event(
+        &mut self,
+        index: usize,
+        record_type: RecordType,
+        timestamp: Option<u64>,
+    ) -> Result<(), AllocError> {
         if self.per_event.len() <= index {
             self.per_event
                 .resize(index.saturating_add(1), EventCounts::ZERO)?;
         }
         if let Some(count) = self.per_event.get_mut(index) {
-            count.add(summary);
+            count.add(record_type, timestamp);
         }
         Ok(())
     }
 
-    // Adds a record to all counts.
-    fn add(&mut self, summary: RecordSummary) -> Result<(), AllocError> {
-        if let Some(index) = summary.attr_index {
-            self.count_for_event(index, summary)?;
+    // Adds the record of an event to the counts of its body and of the event.
+    fn add_event(
+        &mut self,
+        alloc: Global,
+        format: Option<EventFormat>,
+        index: usize,
+        timestamp: Option<u64>,
+        record: &RawEventRecord<'_>,
+    ) -> Result<(), AllocError> {
+        if let Some(format) = format {
+            self.contents.add(alloc, &format, record)?;
         }
-        count_one(&mut self.per_type, summary.record_type)?;
+        self.count_for_event(index, record.record_type, timestamp)
+    }
+
+    // Adds the body of a record to the counts. Returns the size in bytes of the aux data of an auxtrace
+    // record, or 0 for other records.
+    fn add_body(
+        &mut self,
+        alloc: Global,
+        perf_file: &PerfFile,
+        place: &RecordPlace,
+        record: &PerfFileRecord<'_>,
+    ) -> Result<u64, Error> {
+        match record {
+            PerfFileRecord::UserRecord(user) => aux_data_size(alloc, user),
+            PerfFileRecord::EventRecord { attr_index, event } => {
+                let format = event_format(perf_file, *attr_index);
+                self.add_event(alloc, format, *attr_index, place.timestamp, event)?;
+                Ok(0)
+            }
+        }
+    }
+
+    // Adds a record to all counts.
+    fn add(
+        &mut self,
+        alloc: Global,
+        perf_file: &PerfFile,
+        place: &RecordPlace,
+        record: &PerfFileRecord<'_>,
+    ) -> Result<(), Error> {
+        let aux_size = self.add_body(alloc, perf_file, place, record)?;
+        count_one(&mut self.per_type, record.record_type().0)?;
         self.records = self.records.saturating_add(1);
-        self.rounds = summary.round;
-        self.aux_bytes = self.aux_bytes.saturating_add(summary.aux_size);
-        self.end = summary.end;
+        self.rounds = place.round;
+        self.aux_bytes = self.aux_bytes.saturating_add(aux_size);
+        self.end = record_end(place, record);
+        Ok(())
+    }
+
+    // Adds the remaining records until the end or the first error.
+    fn add_all<R: Source>(
+        &mut self,
+        alloc: Global,
+        reader: &mut PerfFileReader<R>,
+        progress: &mut Progress<'_>,
+    ) -> Result<(), Error> {
+        let (records, perf_file) = (&mut reader.record_iter, &mut reader.perf_file);
+        for _ in 0..u64::MAX {
+            let Some((place, record)) = records.next_record(perf_file)? else {
+                break;
+            };
+            self.add(alloc, perf_file, &place, &record)?;
+            progress.add_record(self.end);
+        }
         Ok(())
     }
 
@@ -144,20 +179,8 @@ impl RecordCounts {
         alloc: Global,
         reader: &mut PerfFileReader<R>,
         progress: &mut Progress<'_>,
-    ) -> Result<(), Error> {
-        let (records, file) = (&mut reader.record_iter, &mut reader.perf_file);
-        for _ in 0..u64::MAX {
-            let Some(summary) = next_summary(alloc, records, file, &mut self.contents)? else {
-                break;
-            };
-            self.add(summary)?;
-            progress.add_record(summary.end);
-        }
-        Ok(())
-    }
-
-    /// Fails with the error that ends the records, if `read` returned one.
-    pub(crate) fn outcome(&self, read: Result<(), Error>) -> Result<(), InputError> {
+    ) -> Result<(), InputError> {
+        let read = self.add_all(alloc, reader, progress);
         let position = Position {
             records: self.records,
             offset: Some(self.end),
@@ -187,53 +210,11 @@ fn event_format(perf_file: &PerfFile, index: usize) -> Option<EventFormat> {
     Some(EventFormat::new(event.attributes(), perf_file.endian()))
 }
 
-// Adds the body of a record to the counts. Returns the size in bytes of the aux data of an auxtrace record,
-// or 0 for other records.
-fn count_body(
-    alloc: Global,
-    perf_file: &PerfFile,
-    record: &PerfFileRecord<'_>,
-    contents: &mut Contents,
-) -> Result<u64, Error> {
-    match record {
-        PerfFileRecord::UserRecord(user) => aux_data_size(alloc, user),
-        PerfFileRecord::EventRecord { attr_index, event } => {
-            if let Some(format) = event_format(perf_file, *attr_index) {
-                contents.add(alloc, &format, event)?;
-            }
-            Ok(0)
-        }
-    }
-}
-
-// Reads the next record, adds its body to the counts and returns its summary, or `None` at the end.
-fn next_summary<R: Source>(
-    alloc: Global,
-    records: &mut PerfRecordIter<R>,
-    perf_file: &mut PerfFile,
-    contents: &mut Contents,
-) -> Result<Option<RecordSummary>, Error> {
-    let Some((place, record)) = records.next_record(perf_file)? else {
-        return Ok(None);
-    };
-    let aux_size = count_body(alloc, perf_file, &record, contents)?;
-    Ok(Some(RecordSummary::new(&place, &record, aux_size)))
-}
-
 /// Writes the number of records of each type, the number of rounds, and the total sizes of aux data and of
 /// all records.
 pub(crate) fn show(counts: &RecordCounts, report: &mut Report) {
-    show_types(counts, report);
+    show_types(RecordTypes::PerfFile, &counts.per_type, report);
     report.number("rounds before the last record", counts.rounds);
     report.number("bytes of aux data", counts.aux_bytes);
     report.number("bytes of records", counts.end);
-}
-
-// Writes the number of records of each type.
-fn show_types(counts: &RecordCounts, report: &mut Report) {
-    report.number("records by type", counts.per_type.len() as u64);
-    for (record_type, count) in counts.per_type.iter() {
-        let name = record_type_name(*record_type);
-        report.item(Named(name, *record_type), *count);
-    }
 }
