@@ -3,8 +3,8 @@
 use crate::symbols::debug_paths::{DebugPath, DebugPlace, debug_paths};
 use crate::symbols::directories::Directories;
 use perfdata_base::source::CountedBuffer;
-use perfdata_symbols::{DebugLink, ElfError, ElfFile, SymbolSection, SymbolTable};
-use std::alloc::AllocError;
+use perfdata_symbols::{DebugLink, ElfError, ElfFile, RankedSymbols, SymbolSection, SymbolTable};
+use std::alloc::{AllocError, Global};
 use std::fs::File;
 use std::io::{BufReader, ErrorKind};
 
@@ -47,6 +47,31 @@ fn is_recorded(id: &[u8], recorded: &[u8]) -> bool {
 fn is_preferred(debug: &Elf, mapped: &Elf) -> bool {
     debug.symbol_section() == Some(SymbolSection::Full)
         || mapped.symbol_section() != Some(SymbolSection::Full)
+}
+
+// Returns the symbols in a mapped file.
+fn own_symbols(alloc: Global, mapped: &mut Elf) -> Result<RankedSymbols, ElfError> {
+    let segments = Vec::from_slice(alloc, mapped.segments())?;
+    mapped.symbols(alloc, &segments)
+}
+
+// Returns the symbols of a mapped file, which may be those in its debug file.
+fn symbols_of(
+    alloc: Global,
+    mapped: &mut Elf,
+    debug: Option<Elf>,
+) -> Result<RankedSymbols, ElfError> {
+    match debug {
+        Some(mut debug) if is_preferred(&debug, mapped) => debug.symbols(alloc, mapped.segments()),
+        _ => own_symbols(alloc, mapped),
+    }
+}
+
+// Returns the table of the symbols of a mapped file.
+fn table_of(alloc: Global, mapped: &mut Elf, debug: Option<Elf>) -> Result<SymbolTable, ElfError> {
+    let mut symbols = symbols_of(alloc, mapped, debug)?;
+    mapped.add_plt_symbols(alloc, &mut symbols)?;
+    Ok(symbols.into_table(alloc)?)
 }
 
 impl<'a> ElfFiles<'a> {
@@ -170,29 +195,12 @@ impl<'a> ElfFiles<'a> {
         }
     }
 
-    // Returns the symbols of a mapped file and its debug file.
-    fn merged_table(&mut self, mut mapped: Elf, mut debug: Elf) -> Result<SymbolTable, ElfError> {
-        let alloc = self.rt.alloc();
-        let mut symbols = debug.symbols(alloc, mapped.segments())?;
-        mapped.add_plt_symbols(alloc, &mut symbols)?;
-        Ok(symbols.into_table(alloc)?)
-    }
-
-    // Returns the symbols of a mapped file.
-    fn own_table(&mut self, mut mapped: Elf) -> Result<SymbolTable, ElfError> {
-        let alloc = self.rt.alloc();
-        let segments = Vec::from_slice(alloc, mapped.segments())?;
-        let mut symbols = mapped.symbols(alloc, &segments)?;
-        mapped.add_plt_symbols(alloc, &mut symbols)?;
-        Ok(symbols.into_table(alloc)?)
-    }
-
-    // Returns the symbols of a mapped file that was opened.
-    fn table_of(&mut self, mapped: Elf, debug: Option<Elf>) -> Result<SymbolTable, ElfError> {
-        match debug {
-            Some(debug) if is_preferred(&debug, &mapped) => self.merged_table(mapped, debug),
-            _ => self.own_table(mapped),
-        }
+    // Opens the debug file of a mapped file, if there is one.
+    fn open_debug_of(&mut self, path: &str, mapped: &mut Elf) -> Result<Option<Elf>, AllocError> {
+        let link = self.debug_link(mapped)?;
+        let id = self.build_id(mapped)?;
+        let paths = debug_paths(self.rt.alloc(), path, link.as_ref(), &id)?;
+        self.first_with_symbols(&paths, &id)
     }
 
     /// Returns the symbols of the file at a path, whose build id was recorded if it isn't empty. Their starts
@@ -205,14 +213,11 @@ impl<'a> ElfFiles<'a> {
         let Some(mut mapped) = self.open_mapped(path, recorded)? else {
             return Ok(None);
         };
-        let link = self.debug_link(&mut mapped)?;
-        let id = self.build_id(&mut mapped)?;
-        let paths = debug_paths(self.rt.alloc(), path, link.as_ref(), &id)?;
-        let debug = self.first_with_symbols(&paths, &id)?;
+        let debug = self.open_debug_of(path, &mut mapped)?;
         if recorded.is_empty() {
             self.counts.unknown = self.counts.unknown.saturating_add(1);
         }
-        let table = self.table_of(mapped, debug);
+        let table = table_of(self.rt.alloc(), &mut mapped, debug);
         self.readable(table)
     }
 }
