@@ -293,8 +293,8 @@ impl<'a> Folder<'a> {
         Ok(())
     }
 
-    // Returns the lines with their counts.
-    fn counts(&self) -> Result<StackCounts, CountError> {
+    // Adds up the weights of each line.
+    fn count_lines(&self) -> Result<StackCounts, CountError> {
         let mut counts = StackCounts::new(self.alloc);
         let mut line = Vec::new(self.alloc);
         for (stack, weight) in self.stacks.iter() {
@@ -307,8 +307,8 @@ impl<'a> Folder<'a> {
     }
 
     /// Returns the lines with their counts.
-    pub(crate) fn finish(self) -> Result<StackCounts, InputError> {
-        match self.counts() {
+    pub(crate) fn counts(&self) -> Result<StackCounts, InputError> {
+        match self.count_lines() {
             Ok(counts) => Ok(counts),
             Err(CountError::Memory) => Err(InputError::OutOfMemory),
             Err(CountError::Overflow) => Err(InputError::Metadata(overflow())),

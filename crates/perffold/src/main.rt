@@ -11,6 +11,7 @@ mod records;
 mod selection;
 mod symbols;
 
+use fold::Folder;
 use frame_names::NameSource;
 use options::{Arguments, NameKind, Options, parse};
 use output::fold_input;
@@ -24,13 +25,19 @@ use symbols::directories::PathError;
 // The program's name.
 const NAME: &str = "perffold";
 
-// Folds the input that the options name, with these names of frames. Returns the exit status.
-fn fold_with(rt: &HostRuntime, arguments: Arguments<'_>, source: NameSource<'_>) -> u8 {
+// Folds the input that the options name. Returns the exit status.
+fn fold_named(rt: &HostRuntime, arguments: &Arguments<'_>, folder: &mut Folder<'_>) -> u8 {
     let path = path_of(rt, arguments.options.file);
-    match fold_input(rt, NAME, arguments, source, path) {
+    match fold_input(rt, NAME, arguments, folder, path) {
         Ok(()) => SUCCESS,
         Err(error) => print_error(rt, NAME, display_name(path), &error),
     }
+}
+
+// Folds the input that the options name, with these names of frames. Returns the exit status.
+fn fold_with(rt: &HostRuntime, arguments: &Arguments<'_>, source: NameSource<'_>) -> u8 {
+    let mut folder = Folder::new(rt.alloc(), arguments.options, source);
+    fold_named(rt, arguments, &mut folder)
 }
 
 // Returns which names frames have.
@@ -46,7 +53,7 @@ fn name_source<'a>(
 }
 
 // Opens the files that the options name, and folds the input. Returns the exit status.
-fn run(rt: &HostRuntime, arguments: Arguments<'_>) -> u8 {
+fn run(rt: &HostRuntime, arguments: &Arguments<'_>) -> u8 {
     match name_source(rt, &arguments.options) {
         Ok(source) => fold_with(rt, arguments, source),
         Err(PathError { path, error }) => {
@@ -58,7 +65,7 @@ fn run(rt: &HostRuntime, arguments: Arguments<'_>) -> u8 {
 fn main(rt: HostRuntime) -> ExitCode {
     let status = match arguments(&rt) {
         Ok(words) => match parse(rt.alloc(), NAME, &words) {
-            Ok(arguments) => run(&rt, arguments),
+            Ok(arguments) => run(&rt, &arguments),
             Err(error) => print_clap_error(&rt, NAME, &error),
         },
         Err(error) => print_argument_error(&rt, NAME, &error),

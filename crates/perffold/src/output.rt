@@ -1,7 +1,6 @@
 //! Writes the folded lines of an input on standard output.
 
 use crate::fold::Folder;
-use crate::frame_names::NameSource;
 use crate::options::{Arguments, OutputFormat, Weight};
 use crate::records::Records;
 use crate::symbols::FileCounts;
@@ -88,49 +87,51 @@ fn finish(
     rt: &HostRuntime,
     name: &str,
     arguments: &Arguments<'_>,
-    folder: Folder<'_>,
+    folder: &Folder<'_>,
     read: Result<(), InputError>,
 ) -> Result<(), ProgramError> {
-    let other_events = folder.other_events();
-    let file_counts = folder.file_counts();
-    let lacks_event = folder.lacks_event();
-    let counts = folder.finish()?;
+    let counts = folder.counts()?;
     write_counts(rt, arguments, &counts).map_err(ProgramError::Output)?;
-    print_other_events(rt, name, other_events);
-    if let Some(counts) = file_counts {
+    print_other_events(rt, name, folder.other_events());
+    if let Some(counts) = folder.file_counts() {
         print_file_counts(rt, name, counts);
         print_unreadable(rt, name, counts.unreadable);
     }
     read?;
-    Ok(check_event(lacks_event)?)
+    Ok(check_event(folder.lacks_event())?)
 }
 
 // Folds the samples of an input that was opened.
 fn fold_opened(
     rt: &HostRuntime,
     name: &str,
-    arguments: Arguments<'_>,
-    source: NameSource<'_>,
+    arguments: &Arguments<'_>,
+    folder: &mut Folder<'_>,
     reader: InMemoryReader<'_>,
 ) -> Result<(), ProgramError> {
     let mut perf_file = reader.perf_file;
     let mut records = Records::new(rt.alloc(), &perf_file, reader.records);
-    let mut folder = Folder::new(rt.alloc(), arguments.options, source);
     let read = folder.add_all(&mut records, &mut perf_file);
-    finish(rt, name, &arguments, folder, read)
+    finish(rt, name, arguments, folder, read)
+}
+
+// Reads the input at a path into memory. Returns whether it is a pipe, and its bytes.
+fn read_input(rt: &HostRuntime, path: &str) -> Result<(bool, Vec<u8>), InputError> {
+    let input = Input::open(rt, path).map_err(InputError::Io)?;
+    let is_pipe = input.is_pipe()?;
+    let bytes = input.into_bytes().map_err(InputError::Io)?;
+    Ok((is_pipe, bytes))
 }
 
 /// Folds the samples of the input at a path, which is read into memory.
 pub(crate) fn fold_input(
     rt: &HostRuntime,
     name: &str,
-    arguments: Arguments<'_>,
-    source: NameSource<'_>,
+    arguments: &Arguments<'_>,
+    folder: &mut Folder<'_>,
     path: &str,
 ) -> Result<(), ProgramError> {
-    let input = Input::open(rt, path).map_err(InputError::Io)?;
-    let is_pipe = input.is_pipe()?;
-    let bytes = input.into_bytes().map_err(InputError::Io)?;
+    let (is_pipe, bytes) = read_input(rt, path)?;
     let reader = open_in_memory(rt.alloc(), &bytes, is_pipe)?;
-    fold_opened(rt, name, arguments, source, reader)
+    fold_opened(rt, name, arguments, folder, reader)
 }

@@ -29,8 +29,9 @@ impl BuildIds {
         alloc: Global,
         perf_file: &PerfFile,
     ) -> Result<(), Error> {
-        for (_key, object) in perf_file.build_ids(alloc)? {
-            self.of_paths.insert(object.path, object.build_id)?;
+        for object in perf_file.build_ids(alloc)?.values() {
+            let path = object.path.to_vec(alloc)?;
+            self.of_paths.insert(path, object.build_id.to_vec(alloc)?)?;
         }
         Ok(())
     }
