@@ -130,7 +130,7 @@ impl fmt::Display for BitNames {
     }
 }
 
-/// Whose types of records are named.
+/// The formats whose record types have names.
 #[derive(Clone, Copy)]
 pub enum RecordTypes {
     /// Those of files and pipes.

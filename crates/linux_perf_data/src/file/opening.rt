@@ -214,7 +214,8 @@ fn read_consistent_attributes<C: PlacedSource>(
     sections: &IndexMap<Feature, Vec<u8>>,
 ) -> Result<Vec<AttributeDescription>, Error>
     ensures reads { ReadsConsistentAttributes endian header.now
-        (known_sections (feature_data_of sections.now event_desc) (feature_data_of sections.now simpleperf_meta_info))
+        (known_sections (feature_data_of sections.now event_desc)
+        (feature_data_of sections.now simpleperf_meta_info))
         (C.state source.old) result (C.state source.new) }
     ensures pauses { PausesOnlyOnError (C.state source.old) result (C.state source.new) }
     ensures same_loan { C.loan source.new ≡ C.loan source.old }
