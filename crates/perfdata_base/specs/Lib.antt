@@ -1,5 +1,6 @@
 pub mod Buffered
 pub mod Attr
+pub mod Comparisons
 pub mod CountedBuffer
 pub mod Event
 pub mod Features

@@ -1,5 +1,7 @@
-//! Laws about the constants: the numbers that the formats assign.
+//! Laws about the constants, the numbers that the formats assign, and about how features compare.
 ghost use Rattle.std.specs.Prelude.{◌≡◌};
+ghost use Rattle.perfdata_base.specs.Comparisons.{FeaturesEqualByNumber, FeaturesHashByNumber};
+ghost use Rattle.perfdata_base.specs.Comparisons.{FeaturesOrderedByNumber};
 
 use crate::event::RecordType;
 use crate::features::*;
@@ -107,4 +109,12 @@ pub fn record_type_numbers()
     ensures cgroup { RecordType.CGROUP.0 ≡ 19 }
     ensures text_poke { RecordType.TEXT_POKE.0 ≡ 20 }
     ensures aux_output_hw_id { RecordType.AUX_OUTPUT_HW_ID.0 ≡ 21 }
+{}
+
+/// Features are equal if and only if their numbers are. Equal features have the same hash, and the order of
+/// features is that of their numbers.
+pub fn features_compare_by_number()
+    ensures equality { FeaturesEqualByNumber }
+    ensures hash { FeaturesHashByNumber }
+    ensures order { FeaturesOrderedByNumber }
 {}

@@ -41,11 +41,11 @@ pub trait Source {
     /// The bytes that `buffer` returns.
     ghost buffered: { Self → List ℕ };
 
-    /// Reads the next bytes into the start of `buf`, and returns their number.
+    /// Reads the next bytes into the start of `place`, and returns their number.
     ///
-    /// If `buf` isn't empty, it receives a prefix of the remaining bytes. A result of 0 is the end, or a
-    /// pause, which is counted. If `buf` is empty, the result is 0 and nothing is counted. On an error no
-    /// byte is consumed, and the error is counted. Each count saturates at `u64::MAX`. The content of `buf`
+    /// If `place` isn't empty, it receives a prefix of the remaining bytes. A result of 0 is the end, or a
+    /// pause, which is counted. If `place` is empty, the result is 0 and nothing is counted. On an error no
+    /// byte is consumed, and the error is counted. Each count saturates at `u64::MAX`. The content of `place`
     /// after the bytes read is unspecified.
     fn read_front(&mut self, place: &mut [u8]) -> Result<usize>
         ensures idle { length place.old ≡ 0 → (result ≡ Ok 0) × (state self.new ≡ state self.old) }
