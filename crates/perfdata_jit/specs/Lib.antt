@@ -1,5 +1,6 @@
 pub mod RecordBytes
 pub mod BufferedReader
+pub mod Comparisons
 pub mod Trace
 pub mod RingFilling
 pub mod ReadBuffer
