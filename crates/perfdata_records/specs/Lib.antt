@@ -1,5 +1,6 @@
 pub mod UserRecordType
 pub mod UserTypeNames
+pub mod Comparisons
 pub mod FileRecord
 pub mod Auxtrace
 pub mod Thread

@@ -1,6 +1,8 @@
-//! Laws about the constants: the numbers of the types of user records.
+//! Laws about the types of user records: the numbers of the constants, and how types compare.
 ghost use Rattle.std.specs.Prelude.{◌≡◌, [], ◌∷◌, map};
 ghost use Rattle.perfdata_records.specs.UserRecordType.{user_type_number};
+ghost use Rattle.perfdata_records.specs.Comparisons.{UserTypesEqualByNumber, UserTypesHashByNumber};
+ghost use Rattle.perfdata_records.specs.Comparisons.{UserTypesOrderedByNumber};
 
 use crate::record::UserRecordType;
 
@@ -49,3 +51,11 @@ pub fn simpleperf_record_types() -> [UserRecordType; 9]
         UserRecordType::SIMPLEPERF_TRACING_DATA,
     ]
 }
+
+/// Types of user records are equal if and only if their numbers are. Equal types have the same hash, and the
+/// order of types is that of their numbers.
+pub fn user_record_types_compare_by_number()
+    ensures equality { UserTypesEqualByNumber }
+    ensures hash { UserTypesHashByNumber }
+    ensures order { UserTypesOrderedByNumber }
+{}
