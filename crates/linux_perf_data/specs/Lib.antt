@@ -5,6 +5,7 @@ pub mod AttributeLookup
 pub mod RecordFraming
 pub mod NamedErrors
 pub mod Input
+pub mod InputKind
 pub mod Descriptions
 pub mod IdTable
 pub mod IdBounds

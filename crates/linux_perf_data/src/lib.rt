@@ -35,6 +35,7 @@ mod attributes;
 mod file;
 pub mod file_reader;
 pub mod in_memory;
+pub mod input_kind;
 pub mod jitdump;
 pub mod laws;
 pub mod perf_file;
@@ -42,6 +43,7 @@ mod pipe;
 mod records;
 
 pub use file_reader::{PerfFileReader, PerfRecordIter, RecordPlace};
+pub use input_kind::InputKind;
 pub use perf_file::PerfFile;
 pub use perfdata_base::features::{Feature, FeatureSet, FeatureSetIter};
 pub use perfdata_base::raw::Endianness;
