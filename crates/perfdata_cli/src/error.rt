@@ -1,5 +1,7 @@
 //! Errors of the programs: what failed, where, and why.
 use crate::command_line::FAILURE;
+use crate::input::path_of_name;
+use crate::opening_part::{OpeningPart, truncated_part};
 use crate::position::Position;
 use linux_perf_data::Error;
 use linux_perf_data::jitdump::JitDumpError;
@@ -18,6 +20,8 @@ const NUMBER_PREFIX: &str = " (os error ";
 pub enum InputError {
     /// The first bytes are those of no format that the program reads.
     UnknownFormat,
+    /// The input is a jitdump, which the program doesn't read.
+    JitDump,
     /// The input can't be opened, or its first bytes can't be read.
     Io(io::Error),
     /// The metadata of a perf.data file or pipe can't be read.
@@ -134,6 +138,7 @@ impl Display for InputError {
     fn fmt<W: fmt::Write>(&self, f: &mut Formatter<W>) -> fmt::Result {
         match self {
             InputError::UnknownFormat => f.write_str("not a perf.data file"),
+            InputError::JitDump => f.write_str("a jitdump, which perflist jit and perfinfo read"),
             InputError::Io(error) => Display::fmt(&IoCause(error), f),
             InputError::Metadata(error) => Display::fmt(&Cause(error), f),
             InputError::JitHeader(error) => Display::fmt(error, f),
@@ -160,11 +165,25 @@ pub fn print_output_error(rt: &HostRuntime, program: &str, error: &io::Error) ->
     FAILURE
 }
 
-/// Prints an error of a program that reads this input. Returns the exit status.
+// Returns the part of an input that ends too early, if this is the error of an opening that ends so.
+fn part_of(rt: &HostRuntime, input: &str, error: &InputError) -> Option<OpeningPart> {
+    match error {
+        InputError::Metadata(Error::IoError(cause)) if cause.kind() == ErrorKind::UnexpectedEof => {
+            truncated_part(rt, path_of_name(input))
+        }
+        _ => None,
+    }
+}
+
+/// Prints an error of a program that reads this input. Returns the exit status. If the metadata of a regular
+/// file end too early, the message names the part that does.
 pub fn print_error(rt: &HostRuntime, program: &str, input: &str, error: &ProgramError) -> u8 {
     match error {
         ProgramError::Input(cause) => {
-            let _ = eprintln!(rt; "{program}: {input}: {cause}");
+            let _ = match part_of(rt, input, cause) {
+                Some(part) => eprintln!(rt; "{program}: {input}: {cause} in {part}"),
+                None => eprintln!(rt; "{program}: {input}: {cause}"),
+            };
             FAILURE
         }
         ProgramError::Output(cause) => print_output_error(rt, program, cause),

@@ -6,10 +6,9 @@ ghost use Rattle.perfdata_base.specs.Source.{opaque_source};
 use crate::error::InputError;
 use crate::input_bytes::{InputBytes, Unread};
 use linux_perf_data::in_memory::InMemoryReader;
-use perfdata_base::endian::read_u64;
-use perfdata_base::header::endian_of_magic;
+pub use linux_perf_data::input_kind::InputKind;
+use linux_perf_data::input_kind::START_SIZE;
 use perfdata_base::source::CountedBuffer;
-use perfdata_jit::header::endian_of_magic as endian_of_jitdump_magic;
 use std::alloc::Global;
 use std::fs::File;
 use std::io::{BufReader, Cursor, Input as StandardInput, Read, Result, Seek};
@@ -29,43 +28,8 @@ const STANDARD_INPUT: &str = "-";
 // The system's path of standard input.
 const STANDARD_INPUT_PATH: &str = "/dev/stdin";
 
-// Number of bytes that determine the kind of an input.
-const START_SIZE: u64 = 16;
-
-// The size in bytes of the smallest file header. The header of a pipe is smaller.
-const FILE_HEADER_SIZE: u64 = 104;
-
-/// The kind of an input.
-#[derive(Clone, Copy, PartialEq, Eq)]
-pub enum InputKind {
-    /// A perf.data file.
-    File,
-    /// The output of `perf record -o -`, also if it was saved to a file.
-    Pipe,
-    /// A jitdump.
-    Jit,
-}
-
-// Returns the header size after the magic value of a perf.data file or pipe, in the byte order of that
-// value.
-fn header_size(start: &[u8]) -> Option<u64> {
-    let endian = endian_of_magic(start.first_chunk::<8>()?)?;
-    let size = start.get(8..16)?;
-    Some(read_u64(endian, size))
-}
-
-impl InputKind {
-    /// Returns the kind of an input that starts with these 16 bytes, or `None` if it isn't known.
-    pub fn of_start(start: &[u8]) -> Option<InputKind> {
-        if endian_of_jitdump_magic(start.first_chunk::<4>()?).is_some() {
-            Some(InputKind::Jit)
-        } else if header_size(start)? < FILE_HEADER_SIZE {
-            Some(InputKind::Pipe)
-        } else {
-            Some(InputKind::File)
-        }
-    }
-}
+// The name of standard input in messages.
+const STANDARD_INPUT_NAME: &str = "standard input";
 
 /// Returns the input that a FILE argument names: standard input if there is none and standard input is a
 /// FIFO, else the default.
@@ -80,7 +44,15 @@ pub fn path_of<'a>(rt: &HostRuntime, file: Option<&'a str>) -> &'a str {
 /// Returns the name of an input in messages.
 pub fn display_name(path: &str) -> &str {
     match path {
-        STANDARD_INPUT => "standard input",
+        STANDARD_INPUT => STANDARD_INPUT_NAME,
+        path => path,
+    }
+}
+
+/// Returns the path at which an input with this name in messages can be opened again, if it is a regular file.
+pub(crate) fn path_of_name(name: &str) -> &str {
+    match name {
+        STANDARD_INPUT_NAME => STANDARD_INPUT_PATH,
         path => path,
     }
 }
@@ -118,7 +90,10 @@ impl Input {
     pub fn open(rt: &HostRuntime, path: &str) -> Result<Input> {
         let (mut unread, size) = open_unread(rt, path)?;
         let mut start = Vec::new(rt.alloc());
-        unread.by_ref().take(START_SIZE).read_to_end(&mut start)?;
+        unread
+            .by_ref()
+            .take(START_SIZE as u64)
+            .read_to_end(&mut start)?;
         Ok(Input {
             kind: InputKind::of_start(&start),
             size,
@@ -129,12 +104,13 @@ impl Input {
 
     /// Returns whether the input is a pipe, otherwise it is a perf.data file.
     ///
-    /// Fails with `UnknownFormat` if it is neither.
+    /// Fails with `JitDump` if it is a jitdump, and with `UnknownFormat` if it is none of them.
     pub fn is_pipe(&self) -> result::Result<bool, InputError> {
         match self.kind {
             Some(InputKind::File) => Ok(false),
             Some(InputKind::Pipe) => Ok(true),
-            Some(InputKind::Jit) | None => Err(InputError::UnknownFormat),
+            Some(InputKind::JitDump) => Err(InputError::JitDump),
+            None => Err(InputError::UnknownFormat),
         }
     }
 

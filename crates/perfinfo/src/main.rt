@@ -134,7 +134,7 @@ fn report_input(rt: &HostRuntime, path: &str) -> Result<(), ProgramError> {
             PerfFileReader::parse_pipe(rt.alloc(), source),
             size,
         ),
-        InputKind::Jit => report_jitdump(rt, JitDumpReader::new(rt.alloc(), source)),
+        InputKind::JitDump => report_jitdump(rt, JitDumpReader::new(rt.alloc(), source)),
     }
 }
 
