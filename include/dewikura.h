@@ -589,6 +589,15 @@ enum dewikura_event_type {
 #define DEWIKURA_READ_GROUP              (UINT64_C(1) << 3)     // all events of the group
 #define DEWIKURA_READ_LOST               (UINT64_C(1) << 4)     // lost samples
 
+// ---- kinds of inputs (dewikura_input_kind)
+
+enum dewikura_kind {
+    DEWIKURA_KIND_NONE = 0,   // none of these; fewer than 16 bytes are none of perf's, fewer than 4 no jitdump
+    DEWIKURA_KIND_FILE = 1,   // a perf.data file: its magic, and a header of 104 bytes or more
+    DEWIKURA_KIND_PIPE = 2,   // a pipe, as `perf record -o -` writes it: the magic, and a smaller header
+    DEWIKURA_KIND_JITDUMP = 3 // a jitdump: its magic
+};
+
 // ---- DSO kinds (dewikura_build_id.dso_kind)
 
 enum dewikura_dso_kind {
@@ -658,6 +667,7 @@ enum dewikura_jit_record_type {
 // ---- exports, which take no NULL
 
 DEWIKURA_NONNULL size_t dewikura_status_text_raw(dewikura_status status, char *buffer, size_t capacity);
+DEWIKURA_NONNULL uint32_t dewikura_input_kind_raw(const void *data, size_t size);
 DEWIKURA_NONNULL uint32_t dewikura_is_big_endian_raw(const void *data, size_t size);
 DEWIKURA_NONNULL dewikura_status dewikura_read_file_records_raw(const void *data, size_t size, struct dewikura_cursor *cursor,
     struct dewikura_record *records, size_t capacity, uint64_t *count);
@@ -720,6 +730,13 @@ static inline size_t dewikura_status_text(dewikura_status status, char *buffer, 
 {
     char no_byte;
     return dewikura_status_text_raw(status, buffer ? buffer : &no_byte, capacity);
+}
+
+// Returns the kind of an input by its first 16 bytes: one of DEWIKURA_KIND_*. `size` may be less for a short input, or more.
+static inline uint32_t dewikura_input_kind(const void *data, size_t size)
+{
+    const char no_data = 0;
+    return dewikura_input_kind_raw(data ? data : &no_data, size);
 }
 
 // Returns 1 if the numbers of a perf.data file or pipe are big-endian, otherwise 0.

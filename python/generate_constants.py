@@ -7,6 +7,7 @@ import sys
 TOP = pathlib.Path(__file__).resolve().parent
 ENUMS = [
     ("Status", "dewikura_status_code", "DEWIKURA_", "The status of a call."),
+    ("InputKind", "dewikura_kind", "DEWIKURA_KIND_", "The kind of an input by its first bytes."),
     ("RecordType", "dewikura_record_type", "DEWIKURA_RECORD_", "The type of a record."),
     ("Feature", "dewikura_feature", "DEWIKURA_FEATURE_", "The number of a feature."),
     ("EventType", "dewikura_event_type", "DEWIKURA_TYPE_", "The type of an event attribute."),

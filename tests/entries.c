@@ -1,4 +1,4 @@
-// `entries file|pipe PATH` prints a line for each record on a task and for each mapping of a recording: its fields, and the bytes of its
+// `entries PATH` prints a line for each record on a task and for each mapping of a recording: its fields, and the bytes of its
 // name or path in hexadecimal; then a line with the status of each call. Before that it reads them once more with small arrays, the entries
 // of a file in pages, and fails if anything differs. Then it prints a line for the details of each sample, with their numbers and the bytes
 // of their parts, and one for each counter value of a sample or a READ record.
@@ -249,7 +249,7 @@ static void print_details(void)
 
 int main(int argc, char **argv)
 {
-    FILE *stream = argc == 3 ? fopen(argv[2], "rb") : NULL;
+    FILE *stream = argc == 2 ? fopen(argv[1], "rb") : NULL;
     size_t capacity = 1 << 16, more;
     uint8_t *bytes = malloc(capacity);
     if (!stream || !bytes)
@@ -261,7 +261,7 @@ int main(int argc, char **argv)
     }
     fclose(stream);
     data = bytes;
-    is_pipe = !strcmp(argv[1], "pipe");
+    is_pipe = dewikura_input_kind(data, size) == DEWIKURA_KIND_PIPE;
     print_tasks();
     print_mappings();
     print_details();

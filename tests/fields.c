@@ -999,6 +999,40 @@ static void check_jitdump(void)
     CHECK(dewikura_read_jit_debug_info(input, size, next_offset, NULL, NULL, 0, NULL), DEWIKURA_JIT_BAD_BODY);
 }
 
+// An input with the magic of perf and a header of this size, in both byte orders.
+static void check_kind_of_size(uint64_t header_size, uint32_t kind)
+{
+    unsigned i;
+    size = 0;
+    put_text("PERFILE2", 8);
+    put(header_size, 8);
+    CHECK(dewikura_input_kind(input, size), kind);
+    CHECK(dewikura_input_kind(input, size + 100), kind);
+    for (i = 0; i < size; i++)
+        CHECK(dewikura_input_kind(input, i), DEWIKURA_KIND_NONE);
+    size = 0;
+    put_text("2ELIFREP", 8);
+    for (i = 8; i--;)
+        put(header_size >> 8 * i, 1);
+    CHECK(dewikura_input_kind(input, size), kind);
+    input[7]++;
+    CHECK(dewikura_input_kind(input, size), DEWIKURA_KIND_NONE);
+}
+
+static void check_kinds(void)
+{
+    check_kind_of_size(0, DEWIKURA_KIND_PIPE);
+    check_kind_of_size(16, DEWIKURA_KIND_PIPE);
+    check_kind_of_size(24, DEWIKURA_KIND_PIPE);
+    check_kind_of_size(103, DEWIKURA_KIND_PIPE);
+    check_kind_of_size(104, DEWIKURA_KIND_FILE);
+    check_kind_of_size(UINT64_MAX, DEWIKURA_KIND_FILE);
+    CHECK(dewikura_input_kind("DTiJ", 4), DEWIKURA_KIND_JITDUMP);
+    CHECK(dewikura_input_kind("JiTD rest", 9), DEWIKURA_KIND_JITDUMP);
+    CHECK(dewikura_input_kind("DTiJ", 3), DEWIKURA_KIND_NONE);
+    CHECK(dewikura_input_kind("DTij", 4), DEWIKURA_KIND_NONE);
+}
+
 static void check_empty(void)
 {
     struct dewikura_feature_set set;
@@ -1006,6 +1040,7 @@ static void check_empty(void)
     struct dewikura_jit_header header;
     struct dewikura_jit_load load;
     CHECK(dewikura_status_text(DEWIKURA_OK, NULL, 0), 8);
+    CHECK(dewikura_input_kind(NULL, 0), DEWIKURA_KIND_NONE);
     CHECK(dewikura_is_big_endian(NULL, 0), 0);
     CHECK(dewikura_read_file_records(NULL, 0, NULL, NULL, 0, NULL), DEWIKURA_TRUNCATED);
     CHECK(dewikura_read_pipe_records(NULL, 0, 0, NULL, 0, NULL), DEWIKURA_TRUNCATED);
@@ -1112,6 +1147,7 @@ int main(void)
     check_file_section();
     check_file2_section();
     check_jitdump();
+    check_kinds();
     check_empty();
     check_sort();
     check_texts();

@@ -1,7 +1,7 @@
-// `samples file|pipe PATH` compares the samples and frames of a recording, and of each truncation of it (a hundred if it has more than
+// `samples PATH` compares the samples and frames of a recording, and of each truncation of it (a hundred if it has more than
 // 4,096 bytes), with those that a decoder of its own finds in the bodies of its records: the fields of PERF_RECORD_SAMPLE in the order of
-// the kernel's perf_event.h. The samples of a file are also read in chains of calls with small arrays. `samples print-file|print-pipe PATH`
-// prints a line for each sample instead: its fields and its frames.
+// the kernel's perf_event.h. The samples of a file are also read in chains of calls with small arrays. `samples print PATH` prints a
+// line for each sample instead: its fields and its frames.
 #include "contexts.h"
 #include "dewikura.h"
 #include <inttypes.h>
@@ -316,21 +316,21 @@ static void print(const struct samples *all)
 
 int main(int argc, char **argv)
 {
-    FILE *stream = argc == 3 ? fopen(argv[2], "rb") : NULL;
+    FILE *stream = argc == 2 || argc == 3 ? fopen(argv[argc - 1], "rb") : NULL;
     size_t capacity = 1 << 20, size = 0, shorter, more;
     uint8_t *data = malloc(capacity);
     int is_pipe;
     if (!stream || !data)
         return 2;
-    where = argv[2];
+    where = argv[argc - 1];
     while ((more = fread(data + size, 1, capacity - size, stream)) > 0) {
         size += more;
         if (size == capacity && !(data = realloc(data, capacity *= 2)))
             return 2;
     }
     fclose(stream);
-    is_pipe = strstr(argv[1], "pipe") != NULL;
-    if (!strncmp(argv[1], "print", 5)) {
+    is_pipe = dewikura_input_kind(data, size) == DEWIKURA_KIND_PIPE;
+    if (argc == 3) {
         struct samples all = read_all(data, size, is_pipe);
         print(&all);
         free_samples(&all);

@@ -63,6 +63,18 @@ class RecordingTest(unittest.TestCase):
             self.assertEqual(bytes(recording.features[dewikura.Feature.HOSTNAME][4:7]), b"vm\0")
             self.assertEqual(recording.build_ids, ())
 
+    def test_input_kind(self):
+        def header(size, order):
+            return {"little": b"PERFILE2", "big": b"2ELIFREP"}[order] + size.to_bytes(8, order)
+
+        for order in ("little", "big"):
+            for size, kind in ((16, "PIPE"), (24, "PIPE"), (103, "PIPE"), (104, "FILE"), (2**64 - 1, "FILE")):
+                self.assertEqual(dewikura.input_kind(header(size, order)), dewikura.InputKind[kind])
+            self.assertEqual(dewikura.from_buffer(header(24, order)).kind, dewikura.Kind.PIPE)
+        self.assertEqual(dewikura.input_kind(DUMP.read_bytes()), dewikura.InputKind.JITDUMP)
+        for data in (b"", b"DTi", header(16, "little")[:15], b"PERFILE3" + bytes(8)):
+            self.assertEqual(dewikura.input_kind(data), dewikura.InputKind.NONE)
+
     def test_build_ids(self):
         with dewikura.open(CALLS) as recording:
             found = sorted((entry.path, entry.build_id.hex(), entry.kind.name) for entry in recording.build_ids)

@@ -1,7 +1,10 @@
--- Numbers that cross to C for a byte order and for a truth value.
-use Rattle.std.specs.Prelude.{ℕ, zero, suc, Bool, true, false}
+-- Numbers that cross to C for a byte order, a truth value and the kind of an input.
+use Rattle.std.specs.Prelude.{◌≡◌, ℕ, zero, suc, Bool, true, false, List, Option, None, Some}
 use Rattle.perfdata_base.specs.declared.raw.Endianness.{Endianness}
 use Rattle.perfdata_base.specs.declared.raw.Endianness.TheVariants.{LittleEndian, BigEndian}
+use Rattle.linux_perf_data.specs.InputKind.{IsKindOfStart}
+use Rattle.linux_perf_data.specs.declared.input_kind.InputKind.{InputKind}
+use Rattle.linux_perf_data.specs.declared.input_kind.InputKind.TheVariants.{File, Pipe, JitDump}
 
 -- little-endian for 0, big-endian for all other numbers
 abbrev pub endian_from : ℕ → Endianness
@@ -12,3 +15,14 @@ endian_from (suc n) = BigEndian
 abbrev pub number_of_bool : Bool → ℕ
 number_of_bool false = 0
 number_of_bool true = 1
+
+-- 0 for none, 1 for a file, 2 for a pipe, 3 for a jitdump
+abbrev pub number_of_kind : Option InputKind → ℕ
+number_of_kind None = 0
+number_of_kind (Some File) = 1
+number_of_kind (Some Pipe) = 2
+number_of_kind (Some JitDump) = 3
+
+-- the number of the kind of an input that starts with these bytes
+abbrev pub IsNumberOfKind : List ℕ → ℕ → Type 0
+IsNumberOfKind bytes number = (kind : Option InputKind) × (number ≡ number_of_kind kind) × IsKindOfStart bytes kind

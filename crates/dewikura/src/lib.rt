@@ -31,11 +31,12 @@ ghost use Rattle.perfdata_samples.specs.Pages.{ReadsSamplePage};
 ghost use Rattle.perfdata_samples.specs.Pipes.{ReadsPipeSamples};
 ghost use Rattle.perfdata_samples.specs.Status.{IsSamplesCodeOf, all_code_text};
 ghost use Rattle.perfdata_samples.specs.TaskPages.{ReadsPipeTasks, ReadsTaskPage};
-ghost use Rattle.dewikura.specs.Numbers.{endian_from, number_of_bool};
+ghost use Rattle.dewikura.specs.Numbers.{endian_from, number_of_bool, IsNumberOfKind};
 
 use linux_perf_data::Endianness;
 use linux_perf_data::in_memory::entries::RecordEntry;
 use linux_perf_data::in_memory::position::RecordPosition;
+use linux_perf_data::input_kind::InputKind;
 use perfdata_arrays::attrs::{Attr, AttrTotals};
 use perfdata_arrays::build_ids::BuildId;
 use perfdata_arrays::feature_set::FeatureBits;
@@ -98,6 +99,20 @@ pub extern "C" fn dewikura_is_big_endian_raw(input: &[u8]) -> u32
     ensures { result ≡ number_of_bool (starts_with nat_eq input.now (magic_of BigEndian)) }
 {
     byte_order::is_big_endian(input) as u32
+}
+
+/// Returns the kind of an input by its first bytes, as `InputKind::of_start` does: 1 for a perf.data file, 2
+/// for a pipe, 3 for a jitdump, and 0 for none of them.
+#[unsafe(no_mangle)]
+pub extern "C" fn dewikura_input_kind_raw(input: &[u8]) -> u32
+    ensures { IsNumberOfKind input.now result }
+{
+    match InputKind::of_start(input) {
+        None => 0,
+        Some(InputKind::File) => 1,
+        Some(InputKind::Pipe) => 2,
+        Some(InputKind::JitDump) => 3,
+    }
 }
 
 /// Reads the records of a perf.data file from a cursor on, as `records::file_records` does.

@@ -43,6 +43,7 @@ def _declare_reads(name, *kinds):
     return {kind: _declare_read(f"read_{kind}_{name}_raw", *kinds) for kind in ("file", "pipe")}
 
 
+input_kind = _declare_read("input_kind_raw")
 is_big_endian = _declare_read("is_big_endian_raw")
 read_file_records = _declare_read("read_file_records_raw", POINTER(_structs.Cursor), POINTER(_structs.Record), size, POINTER(u64))
 read_pipe_records = _declare_read("read_pipe_records_raw", u64, POINTER(_structs.Record), size, POINTER(u64))

@@ -34,6 +34,15 @@ class Status(enum.IntEnum):
     NO_SPACE = 25
 
 
+class InputKind(enum.IntEnum):
+    """The kind of an input by its first bytes."""
+
+    NONE = 0
+    FILE = 1
+    PIPE = 2
+    JITDUMP = 3
+
+
 class RecordType(enum.IntEnum):
     """The type of a record."""
 

@@ -15,7 +15,7 @@ from typing import Any, ContextManager, Iterator, Literal, Mapping as AnyMapping
 from . import _native, _structs
 from ._arrays import StructSequence
 from ._structs import Counter, Frame, Mapping, Record, Sample, SampleDetails, Task, known
-from .constants import AttrFlag, DsoKind, EventType, Feature, ReadFormat, SampleType, Status, SymbolFileType
+from .constants import AttrFlag, DsoKind, EventType, Feature, InputKind, ReadFormat, SampleType, Status, SymbolFileType
 from .errors import PerfDataError, check, error_of
 
 if sys.version_info >= (3, 12):
@@ -647,11 +647,14 @@ class Recording(ContextManager["Recording"]):
         return tuple(_symbol_file(file, symbols, all_names, offsets) for file in files[:totals.file_count])
 
 
+def input_kind(data: Buffer) -> InputKind:
+    """The kind of an input by its first 16 bytes: a perf.data file, a pipe, a jitdump, or none of them."""
+    with _native.Input(data) as (address, size):
+        return InputKind(_native.input_kind(address, size))
+
+
 def _kind_of(data: memoryview) -> Kind:
-    """The kind by the header: the header of a pipe has 16 bytes."""
-    header_size = bytes(data[8:16])
-    sizes = (int.from_bytes(header_size, "little"), int.from_bytes(header_size, "big"))
-    return Kind.PIPE if 16 in sizes else Kind.FILE
+    return Kind.PIPE if input_kind(data) == InputKind.PIPE else Kind.FILE
 
 
 def map_file(path: PathLike) -> Tuple[Buffer, Optional[mmap.mmap]]:
