@@ -32,12 +32,28 @@ def license_file(name):
     return next(folder / name for folder in (TOP, TOP.parent) if (folder / name).exists()).read_bytes()
 
 
-def static_libraries():
+def library_folder():
+    """The folder that has the static libraries; None in the repository."""
     folder = os.environ.get("DEWIKURA_DIR")
     if not folder and TOP.parts[-3:] == ("share", "dewikura", "python"):
         folder = TOP.parents[2] / "lib"
+    return pathlib.Path(folder) if folder else None
+
+
+def kit_licenses():
+    """The names and the bytes of the licences of the kit's crates, whose code the library contains."""
+    installed = library_folder()
+    with tempfile.TemporaryDirectory() as made:
+        folder = installed.parent / "share/doc/dewikura/licenses" if installed else pathlib.Path(made)
+        if not installed:
+            subprocess.run([TOP.parent / "packaging/kit_licenses", folder], check=True)
+        return {str(path.relative_to(folder)): path.read_bytes() for path in sorted(folder.rglob("LICENSE*"))}
+
+
+def static_libraries():
+    folder = library_folder()
     if folder:
-        archive, runtime = (pathlib.Path(folder) / name for name in ("libdewikura.a", "liblibc_c.a"))
+        archive, runtime = (folder / name for name in ("libdewikura.a", "liblibc_c.a"))
         return [archive, runtime] if runtime.exists() else [archive]
     archive = TOP.parent / "crates/dewikura/out/libdewikura.a"
     if not archive.exists():
@@ -120,8 +136,10 @@ def prepare_metadata_for_build_wheel(metadata_directory, config_settings=None):
 def build_wheel(wheel_directory, config_settings=None, metadata_directory=None):
     folder, lines = f"dewikura-{version()}.dist-info", []
     name = f"dewikura-{version()}-{tag()}.whl"
+    files = {**wheel_files(), **information(folder)}
+    files.update((f"{folder}/licenses/{path}", data) for path, data in kit_licenses().items())
     with zipfile.ZipFile(pathlib.Path(wheel_directory) / name, "w", zipfile.ZIP_DEFLATED) as wheel:
-        for path, data in {**wheel_files(), **information(folder)}.items():
+        for path, data in files.items():
             digest = base64.urlsafe_b64encode(hashlib.sha256(data).digest()).rstrip(b"=").decode()
             lines.append(f"{path},sha256={digest},{len(data)}\n")
             wheel.writestr(path, data)
