@@ -173,12 +173,12 @@ struct dewikura_task {
     uint64_t timestamp;   // in nanoseconds of the recording's clock; 0 if the record has none
     uint64_t name_offset; // of the name, in bytes from the start of the input; 0 for a start or an end
     uint64_t name_size;   // in bytes, no NUL
-    uint32_t kind;        // DEWIKURA_RECORD_COMM, DEWIKURA_RECORD_FORK or DEWIKURA_RECORD_EXIT
-    uint32_t is_exec;     // 1 if the task executed another program, otherwise 0
+    uint32_t type;        // DEWIKURA_RECORD_COMM, DEWIKURA_RECORD_FORK or DEWIKURA_RECORD_EXIT
+    uint32_t is_execve;   // 1 if the task executed another program, otherwise 0
     int32_t pid;
     int32_t tid;
-    int32_t parent_pid;   // of a start or an end, otherwise 0
-    int32_t parent_tid;
+    int32_t ppid;         // pid of the parent, of a start or an end, otherwise 0
+    int32_t ptid;         // tid of the parent
 };
 
 // A mapping, decoded (DEWIKURA_RECORD_MMAP or DEWIKURA_RECORD_MMAP2). What it doesn't have is 0.
@@ -192,7 +192,7 @@ struct dewikura_mapping {
     uint64_t inode_generation;
     uint64_t path_offset;      // of the path, in bytes from the start of the input
     uint64_t path_size;        // in bytes, no NUL
-    uint32_t kind;             // DEWIKURA_RECORD_MMAP or DEWIKURA_RECORD_MMAP2
+    uint32_t type;             // DEWIKURA_RECORD_MMAP or DEWIKURA_RECORD_MMAP2
     uint32_t major;            // of the device of the mapped file, in a MMAP2 record without a build id
     uint32_t minor;
     uint32_t protection;       // PROT_* bits, in a MMAP2 record
@@ -214,7 +214,7 @@ struct dewikura_counter {
     uint64_t time_enabled; // in nanoseconds; of the group if the values are those of a group
     uint64_t time_running; // as time_enabled
     uint64_t lost;         // how many samples of the event were lost
-    uint64_t sample;       // `offset` of the record, as in dewikura_sample and dewikura_record
+    uint64_t offset;       // of the record header, in bytes from the first record, as in dewikura_record
 };
 
 // An event attribute: perf_event_attr, by the kernel's names.

@@ -322,14 +322,14 @@ class TaskTest(unittest.TestCase):
                 self.assertEqual([task.offset for task in tasks], [record.offset for record in records])
                 for record, task in zip(records, tasks):
                     body = recording.body(record)
-                    self.assertEqual((task.kind, task.timestamp), (record.type, record.timestamp or 0))
+                    self.assertEqual((task.type, task.timestamp), (record.type, record.timestamp or 0))
                     if record.type == kinds.COMM:
                         name = bytes(body[8:]).partition(b"\0")[0]
                         wanted = (*struct.unpack_from("<ii", body), 0, 0, name, bool(record.misc & 1 << 13))
                     else:
                         pid, parent_pid, tid, parent_tid = struct.unpack_from("<iiii", body)
                         wanted = (pid, tid, parent_pid, parent_tid, b"", False)
-                    self.assertEqual((task.pid, task.tid, task.parent_pid, task.parent_tid, recording.name(task), task.is_exec), wanted)
+                    self.assertEqual((task.pid, task.tid, task.ppid, task.ptid, recording.name(task), task.is_execve), wanted)
             self.assertRaises(ValueError, lambda: recording.name(dewikura.Task()))
 
     def test_counters(self):
@@ -341,7 +341,7 @@ class TaskTest(unittest.TestCase):
         records = 2 * (struct.pack("<IHH", 9, 2, 8 + len(body)) + body)
         header = b"PERFILE2" + struct.pack("<QQQQQQ", 104, 152, 104, 152, 256, len(records)) + bytes(48)
         with dewikura.from_buffer(header + attribute + bytes(16) + records) as recording:
-            found = [(counter.value, counter.id, counter.sample) for counter in recording.counters]
+            found = [(counter.value, counter.id, counter.offset) for counter in recording.counters]
             self.assertEqual(found, [(*counter, offset) for offset in (0, 8 + len(body)) for counter in counters])
             self.assertEqual({(counter.time_enabled, counter.time_running, counter.lost) for counter in recording.counters}, {(0, 0, 0)})
         with dewikura.open(SEVERAL) as recording:
@@ -356,7 +356,7 @@ class TaskTest(unittest.TestCase):
                 self.assertEqual([mapping.offset for mapping in mappings], [record.offset for record in records])
                 for record, mapping in zip(records, mappings):
                     body, is_mmap2 = recording.body(record), record.type == kinds.MMAP2
-                    self.assertEqual((mapping.kind, mapping.timestamp, mapping.misc), (record.type, record.timestamp or 0, record.misc))
+                    self.assertEqual((mapping.type, mapping.timestamp, mapping.misc), (record.type, record.timestamp or 0, record.misc))
                     self.assertEqual(mapping.is_data, bool(record.misc & 1 << 13))
                     found = mapping.pid, mapping.tid, mapping.address, mapping.length, mapping.page_offset
                     self.assertEqual(found, struct.unpack_from("<iiQQQ", body))
@@ -387,11 +387,11 @@ class TaskTest(unittest.TestCase):
     def test_numpy(self):
         with dewikura.open(CALLS) as recording:
             tasks = recording.tasks.to_numpy()
-            for field in ("pid", "kind", "is_exec", "name_offset"):
+            for field in ("pid", "type", "is_execve", "name_offset"):
                 self.assertEqual(tasks[field].tolist(), [getattr(task, field) for task in recording.tasks])
             self.assertEqual(tasks.itemsize, 56)
             mappings = recording.mappings.to_numpy()
-            for field in ("address", "kind", "is_data", "build_id_size", "misc"):
+            for field in ("address", "type", "is_data", "build_id_size", "misc"):
                 self.assertEqual(mappings[field].tolist(), [getattr(mapping, field) for mapping in recording.mappings])
             self.assertEqual((mappings.itemsize, mappings["build_id"].shape), (128, (len(mappings), 20)))
 
@@ -443,15 +443,15 @@ class DataFrameTest(unittest.TestCase):
         for path in (CALLS, CALLS_PIPE):
             with dewikura.open(path) as recording:
                 tasks = recording.tasks.to_pandas()
-                self.assertEqual(sorted(tasks), ["is_exec", "kind", "name", "offset", "parent_pid", "parent_tid", "pid", "tid", "timestamp"])
+                self.assertEqual(sorted(tasks), ["is_execve", "name", "offset", "pid", "ppid", "ptid", "tid", "timestamp", "type"])
                 self.assertEqual(tasks["name"].tolist(), [recording.name(task).decode() for task in recording.tasks])
                 self.assertIn("bash", tasks["name"].tolist())
-                for field in ("is_exec", "kind", "offset", "parent_pid", "parent_tid", "pid", "tid", "timestamp"):
+                for field in ("is_execve", "offset", "pid", "ppid", "ptid", "tid", "timestamp", "type"):
                     self.assertEqual(tasks[field].tolist(), [getattr(task, field) for task in recording.tasks])
                 mappings = recording.mappings.to_pandas()
                 self.assertEqual(mappings["path"].tolist(), [recording.path(mapping).decode() for mapping in recording.mappings])
                 self.assertEqual(mappings["build_id"].tolist(), [mapping.build_id.hex() for mapping in recording.mappings])
-                for field in ("address", "length", "page_offset", "inode", "protection", "flags", "pid", "tid", "is_data", "misc", "kind"):
+                for field in ("address", "length", "page_offset", "inode", "protection", "flags", "pid", "tid", "is_data", "misc", "type"):
                     self.assertEqual(mappings[field].tolist(), [getattr(mapping, field) for mapping in recording.mappings])
                 self.assertFalse({"path_offset", "path_size", "build_id_size", "reserved"} & set(mappings))
 

@@ -18,6 +18,12 @@ def numpy_dtype(struct: Type[ctypes.Structure]) -> Any:
     return numpy.dtype({"names": names, "formats": formats, "offsets": offsets, "itemsize": ctypes.sizeof(struct)})
 
 
+def words_of(array: Any, offset: int) -> memoryview:
+    """A view of the 64 bits at this offset in each struct of an array, as numbers."""
+    words, size = memoryview(array).cast("B").cast("Q"), ctypes.sizeof(array._type_)
+    return words[offset // 8::size // 8]
+
+
 class StructSequence(Sequence[T]):
     """A sequence over an array of structs. A slice shares the array. `_source` is the input that the structs describe."""
 

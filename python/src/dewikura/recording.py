@@ -9,11 +9,12 @@ import itertools
 import mmap
 import os
 import sys
+from array import array as number_array
 from ctypes import c_uint8 as u8, c_uint64 as u64
 from typing import Any, ContextManager, Dict, Iterable, Iterator, List, Literal, Mapping as AnyMapping, NamedTuple, Optional, Tuple, Type, TypeVar, Union
 
 from . import _native, _structs
-from ._arrays import StructSequence
+from ._arrays import StructSequence, words_of
 from ._structs import Counter, Frame, Mapping, Record, Sample, SampleDetails, Task, known
 from .constants import AttrFlag, DsoKind, EventType, Feature, ReadFormat, SampleType, Status, SymbolFileType
 from .errors import PerfDataError, check, error_of
@@ -114,7 +115,7 @@ class Tasks(StructSequence[Task]):
     def _columns(self, array: Any) -> Dict[str, Any]:
         columns = super()._columns(array)
         columns["name"] = self._source.texts(columns.pop("name_offset").tolist(), columns.pop("name_size").tolist())
-        columns["is_exec"] = array["is_exec"] != 0
+        columns["is_execve"] = array["is_execve"] != 0
         return columns
 
 
@@ -624,11 +625,20 @@ class Recording(ContextManager["Recording"]):
         return Records(array, range(len(records)), self._source)
 
     def _samples_sorted(self, samples: Samples) -> Samples:
-        """The times 0 and 2^64 - 1 count as none, as in dewikura_sort_records."""
-        times = [sample.timestamp for sample in samples]
-        order = sorted(range(len(times)), key=lambda index: 0 if times[index] == 2**64 - 1 else times[index])
-        array = (Sample * max(len(order), 1))(*map(samples.__getitem__, order))
-        return Samples(array, range(len(order)), samples._frames, self._source)
+        """Sorts records that have the times and the indices of the samples, and copies the samples in the order of these indices."""
+        count = len(samples)
+        if count == 0:
+            return samples
+        records, sorted_samples = (Record * count)(), (Sample * count)()
+        words_of(records, Record._timestamp.offset)[:] = words_of(samples._array, Sample.timestamp.offset)[:count]
+        words_of(records, Record.offset.offset)[:] = memoryview(number_array("Q", range(count)))
+        memoryview(records).cast("B")[Record.has_timestamp.offset::ctypes.sizeof(Record)] = b"\1" * count
+        check(_native.sort_records(records, count))
+        order = number_array("Q", words_of(records, Record.offset.offset))
+        for offset in range(0, ctypes.sizeof(Sample), 8):
+            words = words_of(samples._array, offset)
+            words_of(sorted_samples, offset)[:] = memoryview(number_array("Q", map(words.__getitem__, order)))
+        return Samples(sorted_samples, range(count), samples._frames, self._source)
 
     def _read_attrs(self) -> Tuple[Any, bytes, Any, int]:
         """The attributes, their names and ids, and the number of attributes."""
