@@ -11,7 +11,8 @@ import os
 import sys
 from array import array as number_array
 from ctypes import c_uint8 as u8, c_uint64 as u64
-from typing import Any, ContextManager, Dict, Iterable, Iterator, List, Literal, Mapping as AnyMapping, NamedTuple, Optional, Tuple, Type, TypeVar, Union
+from typing import (Any, ContextManager, Dict, Iterable, Iterator, List, Literal, Mapping as AnyMapping, NamedTuple, Optional, Tuple, Type,
+                    TypeVar, Union)
 
 from . import _native, _structs
 from ._arrays import StructSequence, words_of
@@ -51,7 +52,7 @@ class Source(NamedTuple):
         import pandas
 
         attrs, names, _, count, _ = _read_attrs(self)
-        texts = [_attr_name(attrs[index], names) for index in range(count)]
+        texts = [_attr_name(attrs[index], names, "backslashreplace") for index in range(count)]
         return pandas.Categorical(numpy.array([*texts, None], dtype=object)[indices])
 
 
@@ -174,8 +175,8 @@ _SAME_NAMES = ("config", "config1", "config2", "config3", "size", "wakeup_events
                "sample_regs_intr", "sample_stack_user", "clockid", "aux_watermark", "aux_sample_size", "sample_max_stack", "sig_data")
 
 
-def _attr_name(attr: _structs.Attr, names: bytes) -> Optional[str]:
-    return names[attr.name_offset:attr.name_offset + attr.name_size].decode("utf-8", "surrogateescape") if attr.has_name else None
+def _attr_name(attr: _structs.Attr, names: bytes, errors: str = "surrogateescape") -> Optional[str]:
+    return names[attr.name_offset:attr.name_offset + attr.name_size].decode("utf-8", errors) if attr.has_name else None
 
 
 def _read_attrs(source: Source) -> Tuple[Any, bytes, Any, int, int]:
