@@ -4,7 +4,7 @@ DESTDIR ?=
 FILE ?= data/several.data
 export DESTDIR PREFIX
 
-.PHONY: help try test check programs lib install dist clean
+.PHONY: help try test check programs lib install dist wheel clean
 
 help: ## lists the targets
 	@sed -n 's/^\([a-z]*\):.*## /\1\t/p' Makefile
@@ -18,17 +18,20 @@ test: ## runs the cases in crates/conformance/data before any proof: three minut
 check: ## the gate: every proof, must-fail edit and test, the programs and the C library
 	.ci/run
 
-programs: ## proves and builds perflist, perfinfo, perfjson and perffold
+programs: ## proves and builds perflist, perfinfo, perfjson and perffold, those whose sources changed
 	packaging/build_programs
 
-lib: ## proves and builds libdewikura.a and libdewikura.so in crates/dewikura/out
+lib: ## proves and builds libdewikura.a and libdewikura.so in crates/dewikura/out/install, if their sources changed
 	packaging/build_library
 
-install: ## installs the library, header, dewikura.pc, programs and man pages below PREFIX (and DESTDIR)
+install: lib programs ## installs the library, header, dewikura.pc, programs and man pages below PREFIX (and DESTDIR)
 	packaging/install
 
-dist: ## a tarball of what install installs, for machines without the kit
+dist: lib programs ## a tarball of what install installs, for machines without the kit
 	packaging/dist
+
+wheel: lib ## the Python package with the library, for machines without the kit
+	cd python && python3 -B -c 'import build_backend; print(build_backend.build_wheel(".."))'
 
 clean: ## removes what rt built
 	rm -rf crates/*/out

@@ -1,23 +1,31 @@
 /*
- * Dewikura reads recordings of Linux perf and Android simpleperf (perf.data files and pipes), and jitdumps, from memory into arrays of
- * plain structs. A call fills the caller's arrays and keeps nothing: there is nothing to open or free. A call that is given capacity 0
- * counts, except the calls with a cursor, which continue where it points.
+ * Dewikura reads recordings of Linux perf and Android simpleperf (perf.data files and pipes), and jitdumps, from memory
+ * into arrays of plain structs. A call fills the caller's arrays and keeps nothing: there is nothing to open or free. A
+ * call that is given capacity 0 counts, except the calls with a cursor, which continue where it points.
  *
- * The library is formally verified. No input makes a call read outside the input or write outside the arrays. The written elements are
- * exactly what the format says, in order. The elements after them are unchanged. The status is the first error in the input.
+ * The library is formally verified. No input makes a call read outside the input or write outside the arrays. The
+ * written elements are exactly what the format says, in order. The elements after them are unchanged. The status is the
+ * first error in the input.
  *
  * The caller has these obligations:
- *   - A pointer is valid for the number of elements that the argument beside it gives, and aligned for its type (8 bytes for structs and
- *     uint64_t). It may be NULL if that number is 0. A pointer to one result may be NULL only if its call says so.
+ *   - A pointer is valid for the number of elements that the argument beside it gives, and aligned for its type (8
+ *     bytes for structs and uint64_t). It may be NULL if that number is 0. A pointer to one result may be NULL only if
+ *     its call says so.
  *   - No two arguments overlap, and arrays are initialized memory (static, calloc).
  *   - Nothing changes the arguments during a call. This includes a mapped file: map it with MAP_PRIVATE, or read it.
- *   - malloc, realloc and free are of one family. They align a block to each power of two up to 16 that divides its size.
+ *   - malloc, realloc and free are of one family. They align a block to each power of two up to 16 that divides its
+ *     size.
  *   - No call is made from a signal handler, or from the forked child of a process with threads.
  *
- * Any number of threads may call at once, also on the same input, with different output arrays. The header is for 64-bit platforms, C99
- * and later, and C++11 and later. Link with libdewikura.a and the kit's liblibc_c.a; an installed libdewikura.a contains both.
+ * Any number of threads may call at once, also on the same input, with different output arrays. The header is for
+ * 64-bit platforms, C99 and later, and C++11 and later.
  *
- * Other languages bind the exports, whose names end in `_raw`. They take no NULL, also where the number of elements is 0.
+ * Link with the installed libdewikura.a or libdewikura.so, and with nothing else. The libdewikura.a that a build in a
+ * clone leaves doesn't contain the three functions by which Rattle code calls malloc, realloc and free: they are
+ * liblibc_c.a of Rattle's kit.
+ *
+ * Other languages bind the exports, whose names end in `_raw`. They take no NULL, also where the number of elements is
+ * 0.
  */
 #ifndef DEWIKURA_H
 #define DEWIKURA_H
@@ -59,7 +67,7 @@ enum dewikura_status_code {
     DEWIKURA_INVALID_DATA = 3,            // a metadata record of a pipe has an attribute size of 1 to 63
     DEWIKURA_INVALID_HEADER_SIZE = 4,     // the header size can't be skipped (past 2^63)
     DEWIKURA_COMPRESSED = 5,              // a compressed record; decompression is not supported
-    DEWIKURA_OTHER = 6,                   // any other error; none is known for input in memory
+    DEWIKURA_OTHER = 6,                   // the attribute of a sample selects a field that isn't known
     DEWIKURA_BAD_MAGIC = 7,               // not a perf.data file or pipe
     DEWIKURA_NO_ATTRIBUTES = 8,           // the input declares no event attributes
     DEWIKURA_BAD_DATA_SECTION = 9,        // the data section ends past 2^64 - 1
@@ -133,7 +141,7 @@ struct dewikura_frame {
 // What else a sample has. What it doesn't have is 0. Offsets are in bytes from the start of its body.
 struct dewikura_sample_details {
     uint64_t stream_id;                  // id of the event itself, also if another task inherited it
-    uint64_t weight;                     // with DEWIKURA_SAMPLE_WEIGHT_STRUCT three numbers: bits 0 to 31, 32 to 47, 48 to 63
+    uint64_t weight;                     // with WEIGHT_STRUCT three numbers: bits 0 to 31, 32 to 47, 48 to 63
     uint64_t data_source;                // bits of `union perf_mem_data_src`
     uint64_t transaction;                // PERF_TXN_* bits
     uint64_t physical_address;           // of the data
@@ -142,7 +150,7 @@ struct dewikura_sample_details {
     uint64_t code_page_size;             // of the instruction, in bytes
     uint64_t raw_offset;                 // of the raw data, as those of a tracepoint
     uint64_t raw_size;                   // in bytes
-    uint64_t branches_offset;            // of the branches, three words each: from, to, flags; their counters follow, if the attribute selects them
+    uint64_t branches_offset;            // of the branches, three words each: from, to, flags; then any counters
     uint64_t branches_count;
     uint64_t branches_hw_index;          // of the first branch
     uint64_t user_abi;                   // 0 none, 1 of 32 bits, 2 of 64 bits
@@ -158,18 +166,19 @@ struct dewikura_sample_details {
     uint64_t aux_size;                   // in bytes
 };
 
-// A record on a task, decoded: its name (DEWIKURA_RECORD_COMM), its start (DEWIKURA_RECORD_FORK) or its end (DEWIKURA_RECORD_EXIT).
+// A record on a task, decoded: its name (DEWIKURA_RECORD_COMM), its start (DEWIKURA_RECORD_FORK) or its end
+// (DEWIKURA_RECORD_EXIT).
 struct dewikura_task {
     uint64_t offset;      // of the record header, in bytes from the first record, as in dewikura_record
     uint64_t timestamp;   // in nanoseconds of the recording's clock; 0 if the record has none
     uint64_t name_offset; // of the name, in bytes from the start of the input; 0 for a start or an end
     uint64_t name_size;   // in bytes, no NUL
-    uint32_t kind;        // DEWIKURA_RECORD_COMM, DEWIKURA_RECORD_FORK or DEWIKURA_RECORD_EXIT
-    uint32_t is_exec;     // 1 if the task executed another program, otherwise 0
+    uint32_t type;        // DEWIKURA_RECORD_COMM, DEWIKURA_RECORD_FORK or DEWIKURA_RECORD_EXIT
+    uint32_t is_execve;   // 1 if the task executed another program, otherwise 0
     int32_t pid;
     int32_t tid;
-    int32_t parent_pid;   // of a start or an end, otherwise 0
-    int32_t parent_tid;
+    int32_t ppid;         // pid of the parent, of a start or an end, otherwise 0
+    int32_t ptid;         // tid of the parent
 };
 
 // A mapping, decoded (DEWIKURA_RECORD_MMAP or DEWIKURA_RECORD_MMAP2). What it doesn't have is 0.
@@ -183,7 +192,7 @@ struct dewikura_mapping {
     uint64_t inode_generation;
     uint64_t path_offset;      // of the path, in bytes from the start of the input
     uint64_t path_size;        // in bytes, no NUL
-    uint32_t kind;             // DEWIKURA_RECORD_MMAP or DEWIKURA_RECORD_MMAP2
+    uint32_t type;             // DEWIKURA_RECORD_MMAP or DEWIKURA_RECORD_MMAP2
     uint32_t major;            // of the device of the mapped file, in a MMAP2 record without a build id
     uint32_t minor;
     uint32_t protection;       // PROT_* bits, in a MMAP2 record
@@ -197,15 +206,15 @@ struct dewikura_mapping {
     uint32_t reserved;         // 0
 };
 
-// The value of a counter in a sample or in a READ record, decoded. A record has a value for each counter of its group. What its attribute's
-// read_format (DEWIKURA_READ_* bits) doesn't select is 0.
+// The value of a counter in a sample or in a READ record, decoded. A record has a value for each counter of its group.
+// What its attribute's read_format (DEWIKURA_READ_* bits) doesn't select is 0.
 struct dewikura_counter {
     uint64_t value;
     uint64_t id;           // of the event, one of the ids of an attribute
     uint64_t time_enabled; // in nanoseconds; of the group if the values are those of a group
     uint64_t time_running; // as time_enabled
     uint64_t lost;         // how many samples of the event were lost
-    uint64_t sample;       // `offset` of the record, as in dewikura_sample and dewikura_record
+    uint64_t offset;       // of the record header, in bytes from the first record, as in dewikura_record
 };
 
 // An event attribute: perf_event_attr, by the kernel's names.
@@ -286,7 +295,7 @@ struct dewikura_symbol_file {
     uint64_t min_vaddr;         // lowest address of its code
     uint64_t symbols_start;     // index of its first symbol in the symbols array
     uint64_t symbols_count;     // how many symbols
-    uint64_t min_vaddr_offset;  // where the lowest address is in the ELF file, or in the memory of the kernel module; else 0
+    uint64_t min_vaddr_offset;  // where the lowest address is in the ELF file or the kernel module's memory; else 0
     uint64_t dex_offsets_start; // index of its first DEX offset in the offsets array
     uint64_t dex_offsets_count; // how many DEX offsets
     uint32_t type;              // DEWIKURA_SYMBOL_FILE_*
@@ -362,7 +371,8 @@ struct dewikura_jit_unwinding {
     uint64_t eh_frame_size;       // in bytes
 };
 
-// A source location in a debug info record of a jitdump: of the code from its address up to the address of the next location.
+// A source location in a debug info record of a jitdump: of the code from its address up to the address of the next
+// location.
 struct dewikura_jit_debug_entry {
     uint64_t code_address; // address of the first byte of the code
     uint64_t path_offset;  // of the path of the source file, in bytes from the start of the file
@@ -460,7 +470,8 @@ enum dewikura_record_type {
     DEWIKURA_RECORD_SIMPLEPERF_TRACING_DATA = 32777
 };
 
-// ---- features (the `feature` of dewikura_read_file_feature); the contents are as Linux's perf.data-file-format.txt says
+// ---- features (the `feature` of dewikura_read_file_feature); the contents are as Linux's perf.data-file-format.txt
+// says
 
 enum dewikura_feature {
     DEWIKURA_FEATURE_TRACING_DATA = 1,                   // tracepoint formats
@@ -646,8 +657,8 @@ enum dewikura_frame_context {
     DEWIKURA_CONTEXT_GUEST = 6
 };
 
-// Whether the fields of a sample up to its call chain are decoded (dewikura_sample.error). After an error the fields up to the period
-// are decoded if they are complete.
+// Whether the fields of a sample up to its call chain are decoded (dewikura_sample.error). After an error the fields up
+// to the period are decoded if they are complete.
 enum dewikura_body_error {
     DEWIKURA_BODY_COMPLETE = 0,      // they are decoded
     DEWIKURA_BODY_TRUNCATED = 1,     // the record ends inside one of them
@@ -669,63 +680,72 @@ enum dewikura_jit_record_type {
 DEWIKURA_NONNULL size_t dewikura_status_text_raw(dewikura_status status, char *buffer, size_t capacity);
 DEWIKURA_NONNULL uint32_t dewikura_input_kind_raw(const void *data, size_t size);
 DEWIKURA_NONNULL uint32_t dewikura_is_big_endian_raw(const void *data, size_t size);
-DEWIKURA_NONNULL dewikura_status dewikura_read_file_records_raw(const void *data, size_t size, struct dewikura_cursor *cursor,
-    struct dewikura_record *records, size_t capacity, uint64_t *count);
+DEWIKURA_NONNULL dewikura_status dewikura_read_file_records_raw(const void *data, size_t size,
+    struct dewikura_cursor *cursor, struct dewikura_record *records, size_t capacity, uint64_t *count);
 DEWIKURA_NONNULL dewikura_status dewikura_read_pipe_records_raw(const void *data, size_t size, uint64_t start,
     struct dewikura_record *records, size_t capacity, uint64_t *total);
-DEWIKURA_NONNULL dewikura_status dewikura_read_file_samples_raw(const void *data, size_t size, struct dewikura_cursor *cursor,
-    struct dewikura_sample *samples, size_t capacity, uint64_t *count, struct dewikura_frame *frames, size_t frames_capacity,
-    uint64_t *frames_count);
-DEWIKURA_NONNULL dewikura_status dewikura_read_pipe_samples_raw(const void *data, size_t size, struct dewikura_sample *samples, size_t capacity,
-    uint64_t *total, struct dewikura_frame *frames, size_t frames_capacity, uint64_t *frames_total);
+DEWIKURA_NONNULL dewikura_status dewikura_read_file_samples_raw(const void *data, size_t size,
+    struct dewikura_cursor *cursor, struct dewikura_sample *samples, size_t capacity, uint64_t *count,
+    struct dewikura_frame *frames, size_t frames_capacity, uint64_t *frames_count);
+DEWIKURA_NONNULL dewikura_status dewikura_read_pipe_samples_raw(const void *data, size_t size,
+    struct dewikura_sample *samples, size_t capacity, uint64_t *total, struct dewikura_frame *frames,
+    size_t frames_capacity, uint64_t *frames_total);
 DEWIKURA_NONNULL dewikura_status dewikura_read_sample_details_raw(const void *body, size_t size, uint32_t is_big_endian,
     const struct dewikura_attr *attr, struct dewikura_sample_details *details);
-DEWIKURA_NONNULL dewikura_status dewikura_read_file_tasks_raw(const void *data, size_t size, struct dewikura_cursor *cursor,
-    struct dewikura_task *tasks, size_t capacity, uint64_t *count);
-DEWIKURA_NONNULL dewikura_status dewikura_read_pipe_tasks_raw(const void *data, size_t size, struct dewikura_task *tasks, size_t capacity,
-    uint64_t *total);
-DEWIKURA_NONNULL dewikura_status dewikura_read_file_mappings_raw(const void *data, size_t size, struct dewikura_cursor *cursor,
-    struct dewikura_mapping *mappings, size_t capacity, uint64_t *count);
-DEWIKURA_NONNULL dewikura_status dewikura_read_pipe_mappings_raw(const void *data, size_t size, struct dewikura_mapping *mappings,
-    size_t capacity, uint64_t *total);
-DEWIKURA_NONNULL dewikura_status dewikura_read_file_counters_raw(const void *data, size_t size, struct dewikura_cursor *cursor,
-    struct dewikura_counter *counters, size_t capacity, uint64_t *count);
-DEWIKURA_NONNULL dewikura_status dewikura_read_pipe_counters_raw(const void *data, size_t size, struct dewikura_counter *counters,
-    size_t capacity, uint64_t *total);
+DEWIKURA_NONNULL dewikura_status dewikura_read_file_tasks_raw(const void *data, size_t size,
+    struct dewikura_cursor *cursor, struct dewikura_task *tasks, size_t capacity, uint64_t *count);
+DEWIKURA_NONNULL dewikura_status dewikura_read_pipe_tasks_raw(const void *data, size_t size,
+    struct dewikura_task *tasks, size_t capacity, uint64_t *total);
+DEWIKURA_NONNULL dewikura_status dewikura_read_file_mappings_raw(const void *data, size_t size,
+    struct dewikura_cursor *cursor, struct dewikura_mapping *mappings, size_t capacity, uint64_t *count);
+DEWIKURA_NONNULL dewikura_status dewikura_read_pipe_mappings_raw(const void *data, size_t size,
+    struct dewikura_mapping *mappings, size_t capacity, uint64_t *total);
+DEWIKURA_NONNULL dewikura_status dewikura_read_file_counters_raw(const void *data, size_t size,
+    struct dewikura_cursor *cursor, struct dewikura_counter *counters, size_t capacity, uint64_t *count);
+DEWIKURA_NONNULL dewikura_status dewikura_read_pipe_counters_raw(const void *data, size_t size,
+    struct dewikura_counter *counters, size_t capacity, uint64_t *total);
 DEWIKURA_NONNULL dewikura_status dewikura_sort_records_raw(struct dewikura_record *records, size_t count);
-DEWIKURA_NONNULL dewikura_status dewikura_read_file_attrs_raw(const void *data, size_t size, struct dewikura_attr *attrs,
-    size_t attrs_capacity, char *names, size_t names_capacity, uint64_t *ids, size_t ids_capacity, struct dewikura_attr_totals *totals);
-DEWIKURA_NONNULL dewikura_status dewikura_read_pipe_attrs_raw(const void *data, size_t size, struct dewikura_attr *attrs,
-    size_t attrs_capacity, char *names, size_t names_capacity, uint64_t *ids, size_t ids_capacity, struct dewikura_attr_totals *totals);
-DEWIKURA_NONNULL dewikura_status dewikura_read_file_feature_set_raw(const void *data, size_t size, struct dewikura_feature_set *set);
-DEWIKURA_NONNULL dewikura_status dewikura_read_pipe_feature_set_raw(const void *data, size_t size, struct dewikura_feature_set *set);
-DEWIKURA_NONNULL dewikura_status dewikura_read_file_feature_raw(const void *data, size_t size, uint32_t feature, void *buffer,
-    size_t capacity, uint8_t *is_present, uint64_t *feature_size);
-DEWIKURA_NONNULL dewikura_status dewikura_read_pipe_feature_raw(const void *data, size_t size, uint32_t feature, void *buffer,
-    size_t capacity, uint8_t *is_present, uint64_t *feature_size);
-DEWIKURA_NONNULL dewikura_status dewikura_read_build_id_raw(const void *section, size_t size, uint32_t is_big_endian, uint64_t offset,
-    struct dewikura_build_id *entry);
-DEWIKURA_NONNULL dewikura_status dewikura_read_string_raw(const void *section, size_t size, uint32_t is_big_endian, uint64_t offset,
-    struct dewikura_string *string);
-DEWIKURA_NONNULL dewikura_status dewikura_read_meta_info_raw(const void *section, size_t size, struct dewikura_meta_pair *pairs,
-    size_t capacity, uint64_t *total);
-DEWIKURA_NONNULL dewikura_status dewikura_read_symbol_tables_raw(const void *section, size_t size, uint32_t feature, uint32_t is_big_endian,
-    struct dewikura_symbol_file *files, size_t files_capacity, struct dewikura_symbol *symbols, size_t symbols_capacity, char *names,
-    size_t names_capacity, uint64_t *dex_offsets, size_t dex_offsets_capacity, struct dewikura_symbol_totals *totals);
-DEWIKURA_NONNULL dewikura_status dewikura_read_jit_header_raw(const void *data, size_t size, struct dewikura_jit_header *header);
+DEWIKURA_NONNULL dewikura_status dewikura_read_file_attrs_raw(const void *data, size_t size,
+    struct dewikura_attr *attrs, size_t attrs_capacity, char *names, size_t names_capacity, uint64_t *ids,
+    size_t ids_capacity, struct dewikura_attr_totals *totals);
+DEWIKURA_NONNULL dewikura_status dewikura_read_pipe_attrs_raw(const void *data, size_t size,
+    struct dewikura_attr *attrs, size_t attrs_capacity, char *names, size_t names_capacity, uint64_t *ids,
+    size_t ids_capacity, struct dewikura_attr_totals *totals);
+DEWIKURA_NONNULL dewikura_status dewikura_read_file_feature_set_raw(const void *data, size_t size,
+    struct dewikura_feature_set *set);
+DEWIKURA_NONNULL dewikura_status dewikura_read_pipe_feature_set_raw(const void *data, size_t size,
+    struct dewikura_feature_set *set);
+DEWIKURA_NONNULL dewikura_status dewikura_read_file_feature_raw(const void *data, size_t size, uint32_t feature,
+    void *buffer, size_t capacity, uint8_t *is_present, uint64_t *feature_size);
+DEWIKURA_NONNULL dewikura_status dewikura_read_pipe_feature_raw(const void *data, size_t size, uint32_t feature,
+    void *buffer, size_t capacity, uint8_t *is_present, uint64_t *feature_size);
+DEWIKURA_NONNULL dewikura_status dewikura_read_build_id_raw(const void *section, size_t size, uint32_t is_big_endian,
+    uint64_t offset, struct dewikura_build_id *entry);
+DEWIKURA_NONNULL dewikura_status dewikura_read_string_raw(const void *section, size_t size, uint32_t is_big_endian,
+    uint64_t offset, struct dewikura_string *string);
+DEWIKURA_NONNULL dewikura_status dewikura_read_meta_info_raw(const void *section, size_t size,
+    struct dewikura_meta_pair *pairs, size_t capacity, uint64_t *total);
+DEWIKURA_NONNULL dewikura_status dewikura_read_symbol_tables_raw(const void *section, size_t size, uint32_t feature,
+    uint32_t is_big_endian, struct dewikura_symbol_file *files, size_t files_capacity, struct dewikura_symbol *symbols,
+    size_t symbols_capacity, char *names, size_t names_capacity, uint64_t *dex_offsets, size_t dex_offsets_capacity,
+    struct dewikura_symbol_totals *totals);
+DEWIKURA_NONNULL dewikura_status dewikura_read_jit_header_raw(const void *data, size_t size,
+    struct dewikura_jit_header *header);
 DEWIKURA_NONNULL dewikura_status dewikura_read_jit_records_raw(const void *data, size_t size, uint64_t start_offset,
     struct dewikura_jit_record *records, size_t capacity, uint64_t *count, uint64_t *next_offset);
-DEWIKURA_NONNULL dewikura_status dewikura_read_jit_load_raw(const void *data, size_t size, uint64_t offset, struct dewikura_jit_load *load);
-DEWIKURA_NONNULL dewikura_status dewikura_read_jit_move_raw(const void *data, size_t size, uint64_t offset, struct dewikura_jit_move *move);
+DEWIKURA_NONNULL dewikura_status dewikura_read_jit_load_raw(const void *data, size_t size, uint64_t offset,
+    struct dewikura_jit_load *load);
+DEWIKURA_NONNULL dewikura_status dewikura_read_jit_move_raw(const void *data, size_t size, uint64_t offset,
+    struct dewikura_jit_move *move);
 DEWIKURA_NONNULL dewikura_status dewikura_read_jit_unwinding_raw(const void *data, size_t size, uint64_t offset,
     struct dewikura_jit_unwinding *unwinding);
-DEWIKURA_NONNULL dewikura_status dewikura_read_jit_debug_info_raw(const void *data, size_t size, uint64_t offset, uint64_t *code_address,
-    struct dewikura_jit_debug_entry *entries, size_t capacity, uint64_t *total);
+DEWIKURA_NONNULL dewikura_status dewikura_read_jit_debug_info_raw(const void *data, size_t size, uint64_t offset,
+    uint64_t *code_address, struct dewikura_jit_debug_entry *entries, size_t capacity, uint64_t *total);
 
 // ---- calls
 
-// Writes the English text of a status and a NUL, truncated to `capacity`. Returns the size of the whole text without the NUL. With 128
-// bytes no text is truncated.
+// Writes the English text of a status and a NUL, truncated to `capacity`. Returns the size of the whole text without
+// the NUL. With 128 bytes no text is truncated.
 static inline size_t dewikura_status_text(dewikura_status status, char *buffer, size_t capacity)
 {
     char no_byte;
@@ -746,35 +766,38 @@ static inline uint32_t dewikura_is_big_endian(const void *data, size_t size)
     return dewikura_is_big_endian_raw(data ? data : &no_data, size);
 }
 
-// Writes the records of a perf.data file from *cursor on, in the order of the file, up to `capacity`, and moves *cursor past the last of
-// them. `data` is the whole file. The first call has a cursor of zeros. With NULL for `cursor`, a call starts at the first record.
+// Writes the records of a perf.data file from *cursor on, in the order of the file, up to `capacity`, and moves *cursor
+// past the last of them. `data` is the whole file. The first call has a cursor of zeros. With NULL for `cursor`, a call
+// starts at the first record.
 //
-// *count is the number of written records; `count` may be NULL. If it is `capacity` and the status is DEWIKURA_OK, the next call writes
-// the records that follow. If it is smaller and the status is DEWIKURA_OK, there are no more records. Calls with arrays of any capacity
-// write the same records as one call with an array for all of them. FINISHED_ROUND records aren't returned; they are counted in `round`.
+// *count is the number of written records; `count` may be NULL. If it is `capacity` and the status is DEWIKURA_OK, the
+// next call writes the records that follow. If it is smaller and the status is DEWIKURA_OK, there are no more records.
+// Calls with arrays of any capacity write the same records as one call with an array for all of them. FINISHED_ROUND
+// records aren't returned; they are counted in `round`.
 //
-// A call reads the metadata that open the file, and the records that it writes. It allocates no memory for records. *cursor is directly
-// after the last written record, also after an error: the next call then returns the same status, and *count is 0. If the file doesn't
-// open, *cursor is unchanged.
-DEWIKURA_NODISCARD static inline dewikura_status dewikura_read_file_records(const void *data, size_t size, struct dewikura_cursor *cursor,
-    struct dewikura_record *records, size_t capacity, uint64_t *count)
+// A call reads the metadata that open the file, and the records that it writes. It allocates no memory for records.
+// *cursor is directly after the last written record, also after an error: the next call then returns the same status,
+// and *count is 0. If the file doesn't open, *cursor is unchanged.
+DEWIKURA_NODISCARD static inline dewikura_status dewikura_read_file_records(const void *data, size_t size,
+    struct dewikura_cursor *cursor, struct dewikura_record *records, size_t capacity, uint64_t *count)
 {
     const char no_data = 0;
     struct dewikura_cursor first = {0, 0};
     struct dewikura_record no_record;
     uint64_t unused;
-    return dewikura_read_file_records_raw(data ? data : &no_data, size, cursor ? cursor : &first, records ? records : &no_record, capacity,
-        count ? count : &unused);
+    return dewikura_read_file_records_raw(data ? data : &no_data, size, cursor ? cursor : &first,
+        records ? records : &no_record, capacity, count ? count : &unused);
 }
 
-// Writes the records of a pipe from index `start` on, in the order of the pipe, up to `capacity`. `data` is the whole pipe. The records
-// are those after the metadata records that open the pipe, and offsets count from the first of them. A truncated record ends a pipe
-// without an error.
+// Writes the records of a pipe from index `start` on, in the order of the pipe, up to `capacity`. `data` is the whole
+// pipe. The records are those after the metadata records that open the pipe, and offsets count from the first of them.
+// A truncated record ends a pipe without an error.
 //
-// *total counts all records of the pipe; after an error those before it, and 0 if the pipe doesn't open. `total` may be NULL. Each call
-// reads the whole pipe: late metadata determine what the records after them belong to. Pass an array large enough for all records.
-DEWIKURA_NODISCARD static inline dewikura_status dewikura_read_pipe_records(const void *data, size_t size, uint64_t start,
-    struct dewikura_record *records, size_t capacity, uint64_t *total)
+// *total counts all records of the pipe; after an error those before it, and 0 if the pipe doesn't open. `total` may be
+// NULL. Each call reads the whole pipe: late metadata determine what the records after them belong to. Pass an array
+// large enough for all records.
+DEWIKURA_NODISCARD static inline dewikura_status dewikura_read_pipe_records(const void *data, size_t size,
+    uint64_t start, struct dewikura_record *records, size_t capacity, uint64_t *total)
 {
     const char no_data = 0;
     struct dewikura_record no_record;
@@ -783,99 +806,106 @@ DEWIKURA_NODISCARD static inline dewikura_status dewikura_read_pipe_records(cons
         total ? total : &unused);
 }
 
-// Writes the samples of a perf.data file from *cursor on and the frames of their call chains, in the order of the file, as many as both
-// arrays have capacity for, and moves *cursor past the last of them. `data` is the whole file. The first call has a cursor of zeros. With
-// NULL for `cursor`, a call starts at the first record. With a `frames_capacity` of 0, call chains are left out, and samples have no frames.
+// Writes the samples of a perf.data file from *cursor on and the frames of their call chains, in the order of the file,
+// as many as both arrays have capacity for, and moves *cursor past the last of them. `data` is the whole file. The
+// first call has a cursor of zeros. With NULL for `cursor`, a call starts at the first record. With a `frames_capacity`
+// of 0, call chains are left out, and samples have no frames.
 //
-// *count is the number of written samples, *frames_count that of written frames. Both pointers may be NULL. A call with the moved cursor
-// writes the samples that follow. If *count is 0 and the status is DEWIKURA_OK, there are no more samples. Calls with arrays of any
-// capacity write the same samples as one call with arrays for all of them, but for `frames_start`, which counts from the start of a call's
-// frames.
+// *count is the number of written samples, *frames_count that of written frames. Both pointers may be NULL. A call with
+// the moved cursor writes the samples that follow. If *count is 0 and the status is DEWIKURA_OK, there are no more
+// samples. Calls with arrays of any capacity write the same samples as one call with arrays for all of them, but for
+// `frames_start`, which counts from the start of a call's frames.
 //
-// DEWIKURA_NO_SPACE means that the call chain of the next sample has more frames than `frames_capacity`; *frames_count is their number,
-// *count is 0, and *cursor is at the sample. A sample whose fields can't be decoded is written with its `error`; its offset and its
-// attribute are valid. The other errors are those of dewikura_read_file_records.
-DEWIKURA_NODISCARD static inline dewikura_status dewikura_read_file_samples(const void *data, size_t size, struct dewikura_cursor *cursor,
-    struct dewikura_sample *samples, size_t capacity, uint64_t *count, struct dewikura_frame *frames, size_t frames_capacity,
-    uint64_t *frames_count)
+// DEWIKURA_NO_SPACE means that the call chain of the next sample has more frames than `frames_capacity`; *frames_count
+// is their number, *count is 0, and *cursor is at the sample. A sample whose fields can't be decoded is written with
+// its `error`; its offset and its attribute are valid. The other errors are those of dewikura_read_file_records.
+DEWIKURA_NODISCARD static inline dewikura_status dewikura_read_file_samples(const void *data, size_t size,
+    struct dewikura_cursor *cursor, struct dewikura_sample *samples, size_t capacity, uint64_t *count,
+    struct dewikura_frame *frames, size_t frames_capacity, uint64_t *frames_count)
 {
     const char no_data = 0;
     struct dewikura_cursor first = {0, 0};
     struct dewikura_sample no_sample;
     struct dewikura_frame no_frame;
     uint64_t unused_count, unused_frames;
-    return dewikura_read_file_samples_raw(data ? data : &no_data, size, cursor ? cursor : &first, samples ? samples : &no_sample, capacity,
-        count ? count : &unused_count, frames ? frames : &no_frame, frames_capacity, frames_count ? frames_count : &unused_frames);
+    return dewikura_read_file_samples_raw(data ? data : &no_data, size, cursor ? cursor : &first,
+        samples ? samples : &no_sample, capacity, count ? count : &unused_count, frames ? frames : &no_frame,
+        frames_capacity, frames_count ? frames_count : &unused_frames);
 }
 
-// Writes the samples of a pipe and the frames of their call chains, in the order of the pipe, each up to the capacity of its array. `data`
-// is the whole pipe. A truncated record ends a pipe without an error.
+// Writes the samples of a pipe and the frames of their call chains, in the order of the pipe, each up to the capacity
+// of its array. `data` is the whole pipe. A truncated record ends a pipe without an error.
 //
-// *total counts all samples of the pipe, *frames_total all of their frames; after an error those before it, and 0 if the pipe doesn't open.
-// Both pointers may be NULL. A sample whose fields can't be decoded is written with its `error`. The errors are those of
-// dewikura_read_pipe_records.
-DEWIKURA_NODISCARD static inline dewikura_status dewikura_read_pipe_samples(const void *data, size_t size, struct dewikura_sample *samples,
-    size_t capacity, uint64_t *total, struct dewikura_frame *frames, size_t frames_capacity, uint64_t *frames_total)
+// *total counts all samples of the pipe, *frames_total all of their frames; after an error those before it, and 0 if
+// the pipe doesn't open. Both pointers may be NULL. A sample whose fields can't be decoded is written with its `error`.
+// The errors are those of dewikura_read_pipe_records.
+DEWIKURA_NODISCARD static inline dewikura_status dewikura_read_pipe_samples(const void *data, size_t size,
+    struct dewikura_sample *samples, size_t capacity, uint64_t *total, struct dewikura_frame *frames,
+    size_t frames_capacity, uint64_t *frames_total)
 {
     const char no_data = 0;
     struct dewikura_sample no_sample;
     struct dewikura_frame no_frame;
     uint64_t unused_total, unused_frames;
     return dewikura_read_pipe_samples_raw(data ? data : &no_data, size, samples ? samples : &no_sample, capacity,
-        total ? total : &unused_total, frames ? frames : &no_frame, frames_capacity, frames_total ? frames_total : &unused_frames);
+        total ? total : &unused_total, frames ? frames : &no_frame, frames_capacity,
+        frames_total ? frames_total : &unused_frames);
 }
 
-// Writes what else a sample has, from its body and its attribute. `is_big_endian` is that of the recording. After an error *details is
-// unchanged: DEWIKURA_TRUNCATED if the body ends inside a field, DEWIKURA_OTHER if the attribute selects a field that isn't known.
-DEWIKURA_NODISCARD static inline dewikura_status dewikura_read_sample_details(const void *body, size_t size, uint32_t is_big_endian,
-    const struct dewikura_attr *attr, struct dewikura_sample_details *details)
+// Writes what else a sample has, from its body and its attribute. `is_big_endian` is that of the recording. After an
+// error *details is unchanged: DEWIKURA_TRUNCATED if the body ends inside a field, DEWIKURA_OTHER if the attribute
+// selects a field that isn't known.
+DEWIKURA_NODISCARD static inline dewikura_status dewikura_read_sample_details(const void *body, size_t size,
+    uint32_t is_big_endian, const struct dewikura_attr *attr, struct dewikura_sample_details *details)
 {
     const char no_data = 0;
     return dewikura_read_sample_details_raw(body ? body : &no_data, size, is_big_endian, attr, details);
 }
 
-// Writes the records on tasks of a perf.data file from *cursor on, in the order of the file, up to `capacity`, and moves *cursor past the
-// last of them: their names, starts and ends. `data` is the whole file. The first call has a cursor of zeros. With NULL for `cursor`, a call
-// starts at the first record. A record that can't be decoded is left out.
+// Writes the records on tasks of a perf.data file from *cursor on, in the order of the file, up to `capacity`, and
+// moves *cursor past the last of them: their names, starts and ends. `data` is the whole file. The first call has a
+// cursor of zeros. With NULL for `cursor`, a call starts at the first record. A record that can't be decoded is left
+// out.
 //
-// *count is the number of written tasks; `count` may be NULL. If it is `capacity` and the status is DEWIKURA_OK, the next call writes the
-// tasks that follow. If it is smaller and the status is DEWIKURA_OK, there are no more. The errors are those of
-// dewikura_read_file_records.
-DEWIKURA_NODISCARD static inline dewikura_status dewikura_read_file_tasks(const void *data, size_t size, struct dewikura_cursor *cursor,
-    struct dewikura_task *tasks, size_t capacity, uint64_t *count)
+// *count is the number of written tasks; `count` may be NULL. If it is `capacity` and the status is DEWIKURA_OK, the
+// next call writes the tasks that follow. If it is smaller and the status is DEWIKURA_OK, there are no more. The errors
+// are those of dewikura_read_file_records.
+DEWIKURA_NODISCARD static inline dewikura_status dewikura_read_file_tasks(const void *data, size_t size,
+    struct dewikura_cursor *cursor, struct dewikura_task *tasks, size_t capacity, uint64_t *count)
 {
     const char no_data = 0;
     struct dewikura_cursor first = {0, 0};
     struct dewikura_task no_task;
     uint64_t unused;
-    return dewikura_read_file_tasks_raw(data ? data : &no_data, size, cursor ? cursor : &first, tasks ? tasks : &no_task, capacity,
-        count ? count : &unused);
+    return dewikura_read_file_tasks_raw(data ? data : &no_data, size, cursor ? cursor : &first,
+        tasks ? tasks : &no_task, capacity, count ? count : &unused);
 }
 
-// Does the same for a pipe: writes its records on tasks, up to `capacity`. `data` is the whole pipe. A truncated record ends a pipe without
-// an error.
+// Does the same for a pipe: writes its records on tasks, up to `capacity`. `data` is the whole pipe. A truncated record
+// ends a pipe without an error.
 //
-// *total counts all records on tasks; after an error those before it, and 0 if the pipe doesn't open. `total` may be NULL. The errors are
-// those of dewikura_read_pipe_records.
-DEWIKURA_NODISCARD static inline dewikura_status dewikura_read_pipe_tasks(const void *data, size_t size, struct dewikura_task *tasks,
-    size_t capacity, uint64_t *total)
+// *total counts all records on tasks; after an error those before it, and 0 if the pipe doesn't open. `total` may be
+// NULL. The errors are those of dewikura_read_pipe_records.
+DEWIKURA_NODISCARD static inline dewikura_status dewikura_read_pipe_tasks(const void *data, size_t size,
+    struct dewikura_task *tasks, size_t capacity, uint64_t *total)
 {
     const char no_data = 0;
     struct dewikura_task no_task;
     uint64_t unused;
-    return dewikura_read_pipe_tasks_raw(data ? data : &no_data, size, tasks ? tasks : &no_task, capacity, total ? total : &unused);
+    return dewikura_read_pipe_tasks_raw(data ? data : &no_data, size, tasks ? tasks : &no_task, capacity,
+        total ? total : &unused);
 }
 
 // Writes the mappings of a perf.data file from *cursor on, as dewikura_read_file_tasks does for the records on tasks.
-DEWIKURA_NODISCARD static inline dewikura_status dewikura_read_file_mappings(const void *data, size_t size, struct dewikura_cursor *cursor,
-    struct dewikura_mapping *mappings, size_t capacity, uint64_t *count)
+DEWIKURA_NODISCARD static inline dewikura_status dewikura_read_file_mappings(const void *data, size_t size,
+    struct dewikura_cursor *cursor, struct dewikura_mapping *mappings, size_t capacity, uint64_t *count)
 {
     const char no_data = 0;
     struct dewikura_cursor first = {0, 0};
     struct dewikura_mapping no_mapping;
     uint64_t unused;
-    return dewikura_read_file_mappings_raw(data ? data : &no_data, size, cursor ? cursor : &first, mappings ? mappings : &no_mapping,
-        capacity, count ? count : &unused);
+    return dewikura_read_file_mappings_raw(data ? data : &no_data, size, cursor ? cursor : &first,
+        mappings ? mappings : &no_mapping, capacity, count ? count : &unused);
 }
 
 // Writes the mappings of a pipe, as dewikura_read_pipe_tasks does for the records on tasks.
@@ -889,31 +919,33 @@ DEWIKURA_NODISCARD static inline dewikura_status dewikura_read_pipe_mappings(con
         total ? total : &unused);
 }
 
-// Writes the counter values of a perf.data file's samples and READ records from *cursor on, in the order of the file, those of as many
-// records as `capacity` allows, and moves *cursor past the last of these records. `data` is the whole file. The first call has a cursor of
-// zeros. With NULL for `cursor`, a call starts at the first record. A record that can't be decoded is left out.
+// Writes the counter values of a perf.data file's samples and READ records from *cursor on, in the order of the file,
+// those of as many records as `capacity` allows, and moves *cursor past the last of these records. `data` is the whole
+// file. The first call has a cursor of zeros. With NULL for `cursor`, a call starts at the first record. A record that
+// can't be decoded is left out.
 //
-// *count is the number of written values; `count` may be NULL. A call with the moved cursor writes the values that follow. If *count is 0
-// and the status is DEWIKURA_OK, there are no more, or `capacity` is 0. Calls with arrays of any capacity write the same values as one call
-// with an array for all of them.
+// *count is the number of written values; `count` may be NULL. A call with the moved cursor writes the values that
+// follow. If *count is 0 and the status is DEWIKURA_OK, there are no more, or `capacity` is 0. Calls with arrays of any
+// capacity write the same values as one call with an array for all of them.
 //
-// DEWIKURA_NO_SPACE means that the next record has more values than `capacity`; *count is their number, none is written, and *cursor is at
-// the record. The other errors are those of dewikura_read_file_records.
-DEWIKURA_NODISCARD static inline dewikura_status dewikura_read_file_counters(const void *data, size_t size, struct dewikura_cursor *cursor,
-    struct dewikura_counter *counters, size_t capacity, uint64_t *count)
+// DEWIKURA_NO_SPACE means that the next record has more values than `capacity`; *count is their number, none is
+// written, and *cursor is at the record. The other errors are those of dewikura_read_file_records.
+DEWIKURA_NODISCARD static inline dewikura_status dewikura_read_file_counters(const void *data, size_t size,
+    struct dewikura_cursor *cursor, struct dewikura_counter *counters, size_t capacity, uint64_t *count)
 {
     const char no_data = 0;
     struct dewikura_cursor first = {0, 0};
     struct dewikura_counter no_counter;
     uint64_t unused;
-    return dewikura_read_file_counters_raw(data ? data : &no_data, size, cursor ? cursor : &first, counters ? counters : &no_counter,
-        capacity, count ? count : &unused);
+    return dewikura_read_file_counters_raw(data ? data : &no_data, size, cursor ? cursor : &first,
+        counters ? counters : &no_counter, capacity, count ? count : &unused);
 }
 
-// Writes the counter values of a pipe, up to `capacity`. `data` is the whole pipe. A truncated record ends a pipe without an error.
+// Writes the counter values of a pipe, up to `capacity`. `data` is the whole pipe. A truncated record ends a pipe
+// without an error.
 //
-// *total counts all values; after an error those before it, and 0 if the pipe doesn't open. `total` may be NULL. The errors are those of
-// dewikura_read_pipe_records.
+// *total counts all values; after an error those before it, and 0 if the pipe doesn't open. `total` may be NULL. The
+// errors are those of dewikura_read_pipe_records.
 DEWIKURA_NODISCARD static inline dewikura_status dewikura_read_pipe_counters(const void *data, size_t size,
     struct dewikura_counter *counters, size_t capacity, uint64_t *total)
 {
@@ -924,43 +956,46 @@ DEWIKURA_NODISCARD static inline dewikura_status dewikura_read_pipe_counters(con
         total ? total : &unused);
 }
 
-// Sorts records by time. Records without a time come first, and records with one time keep their order; the times 0 and 2^64 - 1 count as
-// none. Returns DEWIKURA_OK, or DEWIKURA_OUT_OF_MEMORY if a temporary array can't be allocated, which up to 20 records don't need: the
-// records are then unchanged.
+// Sorts records by time. Records without a time come first, and records with one time keep their order; the times 0 and
+// 2^64 - 1 count as none. Returns DEWIKURA_OK, or DEWIKURA_OUT_OF_MEMORY if a temporary array can't be allocated, which
+// up to 20 records don't need: the records are then unchanged.
 DEWIKURA_NODISCARD static inline dewikura_status dewikura_sort_records(struct dewikura_record *records, size_t count)
 {
     struct dewikura_record no_record;
     return dewikura_sort_records_raw(records ? records : &no_record, count);
 }
 
-// Writes the event attributes of a file, all names without a separator, and all ids, in the order of the file, each up to the capacity of
-// its array. *totals counts all of them; `totals` may be NULL.
+// Writes the event attributes of a file, all names without a separator, and all ids, in the order of the file, each up
+// to the capacity of its array. *totals counts all of them; `totals` may be NULL.
 //
-// The status says whether the file opens, and not whether its records are complete. If it doesn't open, all totals are 0.
-DEWIKURA_NODISCARD static inline dewikura_status dewikura_read_file_attrs(const void *data, size_t size, struct dewikura_attr *attrs,
-    size_t attrs_capacity, char *names, size_t names_capacity, uint64_t *ids, size_t ids_capacity, struct dewikura_attr_totals *totals)
+// The status says whether the file opens, and not whether its records are complete. If it doesn't open, all totals are
+// 0.
+DEWIKURA_NODISCARD static inline dewikura_status dewikura_read_file_attrs(const void *data, size_t size,
+    struct dewikura_attr *attrs, size_t attrs_capacity, char *names, size_t names_capacity, uint64_t *ids,
+    size_t ids_capacity, struct dewikura_attr_totals *totals)
 {
     const char no_data = 0;
     struct dewikura_attr no_attr;
     char no_name;
     uint64_t no_id;
     struct dewikura_attr_totals unused;
-    return dewikura_read_file_attrs_raw(data ? data : &no_data, size, attrs ? attrs : &no_attr, attrs_capacity, names ? names : &no_name,
-        names_capacity, ids ? ids : &no_id, ids_capacity, totals ? totals : &unused);
+    return dewikura_read_file_attrs_raw(data ? data : &no_data, size, attrs ? attrs : &no_attr, attrs_capacity,
+        names ? names : &no_name, names_capacity, ids ? ids : &no_id, ids_capacity, totals ? totals : &unused);
 }
 
-// Does the same for a pipe. Reads the pipe to its end, and includes the attributes after its opening. After an error the attributes are
-// those before it.
-DEWIKURA_NODISCARD static inline dewikura_status dewikura_read_pipe_attrs(const void *data, size_t size, struct dewikura_attr *attrs,
-    size_t attrs_capacity, char *names, size_t names_capacity, uint64_t *ids, size_t ids_capacity, struct dewikura_attr_totals *totals)
+// Does the same for a pipe. Reads the pipe to its end, and includes the attributes after its opening. After an error
+// the attributes are those before it.
+DEWIKURA_NODISCARD static inline dewikura_status dewikura_read_pipe_attrs(const void *data, size_t size,
+    struct dewikura_attr *attrs, size_t attrs_capacity, char *names, size_t names_capacity, uint64_t *ids,
+    size_t ids_capacity, struct dewikura_attr_totals *totals)
 {
     const char no_data = 0;
     struct dewikura_attr no_attr;
     char no_name;
     uint64_t no_id;
     struct dewikura_attr_totals unused;
-    return dewikura_read_pipe_attrs_raw(data ? data : &no_data, size, attrs ? attrs : &no_attr, attrs_capacity, names ? names : &no_name,
-        names_capacity, ids ? ids : &no_id, ids_capacity, totals ? totals : &unused);
+    return dewikura_read_pipe_attrs_raw(data ? data : &no_data, size, attrs ? attrs : &no_attr, attrs_capacity,
+        names ? names : &no_name, names_capacity, ids ? ids : &no_id, ids_capacity, totals ? totals : &unused);
 }
 
 // Writes the set of features of a file. The status says whether the file opens. If it doesn't open, the set is empty.
@@ -979,12 +1014,12 @@ DEWIKURA_NODISCARD static inline dewikura_status dewikura_read_pipe_feature_set(
     return dewikura_read_pipe_feature_set_raw(data ? data : &no_data, size, set);
 }
 
-// Writes the bytes of a feature section of a file, up to `capacity`. *is_present is 1 if the file has the feature, otherwise 0.
-// *feature_size is the size of the whole section in bytes. Both pointers may be NULL.
+// Writes the bytes of a feature section of a file, up to `capacity`. *is_present is 1 if the file has the feature,
+// otherwise 0. *feature_size is the size of the whole section in bytes. Both pointers may be NULL.
 //
 // The status says whether the file opens, and not whether its records are complete.
-DEWIKURA_NODISCARD static inline dewikura_status dewikura_read_file_feature(const void *data, size_t size, uint32_t feature, void *buffer,
-    size_t capacity, uint8_t *is_present, uint64_t *feature_size)
+DEWIKURA_NODISCARD static inline dewikura_status dewikura_read_file_feature(const void *data, size_t size,
+    uint32_t feature, void *buffer, size_t capacity, uint8_t *is_present, uint64_t *feature_size)
 {
     const char no_data = 0;
     char no_byte;
@@ -995,8 +1030,8 @@ DEWIKURA_NODISCARD static inline dewikura_status dewikura_read_file_feature(cons
 }
 
 // Does the same for a pipe. Reads the pipe to its end or its first error, and uses the last data of the feature.
-DEWIKURA_NODISCARD static inline dewikura_status dewikura_read_pipe_feature(const void *data, size_t size, uint32_t feature, void *buffer,
-    size_t capacity, uint8_t *is_present, uint64_t *feature_size)
+DEWIKURA_NODISCARD static inline dewikura_status dewikura_read_pipe_feature(const void *data, size_t size,
+    uint32_t feature, void *buffer, size_t capacity, uint8_t *is_present, uint64_t *feature_size)
 {
     const char no_data = 0;
     char no_byte;
@@ -1006,52 +1041,54 @@ DEWIKURA_NODISCARD static inline dewikura_status dewikura_read_pipe_feature(cons
         is_present ? is_present : &unused_is_present, feature_size ? feature_size : &unused_size);
 }
 
-// Writes the entry at an offset of the BUILD_ID section. `section` contains the bytes of the feature, and `is_big_endian` is that of the
-// recording. After an error *entry is unchanged. DEWIKURA_TRUNCATED means that the section has no complete entry at the offset, as at its
-// end.
-DEWIKURA_NODISCARD static inline dewikura_status dewikura_read_build_id(const void *section, size_t size, uint32_t is_big_endian,
-    uint64_t offset, struct dewikura_build_id *entry)
+// Writes the entry at an offset of the BUILD_ID section. `section` contains the bytes of the feature, and
+// `is_big_endian` is that of the recording. After an error *entry is unchanged. DEWIKURA_TRUNCATED means that the
+// section has no complete entry at the offset, as at its end.
+DEWIKURA_NODISCARD static inline dewikura_status dewikura_read_build_id(const void *section, size_t size,
+    uint32_t is_big_endian, uint64_t offset, struct dewikura_build_id *entry)
 {
     const char no_data = 0;
     return dewikura_read_build_id_raw(section ? section : &no_data, size, is_big_endian, offset, entry);
 }
 
-// Writes the positions of the string at an offset of a feature section. HOSTNAME, OSRELEASE, VERSION, ARCH, CPUDESC and CPUID have one
-// string, at offset 0. CMDLINE has a count in four bytes, and then that many strings. DEWIKURA_TRUNCATED means that the section has no
-// complete string at the offset; then *string is unchanged.
-DEWIKURA_NODISCARD static inline dewikura_status dewikura_read_string(const void *section, size_t size, uint32_t is_big_endian,
-    uint64_t offset, struct dewikura_string *string)
+// Writes the positions of the string at an offset of a feature section. HOSTNAME, OSRELEASE, VERSION, ARCH, CPUDESC and
+// CPUID have one string, at offset 0. CMDLINE has a count in four bytes, and then that many strings. DEWIKURA_TRUNCATED
+// means that the section has no complete string at the offset; then *string is unchanged.
+DEWIKURA_NODISCARD static inline dewikura_status dewikura_read_string(const void *section, size_t size,
+    uint32_t is_big_endian, uint64_t offset, struct dewikura_string *string)
 {
     const char no_data = 0;
     return dewikura_read_string_raw(section ? section : &no_data, size, is_big_endian, offset, string);
 }
 
-// Writes the positions of the keys and values in the section SIMPLEPERF_META_INFO, in its order, up to `capacity`. `section` contains the
-// bytes of the feature. If a key occurs more than once, its last value counts. *total counts all pairs; `total` may be NULL.
+// Writes the positions of the keys and values in the section SIMPLEPERF_META_INFO, in its order, up to `capacity`.
+// `section` contains the bytes of the feature. If a key occurs more than once, its last value counts. *total counts all
+// pairs; `total` may be NULL.
 //
 // DEWIKURA_INVALID_UTF8 means that a key or a value isn't UTF-8; then *total counts the pairs before it.
-DEWIKURA_NODISCARD static inline dewikura_status dewikura_read_meta_info(const void *section, size_t size, struct dewikura_meta_pair *pairs,
-    size_t capacity, uint64_t *total)
+DEWIKURA_NODISCARD static inline dewikura_status dewikura_read_meta_info(const void *section, size_t size,
+    struct dewikura_meta_pair *pairs, size_t capacity, uint64_t *total)
 {
     const char no_data = 0;
     struct dewikura_meta_pair no_pair;
     uint64_t unused;
-    return dewikura_read_meta_info_raw(section ? section : &no_data, size, pairs ? pairs : &no_pair, capacity, total ? total : &unused);
+    return dewikura_read_meta_info_raw(section ? section : &no_data, size, pairs ? pairs : &no_pair, capacity,
+        total ? total : &unused);
 }
 
-// Writes the files of simpleperf's symbol tables, the symbols of all files, and the DEX offsets of all files, each up to the capacity of
-// its array. Writes the path of each file and then the names of its symbols, all in UTF-8 without a separator, up to the capacity of
-// `names`. *totals counts all of them; `totals` may be NULL.
+// Writes the files of simpleperf's symbol tables, the symbols of all files, and the DEX offsets of all files, each up
+// to the capacity of its array. Writes the path of each file and then the names of its symbols, all in UTF-8 without a
+// separator, up to the capacity of `names`. *totals counts all of them; `totals` may be NULL.
 //
-// `section` contains the bytes of the feature DEWIKURA_FEATURE_SIMPLEPERF_FILE2, or those of DEWIKURA_FEATURE_SIMPLEPERF_FILE in a
-// recording without it, and `feature` is the number of that feature. `is_big_endian` is that of the recording. A recording that has
-// neither feature has no symbol tables.
+// `section` contains the bytes of the feature DEWIKURA_FEATURE_SIMPLEPERF_FILE2, or those of
+// DEWIKURA_FEATURE_SIMPLEPERF_FILE in a recording without it, and `feature` is the number of that feature.
+// `is_big_endian` is that of the recording. A recording that has neither feature has no symbol tables.
 //
 // After an error all totals are 0, and the arrays are unchanged.
-DEWIKURA_NODISCARD static inline dewikura_status dewikura_read_symbol_tables(const void *section, size_t size, uint32_t feature,
-    uint32_t is_big_endian, struct dewikura_symbol_file *files, size_t files_capacity, struct dewikura_symbol *symbols,
-    size_t symbols_capacity, char *names, size_t names_capacity, uint64_t *dex_offsets, size_t dex_offsets_capacity,
-    struct dewikura_symbol_totals *totals)
+DEWIKURA_NODISCARD static inline dewikura_status dewikura_read_symbol_tables(const void *section, size_t size,
+    uint32_t feature, uint32_t is_big_endian, struct dewikura_symbol_file *files, size_t files_capacity,
+    struct dewikura_symbol *symbols, size_t symbols_capacity, char *names, size_t names_capacity, uint64_t *dex_offsets,
+    size_t dex_offsets_capacity, struct dewikura_symbol_totals *totals)
 {
     const char no_data = 0;
     struct dewikura_symbol_file no_file;
@@ -1059,35 +1096,38 @@ DEWIKURA_NODISCARD static inline dewikura_status dewikura_read_symbol_tables(con
     char no_name;
     uint64_t no_offset;
     struct dewikura_symbol_totals unused;
-    return dewikura_read_symbol_tables_raw(section ? section : &no_data, size, feature, is_big_endian, files ? files : &no_file,
-        files_capacity, symbols ? symbols : &no_symbol, symbols_capacity, names ? names : &no_name, names_capacity,
-        dex_offsets ? dex_offsets : &no_offset, dex_offsets_capacity, totals ? totals : &unused);
+    return dewikura_read_symbol_tables_raw(section ? section : &no_data, size, feature, is_big_endian,
+        files ? files : &no_file, files_capacity, symbols ? symbols : &no_symbol, symbols_capacity,
+        names ? names : &no_name, names_capacity, dex_offsets ? dex_offsets : &no_offset, dex_offsets_capacity,
+        totals ? totals : &unused);
 }
 
 // Writes the header of a jitdump. After an error *header is unchanged.
-DEWIKURA_NODISCARD static inline dewikura_status dewikura_read_jit_header(const void *data, size_t size, struct dewikura_jit_header *header)
+DEWIKURA_NODISCARD static inline dewikura_status dewikura_read_jit_header(const void *data, size_t size,
+    struct dewikura_jit_header *header)
 {
     const char no_data = 0;
     return dewikura_read_jit_header_raw(data ? data : &no_data, size, header);
 }
 
-// Writes the complete records of a jitdump from an offset on, up to `capacity`. An offset within the header, such as 0, is that of the
-// first record. *count is the number of records written. *next_offset is where the next call continues, with new capacity or after the
-// file has grown. Both pointers may be NULL.
+// Writes the complete records of a jitdump from an offset on, up to `capacity`. An offset within the header, such as 0,
+// is that of the first record. *count is the number of records written. *next_offset is where the next call continues,
+// with new capacity or after the file has grown. Both pointers may be NULL.
 //
 // If *count is less than `capacity` and the status is DEWIKURA_OK, there is no complete record at *next_offset.
-DEWIKURA_NODISCARD static inline dewikura_status dewikura_read_jit_records(const void *data, size_t size, uint64_t start_offset,
-    struct dewikura_jit_record *records, size_t capacity, uint64_t *count, uint64_t *next_offset)
+DEWIKURA_NODISCARD static inline dewikura_status dewikura_read_jit_records(const void *data, size_t size,
+    uint64_t start_offset, struct dewikura_jit_record *records, size_t capacity, uint64_t *count, uint64_t *next_offset)
 {
     const char no_data = 0;
     struct dewikura_jit_record no_record;
     uint64_t unused_count, unused_offset;
-    return dewikura_read_jit_records_raw(data ? data : &no_data, size, start_offset, records ? records : &no_record, capacity,
-        count ? count : &unused_count, next_offset ? next_offset : &unused_offset);
+    return dewikura_read_jit_records_raw(data ? data : &no_data, size, start_offset, records ? records : &no_record,
+        capacity, count ? count : &unused_count, next_offset ? next_offset : &unused_offset);
 }
 
-// Writes the load record at an offset of a jitdump, which is the `offset` of a record of the type DEWIKURA_JIT_CODE_LOAD. After an error
-// *load is unchanged. DEWIKURA_TRUNCATED means that there is no complete record at the offset.
+// Writes the load record at an offset of a jitdump, which is the `offset` of a record of the type
+// DEWIKURA_JIT_CODE_LOAD. After an error *load is unchanged. DEWIKURA_TRUNCATED means that there is no complete record
+// at the offset.
 DEWIKURA_NODISCARD static inline dewikura_status dewikura_read_jit_load(const void *data, size_t size, uint64_t offset,
     struct dewikura_jit_load *load)
 {
@@ -1103,25 +1143,27 @@ DEWIKURA_NODISCARD static inline dewikura_status dewikura_read_jit_move(const vo
     return dewikura_read_jit_move_raw(data ? data : &no_data, size, offset, move);
 }
 
-// Writes the unwinding info record at an offset of a jitdump (DEWIKURA_JIT_CODE_UNWINDING_INFO). After an error *unwinding is unchanged.
-DEWIKURA_NODISCARD static inline dewikura_status dewikura_read_jit_unwinding(const void *data, size_t size, uint64_t offset,
-    struct dewikura_jit_unwinding *unwinding)
+// Writes the unwinding info record at an offset of a jitdump (DEWIKURA_JIT_CODE_UNWINDING_INFO). After an error
+// *unwinding is unchanged.
+DEWIKURA_NODISCARD static inline dewikura_status dewikura_read_jit_unwinding(const void *data, size_t size,
+    uint64_t offset, struct dewikura_jit_unwinding *unwinding)
 {
     const char no_data = 0;
     return dewikura_read_jit_unwinding_raw(data ? data : &no_data, size, offset, unwinding);
 }
 
-// Writes the source locations in the debug info record at an offset of a jitdump (DEWIKURA_JIT_CODE_DEBUG_INFO), in its order, up to
-// `capacity`. *code_address is the address of the code, and *total counts all source locations. Both pointers may be NULL. After an error
-// both numbers are 0.
-DEWIKURA_NODISCARD static inline dewikura_status dewikura_read_jit_debug_info(const void *data, size_t size, uint64_t offset,
-    uint64_t *code_address, struct dewikura_jit_debug_entry *entries, size_t capacity, uint64_t *total)
+// Writes the source locations in the debug info record at an offset of a jitdump (DEWIKURA_JIT_CODE_DEBUG_INFO), in its
+// order, up to `capacity`. *code_address is the address of the code, and *total counts all source locations. Both
+// pointers may be NULL. After an error both numbers are 0.
+DEWIKURA_NODISCARD static inline dewikura_status dewikura_read_jit_debug_info(const void *data, size_t size,
+    uint64_t offset, uint64_t *code_address, struct dewikura_jit_debug_entry *entries, size_t capacity, uint64_t *total)
 {
     const char no_data = 0;
     struct dewikura_jit_debug_entry no_entry;
     uint64_t unused_address, unused_total;
-    return dewikura_read_jit_debug_info_raw(data ? data : &no_data, size, offset, code_address ? code_address : &unused_address,
-        entries ? entries : &no_entry, capacity, total ? total : &unused_total);
+    return dewikura_read_jit_debug_info_raw(data ? data : &no_data, size, offset,
+        code_address ? code_address : &unused_address, entries ? entries : &no_entry, capacity,
+        total ? total : &unused_total);
 }
 
 #ifdef __cplusplus

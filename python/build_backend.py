@@ -1,21 +1,25 @@
 """A PEP 517 backend. It links the static library into a shared object beside the package, and packs both into a wheel.
 
 The static libraries are found in the folder DEWIKURA_DIR: libdewikura.a, and liblibc_c.a unless the first contains it, as an installed one
-does. Without this variable they are those of the repository: crates/dewikura/out/libdewikura.a, and liblibc_c.a of the kit whose `rt` is on
-PATH."""
+does. Without this variable they are those of the repository (crates/dewikura/out/libdewikura.a, and liblibc_c.a of the kit whose `rt` is on
+PATH), or of the installation whose share/dewikura/python this folder is."""
 
+import ast
 import base64
 import hashlib
+import io
 import os
 import pathlib
 import re
 import subprocess
 import sysconfig
+import tarfile
 import tempfile
 import zipfile
 
 TOP = pathlib.Path(__file__).resolve().parent
 PACKAGE = TOP / "src/dewikura"
+LICENSES = ("LICENSE-MIT", "LICENSE-APACHE", "NOTICE")
 
 
 def version():
@@ -23,13 +27,39 @@ def version():
     return numbers.replace(", ", ".")
 
 
-def static_libraries():
+def license_file(name):
+    """The bytes of a licence: it is beside this file, or at the top of the repository."""
+    return next(folder / name for folder in (TOP, TOP.parent) if (folder / name).exists()).read_bytes()
+
+
+def library_folder():
+    """The folder that has the static libraries; None in the repository."""
     folder = os.environ.get("DEWIKURA_DIR")
+    if not folder and TOP.parts[-3:] == ("share", "dewikura", "python"):
+        folder = TOP.parents[2] / "lib"
+    return pathlib.Path(folder) if folder else None
+
+
+def kit_licenses():
+    """The names and the bytes of the licences of the kit's crates, whose code the library contains."""
+    installed = library_folder()
+    with tempfile.TemporaryDirectory() as made:
+        folder = installed.parent / "share/doc/dewikura/licenses" if installed else pathlib.Path(made)
+        if not installed:
+            subprocess.run([TOP.parent / "packaging/kit_licenses", folder], check=True)
+        return {str(path.relative_to(folder)): path.read_bytes() for path in sorted(folder.rglob("LICENSE*"))}
+
+
+def static_libraries():
+    folder = library_folder()
     if folder:
-        archive, runtime = (pathlib.Path(folder) / name for name in ("libdewikura.a", "liblibc_c.a"))
+        archive, runtime = (folder / name for name in ("libdewikura.a", "liblibc_c.a"))
         return [archive, runtime] if runtime.exists() else [archive]
+    archive = TOP.parent / "crates/dewikura/out/libdewikura.a"
+    if not archive.exists():
+        return [archive]
     kit = pathlib.Path(subprocess.run(["rt", "doc"], capture_output=True, text=True, check=True).stdout).parent
-    return [TOP.parent / "crates/dewikura/out/libdewikura.a", kit / "c/liblibc_c.a"]
+    return [archive, kit / "c/liblibc_c.a"]
 
 
 def link_library(path):
@@ -37,44 +67,96 @@ def link_library(path):
     archives = static_libraries()
     for archive in archives:
         if not archive.exists():
-            raise SystemExit(f"{archive} doesn't exist: run `rt lib` in crates/dewikura, or set DEWIKURA_DIR")
+            raise SystemExit(f"{archive} doesn't exist: run `make lib` in the repository, or set DEWIKURA_DIR to a folder with libdewikura.a")
     compiler = os.environ.get("CC", "cc")
     subprocess.run([compiler, "-shared", "-o", path, "-Wl,--whole-archive", *archives, "-Wl,--no-whole-archive"], check=True)
 
 
+def project():
+    """The tables `project` of pyproject.toml. Their texts and lists are also literals of Python, whose parser of TOML is younger than 3.9."""
+    tables, table = {}, {}
+    for line in (TOP / "pyproject.toml").read_text(encoding="utf-8").splitlines():
+        if line.startswith("["):
+            table = tables[line.strip("[]")] = {}
+        elif " = " in line:
+            key, value = line.split(" = ", 1)
+            table[key] = ast.literal_eval(value)
+    return tables["project"], tables["project.optional-dependencies"]
+
+
 def metadata():
-    readme = (TOP / "README.md").read_text(encoding="utf-8")
-    fields = [
-        ("Metadata-Version", "2.1"), ("Name", "dewikura"), ("Version", version()),
-        ("Summary", "Reads perf.data files, perf pipes and jitdumps by a formally verified library"),
-        ("License", "MIT OR Apache-2.0"), ("Requires-Python", ">=3.9"), ("Provides-Extra", "numpy"), ("Requires-Dist", 'numpy>=1.22; extra == "numpy"'),
-        ("Description-Content-Type", "text/markdown"),
+    fields, extras = project()
+    lines = [
+        ("Metadata-Version", "2.4"), ("Name", fields["name"]), ("Version", version()), ("Summary", fields["description"]),
+        ("License-Expression", fields["license"]), *(("License-File", name) for name in LICENSES), ("Keywords", ",".join(fields["keywords"])),
+        ("Requires-Python", fields["requires-python"]),
     ]
-    return "".join(f"{name}: {value}\n" for name, value in fields) + "\n" + readme
+    for extra, requirements in extras.items():
+        lines += [("Provides-Extra", extra), *(("Requires-Dist", f'{requirement}; extra == "{extra}"') for requirement in requirements)]
+    lines.append(("Description-Content-Type", "text/markdown"))
+    readme = (TOP / fields["readme"]).read_text(encoding="utf-8")
+    return ("".join(f"{name}: {value}\n" for name, value in lines) + "\n" + readme).encode()
 
 
-def wheel_files(tag):
-    """The names and the bytes of the wheel's files, but for RECORD."""
-    info = f"dewikura-{version()}.dist-info"
-    files = {f"dewikura/{path.name}": path.read_bytes() for path in sorted(PACKAGE.glob("*.py")) + [PACKAGE / "py.typed"]}
+def package_files():
+    return sorted(PACKAGE.glob("*.py")) + [PACKAGE / "py.typed"]
+
+
+def tag():
+    return "py3-none-" + re.sub(r"[-.]", "_", sysconfig.get_platform())
+
+
+def information(folder):
+    """The names and the bytes of the files that describe the wheel, but for RECORD."""
+    files = {f"{folder}/METADATA": metadata()}
+    files[f"{folder}/WHEEL"] = f"Wheel-Version: 1.0\nGenerator: dewikura\nRoot-Is-Purelib: false\nTag: {tag()}\n".encode()
+    files.update((f"{folder}/licenses/{name}", license_file(name)) for name in LICENSES)
+    return files
+
+
+def wheel_files():
+    """The names and the bytes of the wheel's other files."""
+    files = {f"dewikura/{path.name}": path.read_bytes() for path in package_files()}
     with tempfile.TemporaryDirectory() as folder:
         library = pathlib.Path(folder) / "libdewikura.so"
         link_library(library)
         files["dewikura/libdewikura.so"] = library.read_bytes()
-    files[f"{info}/METADATA"] = metadata().encode()
-    files[f"{info}/WHEEL"] = f"Wheel-Version: 1.0\nGenerator: dewikura\nRoot-Is-Purelib: false\nTag: {tag}\n".encode()
-    return info, files
+    return files
+
+
+def prepare_metadata_for_build_wheel(metadata_directory, config_settings=None):
+    folder = f"dewikura-{version()}.dist-info"
+    for name, data in information(folder).items():
+        path = pathlib.Path(metadata_directory) / name
+        path.parent.mkdir(parents=True, exist_ok=True)
+        path.write_bytes(data)
+    return folder
 
 
 def build_wheel(wheel_directory, config_settings=None, metadata_directory=None):
-    tag = "py3-none-" + re.sub(r"[-.]", "_", sysconfig.get_platform())
-    info, files = wheel_files(tag)
-    lines = []
-    name = f"dewikura-{version()}-{tag}.whl"
+    folder, lines = f"dewikura-{version()}.dist-info", []
+    name = f"dewikura-{version()}-{tag()}.whl"
+    files = {**wheel_files(), **information(folder)}
+    files.update((f"{folder}/licenses/{path}", data) for path, data in kit_licenses().items())
     with zipfile.ZipFile(pathlib.Path(wheel_directory) / name, "w", zipfile.ZIP_DEFLATED) as wheel:
         for path, data in files.items():
             digest = base64.urlsafe_b64encode(hashlib.sha256(data).digest()).rstrip(b"=").decode()
             lines.append(f"{path},sha256={digest},{len(data)}\n")
             wheel.writestr(path, data)
-        wheel.writestr(f"{info}/RECORD", "".join(lines) + f"{info}/RECORD,,\n")
+        wheel.writestr(f"{folder}/RECORD", "".join(lines) + f"{folder}/RECORD,,\n")
     return name
+
+
+def build_sdist(sdist_directory, config_settings=None):
+    """Packs the package without the library, which its installation takes from DEWIKURA_DIR."""
+    own = [TOP / name for name in ("pyproject.toml", "build_backend.py", "README.md")] + package_files() + sorted(TOP.glob("examples/*.py"))
+    files = {str(path.relative_to(TOP)): path.read_bytes() for path in own}
+    files.update((name, license_file(name)) for name in LICENSES)
+    files["PKG-INFO"] = metadata()
+    folder = f"dewikura-{version()}"
+    with tarfile.open(pathlib.Path(sdist_directory) / f"{folder}.tar.gz", "w:gz", format=tarfile.PAX_FORMAT) as archive:
+        for path, data in sorted(files.items()):
+            entry = tarfile.TarInfo(f"{folder}/{path}")
+            entry.size = len(data)
+            archive.addfile(entry, io.BytesIO(data))
+    return f"{folder}.tar.gz"

@@ -108,8 +108,8 @@ static void print_tasks(void)
     struct dewikura_task *all = read_all(read_tasks, sizeof *all, &count, &status);
     for (i = 0; i < count; i++) {
         const struct dewikura_task *t = all + i;
-        printf("task %" PRIu64 " %" PRIu64 " %u %u %d %d %d %d", t->offset, t->timestamp, t->kind, t->is_exec, t->pid, t->tid, t->parent_pid,
-            t->parent_tid);
+        printf("task %" PRIu64 " %" PRIu64 " %u %u %d %d %d %d", t->offset, t->timestamp, t->type, t->is_execve, t->pid, t->tid, t->ppid,
+            t->ptid);
         print_bytes(data + t->name_offset, t->name_size);
         putchar('\n');
     }
@@ -124,7 +124,7 @@ static void print_mappings(void)
     struct dewikura_mapping *all = read_all(read_mappings, sizeof *all, &count, &status);
     for (i = 0; i < count; i++) {
         const struct dewikura_mapping *m = all + i;
-        printf("mapping %" PRIu64 " %" PRIu64 " %u %u %d %d", m->offset, m->timestamp, m->kind, m->misc, m->pid, m->tid);
+        printf("mapping %" PRIu64 " %" PRIu64 " %u %u %d %d", m->offset, m->timestamp, m->type, m->misc, m->pid, m->tid);
         printf(" %" PRIu64 " %" PRIu64 " %" PRIu64 " %" PRIu64 " %" PRIu64, m->address, m->length, m->page_offset, m->inode, m->inode_generation);
         printf(" %u %u %u %u %u %u %u", m->major, m->minor, m->protection, m->flags, m->is_data, m->build_id_size, m->reserved);
         print_bytes(m->build_id, sizeof m->build_id);
@@ -190,7 +190,7 @@ static void print_counters(void)
         check_counter_pages(7, all, count, status);
     }
     for (i = 0; i < count; i++)
-        printf("counter %" PRIu64 " %" PRIu64 " %" PRIu64 " %" PRIu64 " %" PRIu64 " %" PRIu64 "\n", all[i].sample, all[i].value, all[i].id,
+        printf("counter %" PRIu64 " %" PRIu64 " %" PRIu64 " %" PRIu64 " %" PRIu64 " %" PRIu64 "\n", all[i].offset, all[i].value, all[i].id,
             all[i].time_enabled, all[i].time_running, all[i].lost);
     printf("counters %u\n", status);
     free(all);

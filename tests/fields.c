@@ -385,27 +385,27 @@ static void check_tasks(void)
     CHECK(tasks[0].timestamp, 0x803);
     CHECK(tasks[0].name_offset, 256 + 8 + 8);
     CHECK(tasks[0].name_size, 6);
-    CHECK(tasks[0].kind, DEWIKURA_RECORD_COMM);
-    CHECK(tasks[0].is_exec, 1);
+    CHECK(tasks[0].type, DEWIKURA_RECORD_COMM);
+    CHECK(tasks[0].is_execve, 1);
     CHECK(tasks[0].pid, -3);
     CHECK(tasks[0].tid, 0x802);
-    CHECK(tasks[0].parent_pid | tasks[0].parent_tid, 0);
-    CHECK(tasks[1].kind, 0xabababab);
+    CHECK(tasks[0].ppid | tasks[0].ptid, 0);
+    CHECK(tasks[1].type, 0xabababab);
     CHECK(dewikura_read_file_tasks(input, size, &cursor, tasks, 4, &count), DEWIKURA_OK);
     CHECK(count, 2);
     CHECK(tasks[0].offset, 40);
     CHECK(tasks[0].timestamp, 0x906);
     CHECK(tasks[0].name_offset | tasks[0].name_size, 0);
-    CHECK(tasks[0].kind, DEWIKURA_RECORD_FORK);
-    CHECK(tasks[0].is_exec, 0);
+    CHECK(tasks[0].type, DEWIKURA_RECORD_FORK);
+    CHECK(tasks[0].is_execve, 0);
     CHECK(tasks[0].pid, 0x901);
     CHECK(tasks[0].tid, 0x903);
-    CHECK(tasks[0].parent_pid, 0x902);
-    CHECK(tasks[0].parent_tid, -4);
+    CHECK(tasks[0].ppid, 0x902);
+    CHECK(tasks[0].ptid, -4);
     CHECK(tasks[1].offset, 40 + 48 + 32);
     CHECK(tasks[1].timestamp, 0x907);
-    CHECK(tasks[1].kind, DEWIKURA_RECORD_EXIT);
-    CHECK(tasks[2].kind, 0xabababab);
+    CHECK(tasks[1].type, DEWIKURA_RECORD_EXIT);
+    CHECK(tasks[2].type, 0xabababab);
     CHECK(dewikura_read_file_tasks(NULL, 0, NULL, NULL, 0, NULL), DEWIKURA_TRUNCATED);
 }
 
@@ -468,7 +468,7 @@ static void check_mappings(void)
         CHECK(mapping->inode_generation, is_build_id ? 0 : 0x809);
         CHECK(mapping->path_offset, 256 + mapping->offset + 8 + 64);
         CHECK(mapping->path_size, 7);
-        CHECK(mapping->kind, DEWIKURA_RECORD_MMAP2);
+        CHECK(mapping->type, DEWIKURA_RECORD_MMAP2);
         CHECK(mapping->major, is_build_id ? 0 : 0x806);
         CHECK(mapping->minor, is_build_id ? 0 : 0x807);
         CHECK(mapping->protection, 0x80a);
@@ -482,7 +482,7 @@ static void check_mappings(void)
         CHECK(mapping->misc, is_build_id ? 0x4002 : 0x2001);
         CHECK(mapping->reserved, 0);
     }
-    CHECK(mappings[2].kind, 0xabababab);
+    CHECK(mappings[2].type, 0xabababab);
     CHECK(dewikura_read_file_mappings(input, size, &cursor, mappings, 4, &count), DEWIKURA_OK);
     CHECK(count, 1);
     CHECK(mappings[0].offset, 192);
@@ -493,7 +493,7 @@ static void check_mappings(void)
     CHECK(mappings[0].inode | mappings[0].inode_generation | mappings[0].major | mappings[0].minor, 0);
     CHECK(mappings[0].path_offset, 256 + 192 + 8 + 32);
     CHECK(mappings[0].path_size, 4);
-    CHECK(mappings[0].kind, DEWIKURA_RECORD_MMAP);
+    CHECK(mappings[0].type, DEWIKURA_RECORD_MMAP);
     CHECK(mappings[0].protection | mappings[0].flags, 0);
     CHECK(mappings[0].pid, 0x901);
     CHECK(mappings[0].tid, 0x902);
@@ -503,14 +503,14 @@ static void check_mappings(void)
     CHECK(dewikura_read_pipe_tasks(NULL, 0, NULL, 0, NULL), DEWIKURA_TRUNCATED);
 }
 
-static void check_counter(const struct dewikura_counter *counter, uint64_t first, uint64_t sample)
+static void check_counter(const struct dewikura_counter *counter, uint64_t first, uint64_t offset)
 {
     CHECK(counter->value, first);
     CHECK(counter->id, first + 1);
     CHECK(counter->time_enabled, 0xa01);
     CHECK(counter->time_running, 0xa02);
     CHECK(counter->lost, first + 2);
-    CHECK(counter->sample, sample);
+    CHECK(counter->offset, offset);
 }
 
 // The counts and the times of a group, and this many numbers from `first` on.

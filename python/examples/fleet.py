@@ -26,10 +26,10 @@ def counts_of(recording, samples):
             counts[names[entry.attr_index], file_of(recording, spaces, entry)] += 1
         elif isinstance(entry, dewikura.Mapping):
             spaces[entry.pid].append(entry)
-        elif entry.is_exec:
+        elif entry.is_execve:
             spaces[entry.pid].clear()
-        elif entry.kind == dewikura.RecordType.FORK and entry.pid != entry.parent_pid:
-            spaces[entry.pid] = spaces[entry.parent_pid].copy()
+        elif entry.type == dewikura.RecordType.FORK and entry.pid != entry.ppid:
+            spaces[entry.pid] = spaces[entry.ppid].copy()
     return counts
 
 

@@ -1,5 +1,5 @@
 """Tests of the package over the recordings of the repository. With the variable PERFLIST, which names perflist's program, the records
-are also compared with its lines. The numpy tests run where numpy is installed."""
+are also compared with its lines. The tests of arrays and of data frames run where numpy and pandas are installed."""
 
 import contextlib
 import glob
@@ -24,7 +24,7 @@ FIRST = TOP / "crates/perflist/data/first.data"
 SEVERAL = TOP / "crates/perflist/data/several.data"
 STREAM = TOP / "crates/perflist/stdin"
 DUMP = TOP / "crates/perflist/data/node.dump"
-HAS_NUMPY = importlib.util.find_spec("numpy") is not None
+HAS_NUMPY, HAS_PANDAS = (importlib.util.find_spec(name) is not None for name in ("numpy", "pandas"))
 PERFLIST = os.environ.get("PERFLIST")
 
 
@@ -163,7 +163,7 @@ class RecordingTest(unittest.TestCase):
         with dewikura.open(FIRST) as recording:
             last = recording.records[-1]
         short = dewikura.from_buffer(data[:last.body_offset])
-        records, error = short.partial()
+        records, error = short.partial_records()
         self.assertEqual((len(records), error.record_count), (last_index(data), last_index(data)))
         self.assertIsInstance(error, dewikura.PerfDataError)
         self.assertIn(f"after {len(records)} records", str(error))
@@ -264,6 +264,14 @@ class SampleTest(unittest.TestCase):
                                  [bytes(frame) for sample in wanted for frame in samples.frames_of(sample)])
                 self.assertIs(recording.samples_by_time(), ordered)
 
+    def test_samples_without_times(self):
+        # Samples with the times 5, none (2^64 - 1), 3, none (0) and 3.
+        attribute = struct.pack("<IIQQQQQ", 1, 64, 0, 0, 1 << 2, 0, 0) + bytes(16) + struct.pack("<QQ", 0, 0)
+        times = [5, 2 ** 64 - 1, 3, 0, 3]
+        header = b"PERFILE2" + struct.pack("<8Q", 104, 80, 104, 80, 184, 16 * len(times), 0, 0) + bytes(32)
+        with dewikura.from_buffer(header + attribute + b"".join(struct.pack("<IHHQ", 9, 2, 16, time) for time in times)) as recording:
+            self.assertEqual([sample.offset // 16 for sample in recording.samples_by_time()], [1, 3, 2, 4, 0])
+
     def test_details(self):
         # RAW and WEIGHT
         attribute = struct.pack("<IIQQQQQ", 1, 64, 0, 0, 1 << 10 | 1 << 14, 0, 0) + bytes(16) + struct.pack("<QQ", 0, 0)
@@ -326,14 +334,14 @@ class TaskTest(unittest.TestCase):
                 self.assertEqual([task.offset for task in tasks], [record.offset for record in records])
                 for record, task in zip(records, tasks):
                     body = recording.body(record)
-                    self.assertEqual((task.kind, task.timestamp), (record.type, record.timestamp or 0))
+                    self.assertEqual((task.type, task.timestamp), (record.type, record.timestamp or 0))
                     if record.type == kinds.COMM:
                         name = bytes(body[8:]).partition(b"\0")[0]
                         wanted = (*struct.unpack_from("<ii", body), 0, 0, name, bool(record.misc & 1 << 13))
                     else:
                         pid, parent_pid, tid, parent_tid = struct.unpack_from("<iiii", body)
                         wanted = (pid, tid, parent_pid, parent_tid, b"", False)
-                    self.assertEqual((task.pid, task.tid, task.parent_pid, task.parent_tid, recording.name(task), task.is_exec), wanted)
+                    self.assertEqual((task.pid, task.tid, task.ppid, task.ptid, recording.name(task), task.is_execve), wanted)
             self.assertRaises(ValueError, lambda: recording.name(dewikura.Task()))
 
     def test_counters(self):
@@ -345,8 +353,8 @@ class TaskTest(unittest.TestCase):
         records = 2 * (struct.pack("<IHH", 9, 2, 8 + len(body)) + body)
         header = b"PERFILE2" + struct.pack("<QQQQQQ", 104, 152, 104, 152, 256, len(records)) + bytes(48)
         with dewikura.from_buffer(header + attribute + bytes(16) + records) as recording:
-            found = [(counter.value, counter.id, counter.sample) for counter in recording.counters]
-            self.assertEqual(found, [(*counter, sample) for sample in (0, 8 + len(body)) for counter in counters])
+            found = [(counter.value, counter.id, counter.offset) for counter in recording.counters]
+            self.assertEqual(found, [(*counter, offset) for offset in (0, 8 + len(body)) for counter in counters])
             self.assertEqual({(counter.time_enabled, counter.time_running, counter.lost) for counter in recording.counters}, {(0, 0, 0)})
         with dewikura.open(SEVERAL) as recording:
             self.assertEqual(len(recording.counters), 0)
@@ -360,7 +368,7 @@ class TaskTest(unittest.TestCase):
                 self.assertEqual([mapping.offset for mapping in mappings], [record.offset for record in records])
                 for record, mapping in zip(records, mappings):
                     body, is_mmap2 = recording.body(record), record.type == kinds.MMAP2
-                    self.assertEqual((mapping.kind, mapping.timestamp, mapping.misc), (record.type, record.timestamp or 0, record.misc))
+                    self.assertEqual((mapping.type, mapping.timestamp, mapping.misc), (record.type, record.timestamp or 0, record.misc))
                     self.assertEqual(mapping.is_data, bool(record.misc & 1 << 13))
                     found = mapping.pid, mapping.tid, mapping.address, mapping.length, mapping.page_offset
                     self.assertEqual(found, struct.unpack_from("<iiQQQ", body))
@@ -391,13 +399,93 @@ class TaskTest(unittest.TestCase):
     def test_numpy(self):
         with dewikura.open(CALLS) as recording:
             tasks = recording.tasks.to_numpy()
-            for field in ("pid", "kind", "is_exec", "name_offset"):
+            for field in ("pid", "type", "is_execve", "name_offset"):
                 self.assertEqual(tasks[field].tolist(), [getattr(task, field) for task in recording.tasks])
             self.assertEqual(tasks.itemsize, 56)
             mappings = recording.mappings.to_numpy()
-            for field in ("address", "kind", "is_data", "build_id_size", "misc"):
+            for field in ("address", "type", "is_data", "build_id_size", "misc"):
                 self.assertEqual(mappings[field].tolist(), [getattr(mapping, field) for mapping in recording.mappings])
             self.assertEqual((mappings.itemsize, mappings["build_id"].shape), (128, (len(mappings), 20)))
+
+
+@unittest.skipUnless(HAS_PANDAS, "pandas isn't installed")
+class DataFrameTest(unittest.TestCase):
+    """The columns are the fields of the structs, with texts in place of their positions."""
+
+    def test_records(self):
+        for path in (SEVERAL, CALLS_PIPE):
+            with dewikura.open(path) as recording:
+                records, frame = recording.records, recording.records.to_pandas()
+                self.assertEqual(sorted(frame), ["attr_index", "body_offset", "body_size", "event", "misc", "offset", "round", "timestamp", "type"])
+                for field in ("offset", "body_offset", "body_size", "round", "misc", "type"):
+                    self.assertEqual(frame[field].tolist(), [getattr(record, field) for record in records])
+                for field in ("timestamp", "attr_index"):
+                    found = [int(value) if is_present else None for value, is_present in zip(frame[field], frame[field].notna())]
+                    self.assertEqual(found, [getattr(record, field) for record in records])
+                names = [None if record.attr_index is None else recording.attributes[record.attr_index].name for record in records]
+                self.assertEqual(frame["event"].astype(object).where(frame["event"].notna(), None).tolist(), names)
+                self.assertIn(None, names)
+                self.assertEqual(records[3:9:2].to_pandas()["offset"].tolist(), [record.offset for record in records[3:9:2]])
+
+    def test_samples(self):
+        with dewikura.open(CALLS) as recording:
+            samples, frame = recording.samples, recording.samples.to_pandas()
+            for field in ("offset", "timestamp", "ip", "id", "period", "frames_start", "frames_count", "fields", "cpu", "pid", "tid", "misc", "error"):
+                self.assertEqual(frame[field].tolist(), [getattr(sample, field) for sample in samples])
+            self.assertEqual(frame["event"].tolist(), [recording.attributes[sample.attr_index].name for sample in samples])
+            self.assertEqual(recording.samples_by_time().to_pandas()["offset"].tolist(), [sample.offset for sample in recording.samples_by_time()])
+            self.assertEqual(samples[5:2:-1].to_pandas()["event"].tolist(), frame["event"].tolist()[5:2:-1])
+            frames = recording.frames.to_pandas()
+            self.assertEqual(list(frames), ["address", "context"])
+            self.assertEqual(frames["address"].tolist(), [frame.address for frame in recording.frames])
+        self.assertRaises(ValueError, samples.to_pandas)
+
+    def test_events_before_an_error(self):
+        data = bytearray(CALLS_PIPE.read_bytes())
+        with dewikura.from_buffer(data) as recording:
+            last = recording.records[-1]
+            names = recording.samples.to_pandas()["event"].tolist()
+        data[last.body_offset - 2:last.body_offset] = b"\1\0"
+        with dewikura.from_buffer(data) as recording:
+            samples, error = recording.partial_samples()
+            self.assertEqual(error.status, dewikura.Status.BAD_RECORD_SIZE)
+            self.assertEqual(samples.to_pandas()["event"].tolist(), names[:len(samples)])
+
+    def test_tasks_and_mappings(self):
+        for path in (CALLS, CALLS_PIPE):
+            with dewikura.open(path) as recording:
+                tasks = recording.tasks.to_pandas()
+                self.assertEqual(sorted(tasks), ["is_execve", "name", "offset", "pid", "ppid", "ptid", "tid", "timestamp", "type"])
+                self.assertEqual(tasks["name"].tolist(), [recording.name(task).decode() for task in recording.tasks])
+                self.assertIn("bash", tasks["name"].tolist())
+                for field in ("is_execve", "offset", "pid", "ppid", "ptid", "tid", "timestamp", "type"):
+                    self.assertEqual(tasks[field].tolist(), [getattr(task, field) for task in recording.tasks])
+                mappings = recording.mappings.to_pandas()
+                self.assertEqual(mappings["path"].tolist(), [recording.path(mapping).decode() for mapping in recording.mappings])
+                self.assertEqual(mappings["build_id"].tolist(), [mapping.build_id.hex() for mapping in recording.mappings])
+                for field in ("address", "length", "page_offset", "inode", "protection", "flags", "pid", "tid", "is_data", "misc", "type"):
+                    self.assertEqual(mappings[field].tolist(), [getattr(mapping, field) for mapping in recording.mappings])
+                self.assertFalse({"path_offset", "path_size", "build_id_size", "reserved"} & set(mappings))
+
+    def test_names_that_are_not_utf_8(self):
+        attribute = struct.pack("<IIQ", 1, 64, 0).ljust(80, b"\0")
+        record = struct.pack("<IHHii8s", 3, 0, 24, 1, 2, b"a\xffb")
+        header = b"PERFILE2" + struct.pack("<8Q", 104, 80, 104, 80, 184, 24, 0, 0) + bytes(32)
+        with dewikura.from_buffer(header + attribute + record) as recording:
+            self.assertEqual(recording.tasks.to_pandas()["name"].tolist(), ["a\\xffb"])
+
+
+class ReprTest(unittest.TestCase):
+    def test_reprs(self):
+        with dewikura.open(SEVERAL) as recording:
+            self.assertEqual(repr(recording), f"<Recording: file, {SEVERAL.stat().st_size} bytes>")
+            self.assertEqual((repr(recording.samples), repr(recording.samples[:3]), repr(recording.frames)), ("<Samples: 35>", "<Samples: 3>", "<Frames: 0>"))
+            self.assertEqual(repr(recording.records), f"<Records: {len(recording.records)}>")
+        with dewikura.open(CALLS_PIPE) as pipe:
+            self.assertEqual(repr(pipe), f"<Recording: pipe, {CALLS_PIPE.stat().st_size} bytes>")
+        with dewikura.open_jitdump(DUMP) as jitdump:
+            self.assertEqual(repr(jitdump), f"<JitDump: {DUMP.stat().st_size} bytes>")
+        self.assertEqual((repr(recording), repr(jitdump)), ("<Recording: closed>", "<JitDump: closed>"))
 
 
 class JitDumpTest(unittest.TestCase):
@@ -481,7 +569,7 @@ class ProgramTest(unittest.TestCase):
                     file.seek(0)
                     arguments = [PERFLIST, "pipe"] if kind is dewikura.Kind.PIPE else [PERFLIST, "file", file.name]
                     wanted = subprocess.run(arguments, stdin=file, capture_output=True, check=False)
-                    records, error = dewikura.from_buffer(data, kind=kind).partial()
+                    records, error = dewikura.from_buffer(data, kind=kind).partial_records()
                     lines = "".join(f"{record_line(record)}\n" for record in records)
                     self.assertEqual((error is not None, lines.encode()), (wanted.returncode == 2, wanted.stdout))
 

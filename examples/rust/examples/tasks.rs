@@ -10,23 +10,23 @@ fn hexadecimal(bytes: &[u8]) -> String {
 }
 
 fn task_line(task: &Task, input: &[u8]) -> String {
-    let parents = format!("{} {}", task.parent_pid, task.parent_tid);
+    let parents = format!("{} {}", task.ppid, task.ptid);
     let name = hexadecimal(task.name(input));
-    format!("task {} {} {} {} {} {} {parents} {name}", task.offset, task.timestamp, task.kind, task.is_exec() as u8, task.pid, task.tid)
+    format!("task {} {} {} {} {} {} {parents} {name}", task.offset, task.timestamp, task.record_type, task.is_execve() as u8, task.pid, task.tid)
 }
 
 fn mapping_line(mapping: &Mapping, input: &[u8]) -> String {
-    let Mapping { offset, timestamp, kind, misc, pid, tid, address, length, page_offset, .. } = mapping;
+    let Mapping { offset, timestamp, record_type, misc, pid, tid, address, length, page_offset, .. } = mapping;
     let Mapping { inode, inode_generation, major, minor, protection, flags, .. } = mapping;
     let file = format!("{inode} {inode_generation} {major} {minor} {protection} {flags} {}", mapping.is_data() as u8);
     let (build_id, path) = (hexadecimal(mapping.build_id()), hexadecimal(mapping.path(input)));
     let size = mapping.build_id().len();
-    format!("mapping {offset} {timestamp} {kind} {misc} {pid} {tid} {address} {length} {page_offset} {file} {size} 0 {build_id:0<40} {path}")
+    format!("mapping {offset} {timestamp} {record_type} {misc} {pid} {tid} {address} {length} {page_offset} {file} {size} 0 {build_id:0<40} {path}")
 }
 
 fn counter_line(counter: &Counter) -> String {
-    let Counter { sample, value, id, time_enabled, time_running, lost } = counter;
-    format!("counter {sample} {value} {id} {time_enabled} {time_running} {lost}")
+    let Counter { offset, value, id, time_enabled, time_running, lost } = counter;
+    format!("counter {offset} {value} {id} {time_enabled} {time_running} {lost}")
 }
 
 fn status(result: Result<(), Error>) -> u32 {

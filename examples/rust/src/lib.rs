@@ -118,18 +118,18 @@ pub struct Task {
     pub timestamp: u64,
     name_offset: u64,
     name_size: u64,
-    pub kind: u32,
-    is_exec: u32,
+    pub record_type: u32,
+    is_execve: u32,
     pub pid: i32,
     pub tid: i32,
-    pub parent_pid: i32,
-    pub parent_tid: i32,
+    pub ppid: i32,
+    pub ptid: i32,
 }
 
 impl Task {
     /// Whether the task has this name because it executed another program.
-    pub fn is_exec(&self) -> bool {
-        self.is_exec != 0
+    pub fn is_execve(&self) -> bool {
+        self.is_execve != 0
     }
 
     /// The bytes of the name in the input; empty for a start or an end.
@@ -151,7 +151,7 @@ pub struct Mapping {
     pub inode_generation: u64,
     path_offset: u64,
     path_size: u64,
-    pub kind: u32,
+    pub record_type: u32,
     pub major: u32,
     pub minor: u32,
     pub protection: u32,
@@ -192,7 +192,7 @@ pub struct Counter {
     pub time_running: u64,
     pub lost: u64,
     /// The offset of the record.
-    pub sample: u64,
+    pub offset: u64,
 }
 
 const _: () = assert!(size_of::<Record>() == 56 && size_of::<JitRecord>() == 24 && size_of::<Sample>() == 88 && size_of::<Frame>() == 16);

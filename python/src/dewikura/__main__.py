@@ -21,7 +21,7 @@ def record_line(record: dewikura.Record) -> str:
 
 def records(path: str) -> Tuple[Iterator[str], Optional[Exception]]:
     with open_recording(path) as recording:
-        found, error = recording.partial()
+        found, error = recording.partial_records()
         return map(record_line, found), error
 
 

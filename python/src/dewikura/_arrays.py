@@ -1,7 +1,7 @@
 """Sequences over arrays of structs."""
 
 import ctypes
-from typing import Any, Iterator, Sequence, Type, TypeVar, Union, overload
+from typing import Any, Dict, Iterator, Sequence, Type, TypeVar, Union, overload
 
 T = TypeVar("T", bound=ctypes.Structure)
 S = TypeVar("S", bound="StructSequence[Any]")
@@ -18,14 +18,24 @@ def numpy_dtype(struct: Type[ctypes.Structure]) -> Any:
     return numpy.dtype({"names": names, "formats": formats, "offsets": offsets, "itemsize": ctypes.sizeof(struct)})
 
 
+def words_of(array: Any, offset: int) -> memoryview:
+    """A view of the 64 bits at this offset in each struct of an array, as numbers."""
+    words, size = memoryview(array).cast("B").cast("Q"), ctypes.sizeof(array._type_)
+    return words[offset // 8::size // 8]
+
+
 class StructSequence(Sequence[T]):
-    """A sequence over an array of structs. A slice shares the array."""
+    """A sequence over an array of structs. A slice shares the array. `_source` is the input that the structs describe."""
 
     _struct: Type[T]
 
-    def __init__(self, array: Any, indices: range) -> None:
+    def __init__(self, array: Any, indices: range, source: Any = None) -> None:
         self._array = array
         self._indices = indices
+        self._source = source
+
+    def __repr__(self) -> str:
+        return f"<{type(self).__name__}: {len(self)}>"
 
     def __len__(self) -> int:
         return len(self._indices)
@@ -45,7 +55,7 @@ class StructSequence(Sequence[T]):
         return map(self._array.__getitem__, self._indices)
 
     def _slice(self: S, indices: range) -> S:
-        return type(self)(self._array, indices)
+        return type(self)(self._array, indices, self._source)
 
     def __buffer__(self, flags: int) -> memoryview:
         return self.to_memoryview()
@@ -61,3 +71,13 @@ class StructSequence(Sequence[T]):
 
         start, stop, step = self._indices.start, self._indices.stop, self._indices.step
         return numpy.frombuffer(self._array, dtype=numpy_dtype(self._struct))[slice(start, stop if stop >= 0 else None, step)]
+
+    def to_pandas(self) -> Any:
+        """Returns a data frame of pandas, a copy, with a column for each field of the struct, and with texts in place of their positions."""
+        import pandas
+
+        return pandas.DataFrame(self._columns(self.to_numpy()))
+
+    def _columns(self, array: Any) -> Dict[str, Any]:
+        """The columns of the data frame, by name."""
+        return {name: array[name] for name in array.dtype.names if name != "reserved"}

@@ -152,23 +152,23 @@ class Task(ctypes.Structure):
     name_size: int
     pid: int
     tid: int
-    parent_pid: int
-    parent_tid: int
-    _fields_ = [*((name, u64) for name in ("offset", "timestamp", "name_offset", "name_size")), ("_kind", u32), ("_is_exec", u32),
-                *((name, i32) for name in ("pid", "tid", "parent_pid", "parent_tid"))]
+    ppid: int
+    ptid: int
+    _fields_ = [*((name, u64) for name in ("offset", "timestamp", "name_offset", "name_size")), ("_type", u32), ("_is_execve", u32),
+                *((name, i32) for name in ("pid", "tid", "ppid", "ptid"))]
 
     @property
-    def kind(self) -> RecordType:
+    def type(self) -> RecordType:
         """COMM for a name, FORK for a start, EXIT for an end."""
-        return RecordType(self._kind)
+        return RecordType(self._type)
 
     @property
-    def is_exec(self) -> bool:
+    def is_execve(self) -> bool:
         """Whether the task has this name because it executed another program."""
-        return bool(self._is_exec)
+        return bool(self._is_execve)
 
     def __repr__(self) -> str:
-        return f"Task(kind={self.kind!r}, offset={self.offset}, timestamp={self.timestamp}, pid={self.pid}, tid={self.tid})"
+        return f"Task(type={self.type!r}, offset={self.offset}, timestamp={self.timestamp}, pid={self.pid}, tid={self.tid})"
 
 
 class Mapping(ctypes.Structure):
@@ -193,13 +193,13 @@ class Mapping(ctypes.Structure):
     misc: int
     _fields_ = [*((name, u64) for name in ("offset", "timestamp", "address", "length", "page_offset", "inode", "inode_generation", "path_offset",
                                            "path_size")),
-                *((name, u32) for name in ("_kind", "major", "minor", "protection", "flags")), ("pid", i32), ("tid", i32),
+                *((name, u32) for name in ("_type", "major", "minor", "protection", "flags")), ("pid", i32), ("tid", i32),
                 ("_build_id", u8 * 20), ("build_id_size", u8), ("_is_data", u8), ("misc", u16), ("_reserved", u32)]
 
     @property
-    def kind(self) -> RecordType:
+    def type(self) -> RecordType:
         """MMAP or MMAP2."""
-        return RecordType(self._kind)
+        return RecordType(self._type)
 
     @property
     def build_id(self) -> bytes:
@@ -222,18 +222,18 @@ class Mapping(ctypes.Structure):
 
 
 class Counter(ctypes.Structure):
-    """The value of a counter in a sample or in a READ record. What it doesn't have is 0. `sample` is the offset of the record."""
+    """The value of a counter in a sample or in a READ record. What it doesn't have is 0. `offset` is that of the record."""
 
     value: int
     id: int
     time_enabled: int
     time_running: int
     lost: int
-    sample: int
-    _fields_ = [(name, u64) for name in ("value", "id", "time_enabled", "time_running", "lost", "sample")]
+    offset: int
+    _fields_ = [(name, u64) for name in ("value", "id", "time_enabled", "time_running", "lost", "offset")]
 
     def __repr__(self) -> str:
-        return f"Counter(value={self.value}, id={self.id}, sample={self.sample})"
+        return f"Counter(value={self.value}, id={self.id}, offset={self.offset})"
 
 
 class Attr(ctypes.Structure):

@@ -100,6 +100,9 @@ class JitDump(ContextManager["JitDump"]):
         self._view: Optional[memoryview] = memoryview(data).cast("B")
         self._mapping = mapping
 
+    def __repr__(self) -> str:
+        return "<JitDump: closed>" if self._view is None else f"<JitDump: {len(self._view)} bytes>"
+
     def __exit__(self, *_: object) -> None:
         self.close()
 

@@ -9,11 +9,13 @@ import itertools
 import mmap
 import os
 import sys
+from array import array as number_array
 from ctypes import c_uint8 as u8, c_uint64 as u64
-from typing import Any, ContextManager, Iterator, Literal, Mapping as AnyMapping, NamedTuple, Optional, Tuple, Type, TypeVar, Union
+from typing import (Any, ContextManager, Dict, Iterable, Iterator, List, Literal, Mapping as AnyMapping, NamedTuple, Optional, Tuple, Type,
+                    TypeVar, Union)
 
 from . import _native, _structs
-from ._arrays import StructSequence
+from ._arrays import StructSequence, words_of
 from ._structs import Counter, Frame, Mapping, Record, Sample, SampleDetails, Task, known
 from .constants import AttrFlag, DsoKind, EventType, Feature, InputKind, ReadFormat, SampleType, Status, SymbolFileType
 from .errors import PerfDataError, check, error_of
@@ -34,6 +36,26 @@ class Kind(enum.Enum):
     PIPE = "pipe"
 
 
+class Source(NamedTuple):
+    """The input of a recording, whose names and paths the structs of its sequences refer to."""
+
+    data: memoryview
+    kind: Kind
+
+    def texts(self, offsets: Iterable[int], sizes: Iterable[int]) -> List[str]:
+        """The texts at these offsets. Bytes that aren't UTF-8 are written as `\\xNN`."""
+        return [bytes(self.data[offset:offset + size]).decode("utf-8", "backslashreplace") for offset, size in zip(offsets, sizes)]
+
+    def event_names(self, indices: Any) -> Any:
+        """The names of the attributes with these indices, as a categorical; absent for -1 and for an attribute without a name."""
+        import numpy
+        import pandas
+
+        attrs, names, _, count, _ = _read_attrs(self)
+        texts = [_attr_name(attrs[index], names, "backslashreplace") for index in range(count)]
+        return pandas.Categorical(numpy.array([*texts, None], dtype=object)[indices])
+
+
 class Records(StructSequence[Record]):
     """The records of a recording, as a sequence over the array that the library filled."""
 
@@ -47,6 +69,16 @@ class Records(StructSequence[Record]):
         present = {"timestamp": "has_timestamp", "attr_index": "has_attr"}[field]
         return numpy.ma.masked_array(array[field], mask=array[present] == 0)
 
+    def _columns(self, array: Any) -> Dict[str, Any]:
+        import numpy
+        import pandas
+
+        columns = super()._columns(array)
+        for name, has_value in (("timestamp", columns.pop("has_timestamp")), ("attr_index", columns.pop("has_attr"))):
+            columns[name] = pandas.arrays.IntegerArray(array[name].copy(), has_value == 0)
+        columns["event"] = self._source.event_names(numpy.where(array["has_attr"], array["attr_index"].astype("i8"), -1))
+        return columns
+
 
 class Frames(StructSequence[Frame]):
     """The frames of the samples of a recording, or of one sample."""
@@ -59,12 +91,15 @@ class Samples(StructSequence[Sample]):
 
     _struct = Sample
 
-    def __init__(self, array: Any, indices: range, frames: Frames) -> None:
-        super().__init__(array, indices)
+    def __init__(self, array: Any, indices: range, frames: Frames, source: Any = None) -> None:
+        super().__init__(array, indices, source)
         self._frames = frames
 
     def _slice(self, indices: range) -> "Samples":
-        return Samples(self._array, indices, self._frames)
+        return Samples(self._array, indices, self._frames, self._source)
+
+    def _columns(self, array: Any) -> Dict[str, Any]:
+        return {**super()._columns(array), "event": self._source.event_names(array["attr_index"])}
 
     def frames_of(self, sample: Union[Sample, int]) -> Frames:
         """Returns the frames of a sample's call chain, innermost first."""
@@ -78,11 +113,25 @@ class Tasks(StructSequence[Task]):
 
     _struct = Task
 
+    def _columns(self, array: Any) -> Dict[str, Any]:
+        columns = super()._columns(array)
+        columns["name"] = self._source.texts(columns.pop("name_offset").tolist(), columns.pop("name_size").tolist())
+        columns["is_execve"] = array["is_execve"] != 0
+        return columns
+
 
 class Mappings(StructSequence[Mapping]):
     """The mappings of a recording."""
 
     _struct = Mapping
+
+    def _columns(self, array: Any) -> Dict[str, Any]:
+        columns = super()._columns(array)
+        columns["path"] = self._source.texts(columns.pop("path_offset").tolist(), columns.pop("path_size").tolist())
+        sizes = columns.pop("build_id_size").tolist()
+        columns["build_id"] = [build_id[:size].tobytes().hex() for build_id, size in zip(array["build_id"], sizes)]
+        columns["is_data"] = array["is_data"] != 0
+        return columns
 
 
 class Counters(StructSequence[Counter]):
@@ -126,13 +175,30 @@ _SAME_NAMES = ("config", "config1", "config2", "config3", "size", "wakeup_events
                "sample_regs_intr", "sample_stack_user", "clockid", "aux_watermark", "aux_sample_size", "sample_max_stack", "sig_data")
 
 
+def _attr_name(attr: _structs.Attr, names: bytes, errors: str = "surrogateescape") -> Optional[str]:
+    return names[attr.name_offset:attr.name_offset + attr.name_size].decode("utf-8", errors) if attr.has_name else None
+
+
+def _read_attrs(source: Source) -> Tuple[Any, bytes, Any, int, int]:
+    """The attributes, their names and ids, the number of attributes, and the status."""
+    totals, capacities = _structs.AttrTotals(), (0, 0, 0)
+    while True:
+        attrs, names, ids = ((kind * max(count, 1))() for kind, count in zip((_structs.Attr, u8, u64), capacities))
+        with _native.Input(source.data) as (address, size):
+            status = _native.read_attrs[source.kind.value](
+                address, size, attrs, capacities[0], names, capacities[1], ids, capacities[2], totals)
+        found = totals.attr_count, totals.names_size, totals.ids_count
+        if found == capacities:
+            return attrs, bytes(names), ids, totals.attr_count, status
+        capacities = found
+
+
 def _attribute(index: int, attr: _structs.Attr, names: bytes, ids) -> Attribute:
-    name = names[attr.name_offset:attr.name_offset + attr.name_size].decode("utf-8", "surrogateescape") if attr.has_name else None
     flags = AttrFlag(attr.flags)
     period = attr.sample_period_or_freq
     is_freq = bool(flags & AttrFlag.FREQ)
     return Attribute(
-        index=index, name=name, ids=tuple(ids[attr.ids_start:attr.ids_start + attr.ids_count]), type=known(EventType, attr.type),
+        index=index, name=_attr_name(attr, names), ids=tuple(ids[attr.ids_start:attr.ids_start + attr.ids_count]), type=known(EventType, attr.type),
         sample_period=None if is_freq else period, sample_freq=period if is_freq else None, sample_type=SampleType(attr.sample_type),
         read_format=ReadFormat(attr.read_format), flags=flags, **{field: getattr(attr, field) for field in _SAME_NAMES})
 
@@ -238,6 +304,9 @@ class Recording(ContextManager["Recording"]):
         self._kept: dict = {}
         self.kind = kind
 
+    def __repr__(self) -> str:
+        return "<Recording: closed>" if self._view is None else f"<Recording: {self.kind.value}, {len(self._view)} bytes>"
+
     def __exit__(self, *_: object) -> None:
         self.close()
 
@@ -257,6 +326,10 @@ class Recording(ContextManager["Recording"]):
             raise ValueError("the recording is closed")
         return self._view
 
+    @property
+    def _source(self) -> Source:
+        return Source(self._data, self.kind)
+
     def _keep(self, name: str, read):
         data = self._data
         if name not in self._kept:
@@ -269,21 +342,21 @@ class Recording(ContextManager["Recording"]):
         with _native.Input(self._data) as (address, size):
             return "big" if _native.is_big_endian(address, size) else "little"
 
-    def partial(self) -> Tuple[Records, Optional[Exception]]:
+    def partial_records(self) -> Tuple[Records, Optional[Exception]]:
         """Returns the records before the first error, and that error, or None if there is none."""
         return self._keep("records", self._read_records)
 
     @property
     def records(self) -> Records:
         """All records in the order of the input. Raises the first error of the input."""
-        records, error = self.partial()
+        records, error = self.partial_records()
         if error is not None:
             raise error
         return records
 
     def records_by_time(self) -> Records:
         """A copy of all records in order of time: those without a time first, records with one time in the order of the input."""
-        return self._keep("records_by_time", lambda _data: self._sorted(self.records))
+        return self._keep("records_by_time", lambda _data: self._records_sorted(self.records))
 
     def partial_samples(self) -> Tuple[Samples, Optional[Exception]]:
         """Returns the samples before the first error, and that error, or None if there is none."""
@@ -304,7 +377,7 @@ class Recording(ContextManager["Recording"]):
 
     def details(self, record: Record) -> SampleDetails:
         """Returns what else the record of a sample has. Its offsets are those in `body(record)`."""
-        details, attribute = SampleDetails(), self._keep("attrs", self._read_attrs)[0][record.attr_index]
+        details, attribute = SampleDetails(), self._keep("attrs", lambda _data: self._read_attrs())[0][record.attr_index]
         with _native.Input(self.body(record)) as (address, size):
             check(_native.read_sample_details(address, size, self.byteorder == "big", attribute, details))
         return details
@@ -365,7 +438,7 @@ class Recording(ContextManager["Recording"]):
         """Returns a view of the bytes of a record's body, aux data included."""
         data = self._data
         if not isinstance(record, Record):
-            record = self.partial()[0][record]
+            record = self.partial_records()[0][record]
         return data[record.body_offset:record.body_offset + record.body_size].toreadonly()
 
     @property
@@ -442,7 +515,7 @@ class Recording(ContextManager["Recording"]):
         read = self._read_file_records if self.kind is Kind.FILE else self._read_pipe_records
         array, count, status = read(data)
         error = None if status == Status.OK else error_of(status, count)
-        return Records(array, range(count)), error
+        return Records(array, range(count), self._source), error
 
     @staticmethod
     def _read_file_records(data: memoryview) -> Tuple[Any, int, int]:
@@ -477,7 +550,7 @@ class Recording(ContextManager["Recording"]):
         read = self._read_file_samples if self.kind is Kind.FILE else self._read_pipe_samples
         samples, count, frames, frames_count, status = read(data)
         error = None if status == Status.OK else error_of(status)
-        return Samples(samples, range(count), Frames(frames, range(frames_count))), error
+        return Samples(samples, range(count), Frames(frames, range(frames_count)), self._source), error
 
     @staticmethod
     def _read_file_samples(data: memoryview) -> Tuple[Any, int, Any, int, int]:
@@ -517,7 +590,7 @@ class Recording(ContextManager["Recording"]):
     def _read_entries(self, data: memoryview, kind: Type[S]) -> Tuple[S, Optional[Exception]]:
         read = self._read_file_entries if self.kind is Kind.FILE else self._read_pipe_entries
         array, count, status = read(data, kind._struct)
-        return kind(array, range(count)), None if status == Status.OK else error_of(status)
+        return kind(array, range(count), self._source), None if status == Status.OK else error_of(status)
 
     @staticmethod
     def _read_file_entries(data: memoryview, struct: Any) -> Tuple[Any, int, int]:
@@ -546,38 +619,36 @@ class Recording(ContextManager["Recording"]):
                 return array, total.value, status
             capacity = total.value
 
-    @staticmethod
-    def _samples_sorted(samples: Samples) -> Samples:
-        """The times 0 and 2^64 - 1 count as none, as in dewikura_sort_records."""
-        times = [sample.timestamp for sample in samples]
-        order = sorted(range(len(times)), key=lambda index: 0 if times[index] == 2**64 - 1 else times[index])
-        array = (Sample * max(len(order), 1))(*map(samples.__getitem__, order))
-        return Samples(array, range(len(order)), samples._frames)
-
-    @staticmethod
-    def _sorted(records: Records) -> Records:
+    def _records_sorted(self, records: Records) -> Records:
         array = (Record * max(len(records), 1))()
         ctypes.memmove(array, records._array, len(records) * ctypes.sizeof(Record))
         check(_native.sort_records(array, len(records)))
-        return Records(array, range(len(records)))
+        return Records(array, range(len(records)), self._source)
 
-    def _read_attrs(self, data: memoryview) -> Tuple[Any, bytes, Any, int]:
+    def _samples_sorted(self, samples: Samples) -> Samples:
+        """Sorts records that have the times and the indices of the samples, and copies the samples in the order of these indices."""
+        count = len(samples)
+        if count == 0:
+            return samples
+        records, sorted_samples = (Record * count)(), (Sample * count)()
+        words_of(records, Record._timestamp.offset)[:] = words_of(samples._array, Sample.timestamp.offset)[:count]
+        words_of(records, Record.offset.offset)[:] = memoryview(number_array("Q", range(count)))
+        memoryview(records).cast("B")[Record.has_timestamp.offset::ctypes.sizeof(Record)] = b"\1" * count
+        check(_native.sort_records(records, count))
+        order = number_array("Q", words_of(records, Record.offset.offset))
+        for offset in range(0, ctypes.sizeof(Sample), 8):
+            words = words_of(samples._array, offset)
+            words_of(sorted_samples, offset)[:] = memoryview(number_array("Q", map(words.__getitem__, order)))
+        return Samples(sorted_samples, range(count), samples._frames, self._source)
+
+    def _read_attrs(self) -> Tuple[Any, bytes, Any, int]:
         """The attributes, their names and ids, and the number of attributes."""
-        totals, capacities = _structs.AttrTotals(), (0, 0, 0)
-        while True:
-            attrs, names, ids = ((kind * max(count, 1))() for kind, count in zip((_structs.Attr, u8, u64), capacities))
-            with _native.Input(data) as (address, size):
-                status = _native.read_attrs[self.kind.value](
-                    address, size, attrs, capacities[0], names, capacities[1], ids, capacities[2], totals)
-            found = totals.attr_count, totals.names_size, totals.ids_count
-            if found == capacities:
-                break
-            capacities = found
+        *found, status = _read_attrs(self._source)
         check(status)
-        return attrs, bytes(names), ids, totals.attr_count
+        return tuple(found)
 
     def _read_attributes(self) -> Tuple[Attribute, ...]:
-        attrs, names, ids, count = self._keep("attrs", self._read_attrs)
+        attrs, names, ids, count = self._keep("attrs", lambda _data: self._read_attrs())
         return tuple(_attribute(index, attrs[index], names, ids) for index in range(count))
 
     def _read_feature_set(self, data: memoryview) -> _Features:
@@ -610,7 +681,6 @@ class Recording(ContextManager["Recording"]):
         if status != Status.TRUNCATED:
             check(status)
         return tuple(found)
-
 
     def _read_meta_info(self) -> AnyMapping[str, str]:
         section, count, capacity = self.features.get(Feature.SIMPLEPERF_META_INFO, memoryview(b"")), u64(), 0
