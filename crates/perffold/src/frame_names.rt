@@ -2,6 +2,7 @@
 
 use crate::names::NameTable;
 use crate::symbols::kernel::KERNEL_PATH;
+use crate::symbols::kernel_list::NoList;
 use crate::symbols::{FileCounts, Lookup, Symbols};
 use linux_perf_data::{Error, PerfFile, RawUserRecord};
 use perfdata_events::call_chain::{CallContext, Frame};
@@ -140,6 +141,15 @@ impl<'a> FrameNames<'a> {
     pub(crate) fn file_counts(&self) -> Option<FileCounts> {
         match &self.source {
             NameSource::Symbols(symbols) => Some(symbols.counts()),
+            _ => None,
+        }
+    }
+
+    /// Returns why frames of the kernel have no names of symbols, if there are such frames and no option asks
+    /// for it.
+    pub(crate) fn missing_kernel_list(&self) -> Option<&NoList> {
+        match &self.source {
+            NameSource::Symbols(symbols) => symbols.missing_kernel_list(),
             _ => None,
         }
     }

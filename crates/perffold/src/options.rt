@@ -45,6 +45,9 @@ const DEBUG_DIR: &str = "debug-dir";
 // The id of the option of the kernel's list of symbols.
 const KALLSYMS: &str = "kallsyms";
 
+// The value of the option of the kernel's list of symbols for none.
+const NO_LIST: &str = "none";
+
 // The id of the option of the directory of perf-PID.map files.
 const MAPS: &str = "maps";
 
@@ -91,6 +94,19 @@ pub(crate) enum OutputFormat {
     Svg,
 }
 
+/// Which list names the kernel's functions.
+#[derive(Clone, Copy)]
+pub(crate) enum KernelList<'a> {
+    /// That of a file.
+    File(&'a str),
+    /// That of the running kernel, if it is the recorded one.
+    Running,
+    /// None, as `--kallsyms` says.
+    Nothing,
+    /// None, since files are those of another machine.
+    OtherMachine,
+}
+
 /// Where symbols are.
 #[derive(Clone, Copy)]
 pub(crate) struct SymbolOptions<'a> {
@@ -99,7 +115,7 @@ pub(crate) struct SymbolOptions<'a> {
     /// The directory of debug files.
     pub(crate) debug_dir: Option<&'a str>,
     /// The kernel's list of symbols.
-    pub(crate) kallsyms: Option<&'a str>,
+    pub(crate) kernel_list: KernelList<'a>,
     /// The directory of perf-PID.map files.
     pub(crate) maps: Option<&'a str>,
 }
@@ -159,7 +175,7 @@ fn with_selection<'a>(alloc: Global, command: Command<'a>) -> Result<Command<'a>
             "EVENT",
             "Count the samples of the event with this name or index [default: that of the first sample]",
         ))?
-        .arg(flag(alloc, ALL_EVENTS, "Count the samples of all events"))?
+        .arg(flag(alloc, ALL_EVENTS, "Count the samples of all events").conflicts_with(EVENT)?)?
         .arg(weight_option(alloc))
 }
 
@@ -170,7 +186,7 @@ fn with_symbols<'a>(alloc: Global, command: Command<'a>) -> Result<Command<'a>, 
             alloc,
             SYMFS,
             "DIR",
-            "Look for mapped files and debug files below DIR, which no link may leave",
+            "Look for mapped files, debug files and perf-PID.map files below DIR, which no link may leave",
         ))?
         .arg(option(
             alloc,
@@ -182,7 +198,7 @@ fn with_symbols<'a>(alloc: Global, command: Command<'a>) -> Result<Command<'a>, 
             alloc,
             KALLSYMS,
             "FILE",
-            "Name the kernel's functions by FILE, a copy of /proc/kallsyms",
+            "Name the kernel's functions by FILE, a copy of /proc/kallsyms, or by nothing if it is none [default: /proc/kallsyms if the running kernel is the recorded one]",
         ))?
         .arg(option(
             alloc,
@@ -202,7 +218,11 @@ fn with_names<'a>(alloc: Global, command: Command<'a>) -> Result<Command<'a>, Al
             "Add the process id and the thread id to the name of the thread",
         ))?
         .arg(flag(alloc, NO_SYMBOLS, "Name frames by their files"))?
-        .arg(flag(alloc, RAW, "Name frames by their addresses"))
+        .arg(
+            flag(alloc, RAW, "Name frames by their addresses")
+                .conflicts_with(NO_SYMBOLS)?
+                .conflicts_with(SYMFS)?,
+        )
 }
 
 // Returns the command with its options.
@@ -254,12 +274,22 @@ fn name_kind_of(matches: &ArgMatches<'_>) -> NameKind {
     }
 }
 
+// Returns which list names the kernel's functions.
+fn kernel_list_of<'a>(matches: &ArgMatches<'a>) -> KernelList<'a> {
+    match (matches.get_str(KALLSYMS), matches.get_str(SYMFS)) {
+        (Some(NO_LIST), _) => KernelList::Nothing,
+        (Some(path), _) => KernelList::File(path),
+        (None, Some(_)) => KernelList::OtherMachine,
+        (None, None) => KernelList::Running,
+    }
+}
+
 // Returns where symbols are.
 fn symbols_of<'a>(matches: &ArgMatches<'a>) -> SymbolOptions<'a> {
     SymbolOptions {
         symfs: matches.get_str(SYMFS),
         debug_dir: matches.get_str(DEBUG_DIR),
-        kallsyms: matches.get_str(KALLSYMS),
+        kernel_list: kernel_list_of(matches),
         maps: matches.get_str(MAPS),
     }
 }

@@ -4,6 +4,7 @@ use crate::fold::Folder;
 use crate::options::{Arguments, OutputFormat, Weight};
 use crate::records::Records;
 use crate::symbols::FileCounts;
+use crate::symbols::kernel_list::NoList;
 use linux_perf_data::in_memory::InMemoryReader;
 use perfdata_cli::error::{InputError, ProgramError};
 use perfdata_cli::input::{Input, open_in_memory};
@@ -65,6 +66,22 @@ fn print_other_events(rt: &HostRuntime, name: &str, samples: u64) {
     }
 }
 
+// Writes on standard error how many samples have fields that aren't known, if there are any.
+fn print_undecoded(rt: &HostRuntime, name: &str, samples: u64) {
+    if samples != 0 {
+        let _ = eprintln!(rt;
+            "{name}: {samples} samples can't be decoded: their fields aren't known"
+        );
+    }
+}
+
+// Writes on standard error why the kernel's functions have no names, if so.
+fn print_missing_list(rt: &HostRuntime, name: &str, missing: Option<&NoList>) {
+    if let Some(why) = missing {
+        let _ = eprintln!(rt; "{name}: functions of the kernel have no names: {why}");
+    }
+}
+
 // Writes on standard error how many files with symbols weren't used or compared, if there are any.
 fn print_file_counts(rt: &HostRuntime, name: &str, counts: FileCounts) {
     let (different, unknown) = (counts.different, counts.unknown);
@@ -93,6 +110,8 @@ fn finish(
     let counts = folder.counts()?;
     write_counts(rt, arguments, &counts).map_err(ProgramError::Output)?;
     print_other_events(rt, name, folder.other_events());
+    print_undecoded(rt, name, folder.undecoded());
+    print_missing_list(rt, name, folder.missing_kernel_list());
     if let Some(counts) = folder.file_counts() {
         print_file_counts(rt, name, counts);
         print_unreadable(rt, name, counts.unreadable);
