@@ -54,6 +54,18 @@ const MAPS: &str = "maps";
 // The id of the flag for a flame graph.
 const SVG: &str = "svg";
 
+// The id of the option of the format.
+const FORMAT: &str = "format";
+
+// The values of the option of the format.
+const FORMATS: &[&str] = &["folded", SVG, TOP];
+
+// The value of the option of the format for the table of functions.
+const TOP: &str = "top";
+
+// The id of the option of the file that is written.
+const OUTPUT: &str = "output";
+
 /// What a sample counts.
 #[derive(Clone, Copy, PartialEq, Eq)]
 pub(crate) enum Weight {
@@ -92,6 +104,8 @@ pub(crate) enum OutputFormat {
     Lines,
     /// A flame graph.
     Svg,
+    /// The table of the functions with the most samples.
+    Top,
 }
 
 /// Which list names the kernel's functions.
@@ -136,7 +150,10 @@ pub(crate) struct Options<'a> {
 #[derive(Clone, Copy)]
 pub(crate) struct Arguments<'a> {
     pub(crate) options: Options<'a>,
-    pub(crate) format: OutputFormat,
+    /// What is written, if an argument says so.
+    pub(crate) format: Option<OutputFormat>,
+    /// The file that is written instead of standard output.
+    pub(crate) output: Option<&'a str>,
 }
 
 // Returns a flag.
@@ -225,10 +242,30 @@ fn with_names<'a>(alloc: Global, command: Command<'a>) -> Result<Command<'a>, Al
         )
 }
 
+// Adds the options of the output.
+fn with_output<'a>(alloc: Global, command: Command<'a>) -> Result<Command<'a>, AllocError> {
+    let format = option(
+        alloc,
+        FORMAT,
+        "FORMAT",
+        "Write lines, a flame graph or the functions with the most samples [default: top on a terminal, svg for a FILE.svg, else folded]",
+    );
+    let svg = flag(alloc, SVG, "Write a flame graph, an SVG file for a browser");
+    let output = option(
+        alloc,
+        OUTPUT,
+        "FILE",
+        "Write FILE in place of standard output",
+    );
+    command
+        .arg(svg.conflicts_with(FORMAT)?)?
+        .arg(format.value_parser(FORMATS))?
+        .arg(output.short('o'))
+}
+
 // Returns the command with its options.
 fn command_with_options<'a>(alloc: Global, name: &'a str) -> Result<Command<'a>, AllocError> {
-    let svg = flag(alloc, SVG, "Write a flame graph, an SVG file for a browser");
-    let command = command(alloc, name, ABOUT, RECORDING_HELP)?.arg(svg)?;
+    let command = with_output(alloc, command(alloc, name, ABOUT, RECORDING_HELP)?)?;
     let command = with_selection(alloc, command)?;
     with_names(alloc, with_symbols(alloc, command)?)
 }
@@ -294,12 +331,15 @@ fn symbols_of<'a>(matches: &ArgMatches<'a>) -> SymbolOptions<'a> {
     }
 }
 
-// Returns what is written.
-fn format_of(matches: &ArgMatches<'_>) -> OutputFormat {
+// Returns what is written, if an argument says so.
+fn format_of(matches: &ArgMatches<'_>) -> Option<OutputFormat> {
     if matches.get_flag(SVG) {
-        OutputFormat::Svg
-    } else {
-        OutputFormat::Lines
+        return Some(OutputFormat::Svg);
+    }
+    match matches.get_str(FORMAT)? {
+        SVG => Some(OutputFormat::Svg),
+        TOP => Some(OutputFormat::Top),
+        _ => Some(OutputFormat::Lines),
     }
 }
 
@@ -325,5 +365,6 @@ pub(crate) fn parse<'a>(
     Ok(Arguments {
         options: options_of(&matches),
         format: format_of(&matches),
+        output: matches.get_str(OUTPUT),
     })
 }

@@ -82,9 +82,9 @@ fn note_layout(entry: Entry<'_>, has_align_8: bool) -> Option<NoteLayout>
     })
 }
 
-/// Returns the build id in the notes of a kernel (`/sys/kernel/notes` on Linux), which are aligned to 4 bytes:
-/// the description of the first note of the type `NT_GNU_BUILD_ID` whose owner is `GNU`. `None` if there is
-/// none, or a note before it is truncated.
+/// Returns the build id in the notes of a kernel (`/sys/kernel/notes` of Linux), aligned to 4 bytes: the
+/// description of the first note of the type `NT_GNU_BUILD_ID` whose owner is `GNU`. `None` if there is none,
+/// or a note before it is truncated.
 pub fn build_id_of_notes(endian: Endianness, notes: &[u8]) -> Option<&[u8]> {
     let encoding = Encoding {
         endian,
