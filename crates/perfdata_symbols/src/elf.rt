@@ -17,6 +17,7 @@ mod symbols;
 pub use header::Segment;
 use header::{FileHeader, Section};
 use input::{Encoding, Entry, read_table};
+pub use notes::build_id_of_notes;
 use notes::{NoteRange, build_id_in};
 use strings::Strings;
 use symbols::{SymbolContext, add_symbols};

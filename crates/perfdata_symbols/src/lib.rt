@@ -16,7 +16,7 @@ pub mod symbol;
 pub mod table;
 mod text;
 
-pub use elf::{DebugLink, ElfFile, Segment, SymbolSection};
+pub use elf::{DebugLink, ElfFile, Segment, SymbolSection, build_id_of_notes};
 pub use error::{ElfError, ElfTable, JitSymbolsError};
 pub use jit::JitSymbols;
 pub use kallsyms::{address_of, parse_kallsyms};

@@ -6,9 +6,10 @@ use crate::options::{Options, ThreadIds, Weight};
 use crate::records::Records;
 use crate::selection::Selection;
 use crate::symbols::FileCounts;
+use crate::symbols::kernel_list::NoList;
 use bitflags::Flags;
 use linux_perf_data::attr::PerfEventAttr;
-use linux_perf_data::event::RawEventRecord;
+use linux_perf_data::event::{RawEventRecord, RecordType};
 use linux_perf_data::{Error, PerfFile, PerfFileRecord, UserRecordType};
 use perfdata_cli::error::InputError;
 use perfdata_cli::position::Position;
@@ -48,6 +49,7 @@ pub(crate) struct Folder<'a> {
     comm: Vec<u8>,
     records: u64,
     other_events: u64,
+    undecoded: u64,
 }
 
 // Returns the error of a sum that no u64 holds.
@@ -101,12 +103,18 @@ impl<'a> Folder<'a> {
             comm: Vec::new(alloc),
             records: 0,
             other_events: 0,
+            undecoded: 0,
         }
     }
 
     /// Returns the number of samples of events that aren't selected.
     pub(crate) fn other_events(&self) -> u64 {
         self.other_events
+    }
+
+    /// Returns the number of samples with fields that aren't known.
+    pub(crate) fn undecoded(&self) -> u64 {
+        self.undecoded
     }
 
     /// Returns whether no sample has the event that `--event` names.
@@ -117,6 +125,12 @@ impl<'a> Folder<'a> {
     /// Returns how many files with symbols there are of which kind, if files are read.
     pub(crate) fn file_counts(&self) -> Option<FileCounts> {
         self.frame_names.file_counts()
+    }
+
+    /// Returns why frames of the kernel have no names of symbols, if there are such frames and no option asks
+    /// for it.
+    pub(crate) fn missing_kernel_list(&self) -> Option<&NoList> {
+        self.frame_names.missing_kernel_list()
     }
 
     // Sets the name of a thread, without its ids.
@@ -149,10 +163,13 @@ impl<'a> Folder<'a> {
         sample: &SampleRecord<'_>,
     ) -> Result<(), Error> {
         self.stack.clear();
+        let mut context = None;
         for frame in SampleFrames::new(sample, context_of_mode(misc)) {
+            let is_caller = context == Some(frame.context);
+            context = Some(frame.context);
             let number = self
                 .frame_names
-                .number(origin, frame, &self.spaces, &mut self.names)?;
+                .number(origin, frame, is_caller, &self.spaces, &mut self.names)?;
             self.stack.push(number)?;
         }
         Ok(())
@@ -224,6 +241,10 @@ impl<'a> Folder<'a> {
                     return self.add_sample(event.attributes(), raw.misc, &sample);
                 }
                 self.other_events = self.other_events.saturating_add(1);
+                Ok(())
+            }
+            EventRecord::Raw(raw) if raw.record_type == RecordType::SAMPLE => {
+                self.undecoded = self.undecoded.saturating_add(1);
                 Ok(())
             }
             record => {

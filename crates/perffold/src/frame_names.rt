@@ -2,6 +2,7 @@
 
 use crate::names::NameTable;
 use crate::symbols::kernel::KERNEL_PATH;
+use crate::symbols::kernel_list::NoList;
 use crate::symbols::{FileCounts, Lookup, Symbols};
 use linux_perf_data::{Error, PerfFile, RawUserRecord};
 use perfdata_events::call_chain::{CallContext, Frame};
@@ -106,6 +107,13 @@ fn push_address(text: &mut Vec<u8>, address: u64) -> Result<(), AllocError> {
     }
 }
 
+// Returns the frame at whose address the name of a frame is looked up. A caller's address is that of the
+// instruction after its call, which can belong to another function: its name is that of the byte before.
+fn looked_up(frame: Frame, is_caller: bool) -> Option<Frame> {
+    let address = frame.address.checked_sub(u64::from(is_caller))?;
+    Some(Frame { address, ..frame })
+}
+
 // Returns the process whose jitdump describes the code at an address: the one that made this mapping.
 fn generator_of(mapping: Option<&Mapping>, pid: i32) -> i32 {
     match mapping {
@@ -133,6 +141,15 @@ impl<'a> FrameNames<'a> {
     pub(crate) fn file_counts(&self) -> Option<FileCounts> {
         match &self.source {
             NameSource::Symbols(symbols) => Some(symbols.counts()),
+            _ => None,
+        }
+    }
+
+    /// Returns why frames of the kernel have no names of symbols, if there are such frames and no option asks
+    /// for it.
+    pub(crate) fn missing_kernel_list(&self) -> Option<&NoList> {
+        match &self.source {
+            NameSource::Symbols(symbols) => symbols.missing_kernel_list(),
             _ => None,
         }
     }
@@ -303,17 +320,14 @@ impl<'a> FrameNames<'a> {
         symbols.code_number(pid, frame.address, origin.time, names)
     }
 
-    /// Returns the number of the name of a frame of a sample.
-    pub(crate) fn number(
+    // Returns the number of the name of a frame by what is mapped at its address.
+    fn found_number(
         &mut self,
         origin: SampleOrigin,
         frame: Frame,
         spaces: &AddressSpaces,
         names: &mut NameTable,
     ) -> Result<usize, AllocError> {
-        if matches!(self.source, NameSource::Addresses) {
-            return self.address_number(frame.address, names);
-        }
         let index = spaces.find_index(origin.pid, frame.address, frame.context);
         let mapping = match index {
             Some(index) => spaces.mapping(index),
@@ -325,6 +339,24 @@ impl<'a> FrameNames<'a> {
         match (index, mapping) {
             (Some(index), Some(mapping)) => self.mapped_number(index, mapping, frame, names),
             _ => names.number(UNKNOWN),
+        }
+    }
+    /// Returns the number of the name of a frame of a sample. A caller is looked up at its return address
+    /// less one.
+    pub(crate) fn number(
+        &mut self,
+        origin: SampleOrigin,
+        frame: Frame,
+        is_caller: bool,
+        spaces: &AddressSpaces,
+        names: &mut NameTable,
+    ) -> Result<usize, AllocError> {
+        if matches!(self.source, NameSource::Addresses) {
+            return self.address_number(frame.address, names);
+        }
+        match looked_up(frame, is_caller) {
+            Some(frame) => self.found_number(origin, frame, spaces, names),
+            None => names.number(UNKNOWN),
         }
     }
 }

@@ -10,11 +10,12 @@ mod output;
 mod records;
 mod selection;
 mod symbols;
+mod top;
 
 use fold::Folder;
 use frame_names::NameSource;
 use options::{Arguments, NameKind, Options, parse};
-use output::fold_input;
+use output::{FoldError, fold_input};
 use perfdata_cli::command_line::{SUCCESS, arguments, print_argument_error, print_clap_error};
 use perfdata_cli::error::{InputError, ProgramError, print_error};
 use perfdata_cli::input::{display_name, path_of};
@@ -25,12 +26,18 @@ use symbols::directories::PathError;
 // The program's name.
 const NAME: &str = "perffold";
 
+// Prints an error of a path of the command line. Returns the exit status.
+fn print_path_error(rt: &HostRuntime, PathError { path, error }: PathError<'_>) -> u8 {
+    print_error(rt, NAME, path, &ProgramError::Input(InputError::Io(error)))
+}
+
 // Folds the input that the options name. Returns the exit status.
 fn fold_named(rt: &HostRuntime, arguments: &Arguments<'_>, folder: &mut Folder<'_>) -> u8 {
     let path = path_of(rt, arguments.options.file);
     match fold_input(rt, NAME, arguments, folder, path) {
         Ok(()) => SUCCESS,
-        Err(error) => print_error(rt, NAME, display_name(path), &error),
+        Err(FoldError::Program(error)) => print_error(rt, NAME, display_name(path), &error),
+        Err(FoldError::File(error)) => print_path_error(rt, error),
     }
 }
 
@@ -56,9 +63,7 @@ fn name_source<'a>(
 fn run(rt: &HostRuntime, arguments: &Arguments<'_>) -> u8 {
     match name_source(rt, &arguments.options) {
         Ok(source) => fold_with(rt, arguments, source),
-        Err(PathError { path, error }) => {
-            print_error(rt, NAME, path, &ProgramError::Input(InputError::Io(error)))
-        }
+        Err(error) => print_path_error(rt, error),
     }
 }
 

@@ -45,11 +45,26 @@ const DEBUG_DIR: &str = "debug-dir";
 // The id of the option of the kernel's list of symbols.
 const KALLSYMS: &str = "kallsyms";
 
+// The value of the option of the kernel's list of symbols for none.
+const NO_LIST: &str = "none";
+
 // The id of the option of the directory of perf-PID.map files.
 const MAPS: &str = "maps";
 
 // The id of the flag for a flame graph.
 const SVG: &str = "svg";
+
+// The id of the option of the format.
+const FORMAT: &str = "format";
+
+// The values of the option of the format.
+const FORMATS: &[&str] = &["folded", SVG, TOP];
+
+// The value of the option of the format for the table of functions.
+const TOP: &str = "top";
+
+// The id of the option of the file that is written.
+const OUTPUT: &str = "output";
 
 /// What a sample counts.
 #[derive(Clone, Copy, PartialEq, Eq)]
@@ -89,6 +104,21 @@ pub(crate) enum OutputFormat {
     Lines,
     /// A flame graph.
     Svg,
+    /// The table of the functions with the most samples.
+    Top,
+}
+
+/// Which list names the kernel's functions.
+#[derive(Clone, Copy)]
+pub(crate) enum KernelList<'a> {
+    /// That of a file.
+    File(&'a str),
+    /// That of the running kernel, if it is the recorded one.
+    Running,
+    /// None, as `--kallsyms` says.
+    Nothing,
+    /// None, since files are those of another machine.
+    OtherMachine,
 }
 
 /// Where symbols are.
@@ -99,7 +129,7 @@ pub(crate) struct SymbolOptions<'a> {
     /// The directory of debug files.
     pub(crate) debug_dir: Option<&'a str>,
     /// The kernel's list of symbols.
-    pub(crate) kallsyms: Option<&'a str>,
+    pub(crate) kernel_list: KernelList<'a>,
     /// The directory of perf-PID.map files.
     pub(crate) maps: Option<&'a str>,
 }
@@ -120,7 +150,10 @@ pub(crate) struct Options<'a> {
 #[derive(Clone, Copy)]
 pub(crate) struct Arguments<'a> {
     pub(crate) options: Options<'a>,
-    pub(crate) format: OutputFormat,
+    /// What is written, if an argument says so.
+    pub(crate) format: Option<OutputFormat>,
+    /// The file that is written instead of standard output.
+    pub(crate) output: Option<&'a str>,
 }
 
 // Returns a flag.
@@ -159,7 +192,7 @@ fn with_selection<'a>(alloc: Global, command: Command<'a>) -> Result<Command<'a>
             "EVENT",
             "Count the samples of the event with this name or index [default: that of the first sample]",
         ))?
-        .arg(flag(alloc, ALL_EVENTS, "Count the samples of all events"))?
+        .arg(flag(alloc, ALL_EVENTS, "Count the samples of all events").conflicts_with(EVENT)?)?
         .arg(weight_option(alloc))
 }
 
@@ -170,7 +203,7 @@ fn with_symbols<'a>(alloc: Global, command: Command<'a>) -> Result<Command<'a>, 
             alloc,
             SYMFS,
             "DIR",
-            "Look for mapped files and debug files below DIR, which no link may leave",
+            "Look for mapped files, debug files and perf-PID.map files below DIR, which no link may leave",
         ))?
         .arg(option(
             alloc,
@@ -182,7 +215,7 @@ fn with_symbols<'a>(alloc: Global, command: Command<'a>) -> Result<Command<'a>, 
             alloc,
             KALLSYMS,
             "FILE",
-            "Name the kernel's functions by FILE, a copy of /proc/kallsyms",
+            "Name the kernel's functions by FILE, a copy of /proc/kallsyms, or by nothing if it is none [default: /proc/kallsyms if the running kernel is the recorded one]",
         ))?
         .arg(option(
             alloc,
@@ -202,13 +235,37 @@ fn with_names<'a>(alloc: Global, command: Command<'a>) -> Result<Command<'a>, Al
             "Add the process id and the thread id to the name of the thread",
         ))?
         .arg(flag(alloc, NO_SYMBOLS, "Name frames by their files"))?
-        .arg(flag(alloc, RAW, "Name frames by their addresses"))
+        .arg(
+            flag(alloc, RAW, "Name frames by their addresses")
+                .conflicts_with(NO_SYMBOLS)?
+                .conflicts_with(SYMFS)?,
+        )
+}
+
+// Adds the options of the output.
+fn with_output<'a>(alloc: Global, command: Command<'a>) -> Result<Command<'a>, AllocError> {
+    let format = option(
+        alloc,
+        FORMAT,
+        "FORMAT",
+        "Write lines, a flame graph or the functions with the most samples [default: top on a terminal, svg for a FILE.svg, else folded]",
+    );
+    let svg = flag(alloc, SVG, "Write a flame graph, an SVG file for a browser");
+    let output = option(
+        alloc,
+        OUTPUT,
+        "FILE",
+        "Write FILE in place of standard output",
+    );
+    command
+        .arg(svg.conflicts_with(FORMAT)?)?
+        .arg(format.value_parser(FORMATS))?
+        .arg(output.short('o'))
 }
 
 // Returns the command with its options.
 fn command_with_options<'a>(alloc: Global, name: &'a str) -> Result<Command<'a>, AllocError> {
-    let svg = flag(alloc, SVG, "Write a flame graph, an SVG file for a browser");
-    let command = command(alloc, name, ABOUT, RECORDING_HELP)?.arg(svg)?;
+    let command = with_output(alloc, command(alloc, name, ABOUT, RECORDING_HELP)?)?;
     let command = with_selection(alloc, command)?;
     with_names(alloc, with_symbols(alloc, command)?)
 }
@@ -254,22 +311,35 @@ fn name_kind_of(matches: &ArgMatches<'_>) -> NameKind {
     }
 }
 
+// Returns which list names the kernel's functions.
+fn kernel_list_of<'a>(matches: &ArgMatches<'a>) -> KernelList<'a> {
+    match (matches.get_str(KALLSYMS), matches.get_str(SYMFS)) {
+        (Some(NO_LIST), _) => KernelList::Nothing,
+        (Some(path), _) => KernelList::File(path),
+        (None, Some(_)) => KernelList::OtherMachine,
+        (None, None) => KernelList::Running,
+    }
+}
+
 // Returns where symbols are.
 fn symbols_of<'a>(matches: &ArgMatches<'a>) -> SymbolOptions<'a> {
     SymbolOptions {
         symfs: matches.get_str(SYMFS),
         debug_dir: matches.get_str(DEBUG_DIR),
-        kallsyms: matches.get_str(KALLSYMS),
+        kernel_list: kernel_list_of(matches),
         maps: matches.get_str(MAPS),
     }
 }
 
-// Returns what is written.
-fn format_of(matches: &ArgMatches<'_>) -> OutputFormat {
+// Returns what is written, if an argument says so.
+fn format_of(matches: &ArgMatches<'_>) -> Option<OutputFormat> {
     if matches.get_flag(SVG) {
-        OutputFormat::Svg
-    } else {
-        OutputFormat::Lines
+        return Some(OutputFormat::Svg);
+    }
+    match matches.get_str(FORMAT)? {
+        SVG => Some(OutputFormat::Svg),
+        TOP => Some(OutputFormat::Top),
+        _ => Some(OutputFormat::Lines),
     }
 }
 
@@ -295,5 +365,6 @@ pub(crate) fn parse<'a>(
     Ok(Arguments {
         options: options_of(&matches),
         format: format_of(&matches),
+        output: matches.get_str(OUTPUT),
     })
 }

@@ -4,25 +4,46 @@ use crate::fold::Folder;
 use crate::options::{Arguments, OutputFormat, Weight};
 use crate::records::Records;
 use crate::symbols::FileCounts;
+use crate::symbols::directories::PathError;
+use crate::symbols::kernel_list::NoList;
+use crate::top::write_top;
 use linux_perf_data::in_memory::InMemoryReader;
 use perfdata_cli::error::{InputError, ProgramError};
 use perfdata_cli::input::{Input, open_in_memory};
 use perfdata_stacks::counts::StackCounts;
 use perfdata_stacks::flame::svg::write_flame_graph;
-use std::io;
-use std::io::{BufWriter, Write};
+use std::fs::File;
+use std::io::{BufWriter, IsTerminal, Write};
+use std::{fs, io};
+
+// The end of the name of a file with a flame graph.
+const SVG_SUFFIX: &str = ".svg";
+
+/// Why an input isn't folded.
+#[derive(Drop)]
+pub(crate) enum FoldError<'a> {
+    /// The input can't be read, or standard output can't be written.
+    Program(ProgramError),
+    /// A file can't be written.
+    File(PathError<'a>),
+}
+
+impl<'a> From<InputError> for FoldError<'a> {
+    fn from(error: InputError) -> FoldError<'a> {
+        FoldError::Program(ProgramError::Input(error))
+    }
+}
 
 // Writes the lines with their counts.
-fn write_lines(rt: &HostRuntime, counts: &StackCounts) -> io::Result<()> {
-    let mut out = BufWriter::new(rt.alloc(), rt.stdout())?;
+fn write_lines<W: Write>(counts: &StackCounts, out: &mut W) -> io::Result<()> {
     for (line, count) in counts.iter() {
         out.write_all(line.as_slice())?;
         writeln!(out, " {count}")?;
     }
-    out.flush()
+    Ok(())
 }
 
-// Returns what a flame graph counts.
+// Returns what weights count.
 fn unit_of(weight: Weight) -> &'static str {
     match weight {
         Weight::Samples => "samples",
@@ -30,22 +51,83 @@ fn unit_of(weight: Weight) -> &'static str {
     }
 }
 
-// Writes the flame graph of the lines.
-fn write_svg(rt: &HostRuntime, counts: &StackCounts, weight: Weight) -> io::Result<()> {
-    let mut out = BufWriter::new(rt.alloc(), rt.stdout())?;
-    write_flame_graph(rt.alloc(), counts, unit_of(weight), &mut out)?;
+// Returns what is written.
+fn format_of(rt: &HostRuntime, arguments: &Arguments<'_>) -> OutputFormat {
+    match (arguments.format, arguments.output) {
+        (Some(format), _) => format,
+        (None, Some(path)) if path.ends_with(SVG_SUFFIX) => OutputFormat::Svg,
+        (None, None) if rt.stdout().is_terminal() => OutputFormat::Top,
+        _ => OutputFormat::Lines,
+    }
+}
+
+// Writes the lines, their flame graph or the table of their functions.
+fn write_counts<W: Write>(
+    rt: &HostRuntime,
+    arguments: &Arguments<'_>,
+    counts: &StackCounts,
+    out: &mut W,
+) -> io::Result<()> {
+    let unit = unit_of(arguments.options.weight);
+    match format_of(rt, arguments) {
+        OutputFormat::Lines => write_lines(counts, out)?,
+        OutputFormat::Svg => write_flame_graph(rt.alloc(), counts, unit, out)?,
+        OutputFormat::Top => write_top(rt.alloc(), counts, unit, out)?,
+    }
     out.flush()
 }
 
-// Writes the lines, or their flame graph.
-fn write_counts(
+// Writes standard output.
+fn write_stdout(
     rt: &HostRuntime,
     arguments: &Arguments<'_>,
     counts: &StackCounts,
 ) -> io::Result<()> {
-    match arguments.format {
-        OutputFormat::Lines => write_lines(rt, counts),
-        OutputFormat::Svg => write_svg(rt, counts, arguments.options.weight),
+    let mut out = BufWriter::new(rt.alloc(), rt.stdout())?;
+    write_counts(rt, arguments, counts, &mut out)
+}
+
+// Writes a file, which then replaces the one at a path.
+fn write_file(
+    rt: &HostRuntime,
+    part: &str,
+    path: &str,
+    arguments: &Arguments<'_>,
+    counts: &StackCounts,
+) -> io::Result<()> {
+    let mut out = BufWriter::new(rt.alloc(), File::create(rt, part)?)?;
+    write_counts(rt, arguments, counts, &mut out)?;
+    fs::rename(rt, part, path)
+}
+
+// Writes the file at a path: first one beside it, so that it is either as before or whole.
+fn replace_file(
+    rt: &HostRuntime,
+    path: &str,
+    arguments: &Arguments<'_>,
+    counts: &StackCounts,
+) -> io::Result<()> {
+    let part = format!(in rt.alloc(); "{path}.part")?;
+    let written = write_file(rt, part.as_str(), path, arguments, counts);
+    if written.is_err() {
+        let _ = fs::remove_file(rt, part.as_str());
+    }
+    written
+}
+
+// Writes standard output, or the file that the command line names.
+fn write_output<'a>(
+    rt: &HostRuntime,
+    arguments: &Arguments<'a>,
+    counts: &StackCounts,
+) -> Result<(), FoldError<'a>> {
+    match arguments.output {
+        Some(path) => replace_file(rt, path, arguments, counts).map_err(|error| FoldError::File(
+            PathError { path, error },
+        )),
+        None => write_stdout(rt, arguments, counts).map_err(|error| FoldError::Program(
+            ProgramError::Output(error),
+        )),
     }
 }
 
@@ -62,6 +144,22 @@ fn check_event(lacks_event: bool) -> Result<(), InputError> {
 fn print_other_events(rt: &HostRuntime, name: &str, samples: u64) {
     if samples != 0 {
         let _ = eprintln!(rt; "{name}: {samples} samples of other events aren't counted");
+    }
+}
+
+// Writes on standard error how many samples have fields that aren't known, if there are any.
+fn print_undecoded(rt: &HostRuntime, name: &str, samples: u64) {
+    if samples != 0 {
+        let _ = eprintln!(rt;
+            "{name}: {samples} samples can't be decoded: their fields aren't known"
+        );
+    }
+}
+
+// Writes on standard error why the kernel's functions have no names, if so.
+fn print_missing_list(rt: &HostRuntime, name: &str, missing: Option<&NoList>) {
+    if let Some(why) = missing {
+        let _ = eprintln!(rt; "{name}: functions of the kernel have no names: {why}");
     }
 }
 
@@ -83,16 +181,18 @@ fn print_unreadable(rt: &HostRuntime, name: &str, files: u64) {
 }
 
 // Writes the lines of the samples that were read, and fails with the error that ended them, if there is one.
-fn finish(
+fn finish<'a>(
     rt: &HostRuntime,
     name: &str,
-    arguments: &Arguments<'_>,
+    arguments: &Arguments<'a>,
     folder: &Folder<'_>,
     read: Result<(), InputError>,
-) -> Result<(), ProgramError> {
+) -> Result<(), FoldError<'a>> {
     let counts = folder.counts()?;
-    write_counts(rt, arguments, &counts).map_err(ProgramError::Output)?;
+    write_output(rt, arguments, &counts)?;
     print_other_events(rt, name, folder.other_events());
+    print_undecoded(rt, name, folder.undecoded());
+    print_missing_list(rt, name, folder.missing_kernel_list());
     if let Some(counts) = folder.file_counts() {
         print_file_counts(rt, name, counts);
         print_unreadable(rt, name, counts.unreadable);
@@ -102,13 +202,13 @@ fn finish(
 }
 
 // Folds the samples of an input that was opened.
-fn fold_opened(
+fn fold_opened<'a>(
     rt: &HostRuntime,
     name: &str,
-    arguments: &Arguments<'_>,
+    arguments: &Arguments<'a>,
     folder: &mut Folder<'_>,
     reader: InMemoryReader<'_>,
-) -> Result<(), ProgramError> {
+) -> Result<(), FoldError<'a>> {
     let mut perf_file = reader.perf_file;
     let mut records = Records::new(rt.alloc(), &perf_file, reader.records);
     let read = folder.add_all(&mut records, &mut perf_file);
@@ -124,13 +224,13 @@ fn read_input(rt: &HostRuntime, path: &str) -> Result<(bool, Vec<u8>), InputErro
 }
 
 /// Folds the samples of the input at a path, which is read into memory.
-pub(crate) fn fold_input(
+pub(crate) fn fold_input<'a>(
     rt: &HostRuntime,
     name: &str,
-    arguments: &Arguments<'_>,
+    arguments: &Arguments<'a>,
     folder: &mut Folder<'_>,
     path: &str,
-) -> Result<(), ProgramError> {
+) -> Result<(), FoldError<'a>> {
     let (is_pipe, bytes) = read_input(rt, path)?;
     let reader = open_in_memory(rt.alloc(), &bytes, is_pipe)?;
     fold_opened(rt, name, arguments, folder, reader)

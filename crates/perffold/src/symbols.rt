@@ -21,6 +21,7 @@ pub(crate) mod directories;
 mod elf_files;
 mod jitdumps;
 pub(crate) mod kernel;
+pub(crate) mod kernel_list;
 mod named_table;
 
 use build_ids::BuildIds;
@@ -28,7 +29,8 @@ use directories::{Directories, PathError, found};
 use elf_files::ElfFiles;
 pub(crate) use elf_files::FileCounts;
 use jitdumps::JitDumps;
-use kernel::KernelSymbols;
+use kernel::KERNEL_PATH;
+use kernel_list::{ListedSymbols, NoList};
 use named_table::NamedTable;
 
 /// Where the symbol at an address of a mapping is looked up.
@@ -60,7 +62,7 @@ struct RecordedTable {
 pub(crate) struct Symbols<'a> {
     rt: &'a HostRuntime,
     elf_files: ElfFiles<'a>,
-    kernel: Option<KernelSymbols>,
+    kernel: ListedSymbols<'a>,
     jitdumps: JitDumps,
     build_ids: BuildIds,
     tables: Vec<NamedTable>,
@@ -77,20 +79,6 @@ fn read_all(rt: &HostRuntime, mut file: File) -> io::Result<Option<Vec<u8>>> {
     let mut bytes = Vec::new(rt.alloc());
     file.read_to_end(&mut bytes)?;
     Ok(Some(bytes))
-}
-
-// Reads the kernel's list of symbols, if the command line names one.
-fn read_kernel<'a>(
-    rt: &HostRuntime,
-    path: Option<&'a str>,
-) -> Result<Option<KernelSymbols>, PathError<'a>> {
-    match path {
-        Some(path) => match KernelSymbols::read(rt, path) {
-            Ok(kernel) => Ok(Some(kernel)),
-            Err(error) => Err(PathError { path, error }),
-        },
-        None => Ok(None),
-    }
 }
 
 // Returns whether the symbols of a file start at offsets in it, as those of ELF and DEX files do.
@@ -131,7 +119,7 @@ impl<'a> Symbols<'a> {
     ) -> Result<Symbols<'a>, PathError<'a>> {
         let alloc = rt.alloc();
         let directories = Directories::open(rt, options)?;
-        let kernel = read_kernel(rt, options.kallsyms)?;
+        let kernel = ListedSymbols::open(rt, options.kernel_list)?;
         Ok(Symbols {
             rt,
             elf_files: ElfFiles::new(rt, directories),
@@ -148,6 +136,11 @@ impl<'a> Symbols<'a> {
     /// Returns how many files there are of which kind.
     pub(crate) fn counts(&self) -> FileCounts {
         self.elf_files.counts
+    }
+
+    /// Returns why frames of the kernel have no names, if there are such frames and no option asks for it.
+    pub(crate) fn missing_kernel_list(&self) -> Option<&NoList> {
+        self.kernel.missing()
     }
 
     // Adds a table. Returns its index.
@@ -193,14 +186,13 @@ impl<'a> Symbols<'a> {
         context: CallContext,
         mapping: &Mapping,
     ) -> Result<(), AllocError> {
-        match (context, &mut self.kernel) {
-            (CallContext::User, _) => self
+        match context {
+            CallContext::User => self
                 .jitdumps
                 .add_mapping(mapping.pid, mapping.path.as_slice()),
-            (CallContext::Kernel, Some(kernel)) => {
-                kernel.add_mapping(mapping.path.as_slice(), mapping.page_offset);
-                Ok(())
-            }
+            CallContext::Kernel => self
+                .kernel
+                .add_mapping(mapping.path.as_slice(), mapping.page_offset),
             _ => Ok(()),
         }
     }
@@ -315,10 +307,10 @@ impl<'a> Symbols<'a> {
     ) -> Result<Option<usize>, AllocError> {
         match lookup {
             Lookup::Nowhere => Ok(None),
-            Lookup::Kernel => match &mut self.kernel {
-                Some(kernel) => kernel.at(mapping, address, names),
-                None => Ok(None),
-            },
+            Lookup::Kernel => {
+                let recorded = self.build_ids.of_path(KERNEL_PATH);
+                self.kernel.at(recorded, mapping, address, names)
+            }
             Lookup::Table { index, shift } => match self.tables.get_mut(index) {
                 Some(table) => table.at(address.wrapping_add(shift), names),
                 None => Ok(None),

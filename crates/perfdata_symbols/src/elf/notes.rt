@@ -4,6 +4,7 @@ ghost use Rattle.std.specs.Prelude.{◌^◌, ◌<◌, ◌≤◌, IfSome, length}
 
 use crate::elf::header::{NOTE_SECTION, Section};
 use crate::elf::input::{Encoding, Entry};
+use perfdata_base::raw::Endianness;
 use std::alloc::AllocError;
 
 // The type of a note with the build id (`NT_GNU_BUILD_ID`), whose owner is `GNU`.
@@ -79,6 +80,17 @@ fn note_layout(entry: Entry<'_>, has_align_8: bool) -> Option<NoteLayout>
         description,
         description_end,
     })
+}
+
+/// Returns the build id in the notes of a kernel (`/sys/kernel/notes` of Linux), aligned to 4 bytes: the
+/// description of the first note of the type `NT_GNU_BUILD_ID` whose owner is `GNU`. `None` if there is none,
+/// or a note before it is truncated.
+pub fn build_id_of_notes(endian: Endianness, notes: &[u8]) -> Option<&[u8]> {
+    let encoding = Encoding {
+        endian,
+        is_64_bit: true,
+    };
+    build_id_in(encoding, notes, false)
 }
 
 // The build id in these notes.

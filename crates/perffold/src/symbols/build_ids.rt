@@ -55,14 +55,19 @@ impl BuildIds {
         Ok(())
     }
 
+    /// Returns the build id at a path, which is empty if it isn't known.
+    pub(crate) fn of_path(&self, path: &[u8]) -> &[u8] {
+        match self.of_paths.get(path) {
+            Some(id) => id.as_slice(),
+            None => &[],
+        }
+    }
+
     /// Returns the build id of a mapping, which is empty if it isn't known.
     pub(crate) fn of_mapping<'a>(&'a self, mapping: &'a Mapping) -> &'a [u8] {
         if !mapping.build_id.is_empty() {
             return mapping.build_id.as_slice();
         }
-        match self.of_paths.get(mapping.path.as_slice()) {
-            Some(id) => id.as_slice(),
-            None => &[],
-        }
+        self.of_path(mapping.path.as_slice())
     }
 }

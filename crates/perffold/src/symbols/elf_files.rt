@@ -38,8 +38,8 @@ fn is_extended(long: &[u8], short: &[u8]) -> bool {
     }
 }
 
-// Returns whether the build id of a file is the recorded one.
-fn is_recorded(id: &[u8], recorded: &[u8]) -> bool {
+/// Returns whether a build id is the recorded one.
+pub(crate) fn is_recorded(id: &[u8], recorded: &[u8]) -> bool {
     !id.is_empty() && (is_extended(id, recorded) || is_extended(recorded, id))
 }
 

@@ -1,0 +1,204 @@
+//! Which list names the kernel's functions.
+
+use crate::names::NameTable;
+use crate::options::KernelList;
+use crate::symbols::directories::{PathError, found};
+use crate::symbols::elf_files::is_recorded;
+use crate::symbols::kernel::{KERNEL_PATH, KernelSymbols};
+use perfdata_base::raw::Endianness;
+use perfdata_cli::error::InputError;
+use perfdata_spaces::mapping::Mapping;
+use perfdata_symbols::build_id_of_notes;
+use std::alloc::AllocError;
+use std::fmt::{Display, Formatter};
+use std::io::ErrorKind;
+use std::{fmt, fs, io};
+
+// The ELF notes of the running kernel.
+const NOTES_PATH: &str = "/sys/kernel/notes";
+
+// The list of symbols of the running kernel.
+const LIST_PATH: &str = "/proc/kallsyms";
+
+// The byte order of the processors that the program runs on.
+const NATIVE: Endianness = Endianness::LittleEndian;
+
+/// Why there is no list of the kernel's symbols.
+#[derive(Drop)]
+pub(crate) enum NoList {
+    /// `--kallsyms none`.
+    SwitchedOff,
+    /// `--symfs` without `--kallsyms`.
+    OtherMachine,
+    /// The recording doesn't have the build id of its kernel.
+    NoRecordedId,
+    /// The build id of the running kernel can't be read.
+    NoRunningId,
+    /// The running kernel isn't the recorded one.
+    OtherKernel,
+    /// The list can't be read, or has no addresses.
+    Unreadable(InputError),
+}
+
+impl Display for NoList {
+    fn fmt<W: fmt::Write>(&self, f: &mut Formatter<W>) -> fmt::Result {
+        match self {
+            NoList::SwitchedOff => f.write_str("--kallsyms is none"),
+            NoList::OtherMachine => f.write_str("--symfs is given without --kallsyms"),
+            NoList::NoRecordedId => f.write_str("the recording has no build id of its kernel"),
+            NoList::NoRunningId => {
+                f.write_str("the build id of the running kernel can't be read")
+            }
+            NoList::OtherKernel => f.write_str("the running kernel isn't the recorded one"),
+            NoList::Unreadable(error) => write!(f, "{LIST_PATH}: {error}"),
+        }
+    }
+}
+
+// The list, or why there is none.
+#[derive(Drop)]
+enum State {
+    /// It is that of the running kernel, if this is the recorded kernel.
+    Unread,
+    /// It was read.
+    Read(KernelSymbols),
+    /// There is none.
+    Missing(NoList),
+}
+
+// The start of the kernel's own mapping: its path, and the address of the symbol that the path names.
+#[derive(Drop)]
+struct KernelMapping {
+    path: Vec<u8>,
+    page_offset: u64,
+}
+
+/// The symbols of the kernel, from a list that may be read only once they are looked up.
+#[derive(Drop)]
+pub(crate) struct ListedSymbols<'a> {
+    rt: &'a HostRuntime,
+    state: State,
+    /// The kernel's own mappings before the list is read.
+    mappings: Vec<KernelMapping>,
+    /// Whether a frame was looked up without a list.
+    lacks_names: bool,
+}
+
+// Returns the build id of the running kernel, if it can be read.
+fn running_id(rt: &HostRuntime) -> Result<Option<Vec<u8>>, AllocError> {
+    let Some(notes) = found(fs::read(rt, NOTES_PATH).map(Some))? else {
+        return Ok(None);
+    };
+    match build_id_of_notes(NATIVE, &notes) {
+        Some(id) => Ok(Some(id.to_vec(rt.alloc())?)),
+        None => Ok(None),
+    }
+}
+
+// Returns why the list of the running kernel isn't that of a recorded kernel, if so.
+fn difference(rt: &HostRuntime, recorded: &[u8]) -> Result<Option<NoList>, AllocError> {
+    if recorded.is_empty() {
+        return Ok(Some(NoList::NoRecordedId));
+    }
+    match running_id(rt)? {
+        Some(id) if is_recorded(&id, recorded) => Ok(None),
+        Some(_) => Ok(Some(NoList::OtherKernel)),
+        None => Ok(Some(NoList::NoRunningId)),
+    }
+}
+
+// Reads the list of the running kernel, if it is the recorded one.
+fn read_running(rt: &HostRuntime, recorded: &[u8]) -> Result<State, AllocError> {
+    if let Some(why) = difference(rt, recorded)? {
+        return Ok(State::Missing(why));
+    }
+    match KernelSymbols::read(rt, LIST_PATH) {
+        Ok(symbols) => Ok(State::Read(symbols)),
+        Err(error) if error.kind() == ErrorKind::OutOfMemory => Err(AllocError),
+        Err(error) => Ok(State::Missing(NoList::Unreadable(InputError::Io(error)))),
+    }
+}
+
+// Reads the list that the command line names, if it names one.
+fn named_state<'a>(rt: &HostRuntime, list: KernelList<'a>) -> Result<State, PathError<'a>> {
+    match list {
+        KernelList::File(path) => match KernelSymbols::read(rt, path) {
+            Ok(symbols) => Ok(State::Read(symbols)),
+            Err(error) => Err(PathError { path, error }),
+        },
+        KernelList::Running => Ok(State::Unread),
+        KernelList::Nothing => Ok(State::Missing(NoList::SwitchedOff)),
+        KernelList::OtherMachine => Ok(State::Missing(NoList::OtherMachine)),
+    }
+}
+
+impl<'a> ListedSymbols<'a> {
+    /// Returns the symbols of the list that the command line names.
+    pub(crate) fn open<'b>(
+        rt: &'a HostRuntime,
+        list: KernelList<'b>,
+    ) -> Result<ListedSymbols<'a>, PathError<'b>> {
+        Ok(ListedSymbols {
+            rt,
+            state: named_state(rt, list)?,
+            mappings: Vec::new(rt.alloc()),
+            lacks_names: false,
+        })
+    }
+
+    /// Returns why frames of the kernel have no names, if there are such frames and no option asks for it.
+    pub(crate) fn missing(&self) -> Option<&NoList> {
+        match &self.state {
+            State::Missing(NoList::SwitchedOff) => None,
+            State::Missing(why) if self.lacks_names => Some(why),
+            _ => None,
+        }
+    }
+
+    /// Adds a mapping of the kernel.
+    pub(crate) fn add_mapping(&mut self, path: &[u8], page_offset: u64) -> Result<(), AllocError> {
+        match &mut self.state {
+            State::Read(symbols) => symbols.add_mapping(path, page_offset),
+            State::Unread if path.starts_with(KERNEL_PATH) => {
+                let path = path.to_vec(self.rt.alloc())?;
+                self.mappings.push(KernelMapping { path, page_offset })?;
+            }
+            _ => {}
+        }
+        Ok(())
+    }
+
+    // Reads the list of the running kernel, if it wasn't tried yet.
+    fn read(&mut self, recorded: &[u8]) -> Result<(), AllocError> {
+        if !matches!(self.state, State::Unread) {
+            return Ok(());
+        }
+        let mut state = read_running(self.rt, recorded)?;
+        if let State::Read(symbols) = &mut state {
+            for mapping in self.mappings.iter() {
+                symbols.add_mapping(mapping.path.as_slice(), mapping.page_offset);
+            }
+        }
+        self.state = state;
+        Ok(())
+    }
+
+    /// Returns the number of the name of the symbol at an address of a mapping, or `None` if there is none.
+    /// `recorded` is the build id of the recorded kernel, empty if it isn't known.
+    pub(crate) fn at(
+        &mut self,
+        recorded: &[u8],
+        mapping: &Mapping,
+        address: u64,
+        names: &mut NameTable,
+    ) -> Result<Option<usize>, AllocError> {
+        self.read(recorded)?;
+        match &mut self.state {
+            State::Read(symbols) => symbols.at(mapping, address, names),
+            _ => {
+                self.lacks_names = true;
+                Ok(None)
+            }
+        }
+    }
+}
