@@ -30,7 +30,7 @@ pub record IsMapLine (line : List ℕ) (offset : ℕ) (s : Symbol) : Type 0 wher
   pub start_digits : List ℕ
   pub size_digits : List ℕ
   pub symbol_name : List ℕ
-  pub line_is : line ≡ start_digits ++ 32 ∷ size_digits ++ 32 ∷ symbol_name
+  pub line_is : line ≡ start_digits ++ 32 ∷ (size_digits ++ 32 ∷ symbol_name)
   pub start_is : WritesHex start_digits s.start
   pub size_is : WritesHex size_digits s.size
   pub some_name : 0 < length symbol_name
