@@ -1,5 +1,5 @@
 -- The symbol of an address in a list of symbols.
-use Rattle.std.specs.Prelude.{◌≡◌, ◌≤◌, ◌<◌, ℕ, ◌+◌, List, [], ◌∷◌, ◌++◌, Option, None, Some, if◌then◌else◌, All, length}
+use Rattle.std.specs.Prelude.{◌≡◌, ◌≤◌, ◌<◌, ◌⊎◌, ℕ, ◌+◌, List, [], ◌∷◌, ◌++◌, Option, None, Some, if◌then◌else◌, All, length, slice_range}
 use Rattle.perfdata_symbols.specs.Cuts.{covers}
 use Rattle.perfdata_symbols.specs.declared.symbol.Symbol.{Symbol}
 
@@ -26,6 +26,16 @@ IsLastIndex symbols x (Some i) = (s : Symbol) × IsLastCovering symbols x i s
 abbrev pub IsLastSymbol : List Symbol → ℕ → Option Symbol → Type 0
 IsLastSymbol symbols x None = All (λ s. ¬ Covers s x) symbols
 IsLastSymbol symbols x (Some s) = (i : ℕ) × IsLastCovering symbols x i s
+
+-- the name of a symbol whose table has these names: the bytes between its offsets, or none if these aren't within the names
+pub record IsName (names : List ℕ) (s : Symbol) (n : List ℕ) : Type 0 where
+  pub within : s.name_start ≤ s.name_end → s.name_end ≤ length names → n ≡ slice_range names s.name_start s.name_end
+  pub outside : (s.name_end < s.name_start) ⊎ (length names < s.name_end) → n ≡ []
+
+-- the name of the last symbol that contains the address, or `None` exactly if none contains it
+abbrev pub IsLastName : List ℕ → List Symbol → ℕ → Option (List ℕ) → Type 0
+IsLastName names symbols x None = All (λ s. ¬ Covers s x) symbols
+IsLastName names symbols x (Some n) = (s : Symbol) × IsLastSymbol symbols x (Some s) × IsName names s n
 
 -- the index of the last symbol that contains the address, where the first symbol has index `i`; `before` if none does
 abbrev pub last_from : ℕ → Option ℕ → List Symbol → ℕ → Option ℕ

@@ -92,9 +92,9 @@ impl<R: PlacedSource + Drop> ElfFile<R> {
 
     /// Returns the section that `symbols` reads: `.symtab` if there is one, otherwise `.dynsym`.
     pub fn symbol_section(&self) -> Option<SymbolSection> {
-        if self.section_of_type(header::SYMTAB).is_some() {
+        if self.index_of_type(header::SYMTAB).is_some() {
             Some(SymbolSection::Full)
-        } else if self.section_of_type(header::DYNSYM).is_some() {
+        } else if self.index_of_type(header::DYNSYM).is_some() {
             Some(SymbolSection::Dynamic)
         } else {
             None
@@ -128,24 +128,29 @@ impl<R: PlacedSource + Drop> ElfFile<R> {
     /// Reads the symbols of functions and objects, and the labels in sections whose names contain `text`.
     ///
     /// Their starts are offsets in the file that has these segments: `self.segments()`, or those of the file
-    /// whose debug information this file contains. Symbols outside all segments are skipped; those of a
-    /// relocatable file are at their offsets in its sections.
+    /// whose debug information this file contains. Symbols outside all segments are skipped. Those of a
+    /// relocatable file, or of one without segments, are at their offsets in its sections.
     pub fn symbols(
         &mut self,
         alloc: Global,
         segments: &[Segment],
     ) -> Result<RankedSymbols, ElfError> {
-        let full = self.section_of_type(header::SYMTAB);
-        let Some(section) = full.or(self.section_of_type(header::DYNSYM)) else {
+        let full = self.index_of_type(header::SYMTAB);
+        let Some(index) = full.or(self.index_of_type(header::DYNSYM)) else {
+            return Ok(RankedSymbols::new(alloc));
+        };
+        let Some(section) = section_at(&self.sections, index) else {
             return Ok(RankedSymbols::new(alloc));
         };
         let entries = read_section(alloc, &mut self.source, &section, ElfTable::Symbols)?;
+        let section_indices = self.large_indices(alloc, index)?;
         let names = self.linked_strings(alloc, &section)?;
         let text_sections = are_text(alloc, &self.sections, &self.section_names)?;
         let context = SymbolContext {
             header: self.header,
             sections: &self.sections,
             text_sections: &text_sections,
+            section_indices: &section_indices,
             segments,
             names: &names,
         };
@@ -157,8 +162,15 @@ impl<R: PlacedSource + Drop> ElfFile<R> {
         })
     }
 
-    /// Adds a symbol `NAME@plt` for each entry of the procedure linkage table, `.plt` and `.plt.sec`, by the
-    /// relocations `.rela.plt` or `.rel.plt`. Entries without a name are skipped.
+    /// Adds a symbol `NAME@plt` for each entry of the procedure linkage table, `.plt` and `.plt.sec`, that
+    /// calls a function by its symbol.
+    ///
+    /// The entries are in the order of the addresses of their pointers, `r_offset` of the relocations
+    /// `.rela.plt` or `.rel.plt`. How many bytes are before the first one follows from the size of the
+    /// section and the number of entries. A table that isn't what linkers write for the machine has no
+    /// symbols. A symbol of the file at the start of an entry is preferred to these.
+    ///
+    /// If it fails, the symbols may have those of some entries.
     pub fn add_plt_symbols(
         &mut self,
         alloc: Global,
@@ -168,7 +180,7 @@ impl<R: PlacedSource + Drop> ElfFile<R> {
         let Some(relocations) = rela.or(self.section_of_name(b".rel.plt")) else {
             return Ok(());
         };
-        let Some(dynamic) = section_at(&self.sections, relocations.link as usize) else {
+        let Some(dynamic) = self.symbol_table_at(relocations.link as usize) else {
             return Ok(());
         };
         let entries = read_section(alloc, &mut self.source, &relocations, ElfTable::Relocations)?;
@@ -176,30 +188,58 @@ impl<R: PlacedSource + Drop> ElfFile<R> {
         let names = self.linked_strings(alloc, &dynamic)?;
         let context = plt::PltContext {
             encoding: self.header.encoding,
+            machine: self.header.machine,
             relocations: &entries,
             relocation_size: relocations.entry_size,
             symbols: &dynamic_entries,
             symbol_size: dynamic.entry_size,
             names: &names,
         };
-        if let Some(section) = self.section_of_name(b".plt") {
-            let layout = plt::layout_of(self.header.machine, &section);
-            plt::add_plt(&context, &section, layout, symbols)?;
+        let plt_relocations = plt::PltRelocations::read(alloc, &context)?;
+        if let Some(section) = self.code_of_name(b".plt") {
+            plt_relocations.add_plt(&context, &section, symbols)?;
         }
-        if let Some(section) = self.section_of_name(b".plt.sec") {
-            plt::add_plt(&context, &section, plt::WITHOUT_HEADER, symbols)?;
+        if let Some(section) = self.code_of_name(b".plt.sec") {
+            plt_relocations.add_second_plt(&context, &section, symbols)?;
         }
         Ok(())
     }
 
-    // The first section of a type.
-    fn section_of_type(&self, section_type: u32) -> Option<Section> {
-        'sections: for section in self.sections.iter() {
-            if section.section_type == section_type {
-                return Some(*section);
-            }
+    // The section with this index, if it is a symbol table.
+    fn symbol_table_at(&self, index: usize) -> Option<Section> {
+        let section = section_at(&self.sections, index)?;
+        match section.section_type {
+            header::SYMTAB | header::DYNSYM => Some(section),
+            _ => None,
         }
-        None
+    }
+
+    // The first section with a name that has contents in the file, if it is code.
+    fn code_of_name(&self, name: &[u8]) -> Option<Section> {
+        let section = self.section_of_name(name)?;
+        if section.is_code { Some(section) } else { None }
+    }
+
+    // The index of the first section of a type.
+    fn index_of_type(&self, section_type: u32) -> Option<usize> {
+        self.sections
+            .iter()
+            .position(|section| section.section_type == section_type)
+    }
+
+    // The bytes of the section indices of the symbols in the table with this index that don't fit into its
+    // entries (`SHT_SYMTAB_SHNDX`), or none.
+    fn large_indices(&mut self, alloc: Global, symbol_table: usize) -> Result<Vec<u8>, ElfError> {
+        let Some(at) = self.sections.iter().position(|section| {
+            section.section_type == header::SYMTAB_INDICES && section.link as usize == symbol_table
+        })
+        else {
+            return Ok(Vec::new(alloc));
+        };
+        match section_at(&self.sections, at) {
+            Some(section) => read_section(alloc, &mut self.source, &section, ElfTable::Symbols),
+            None => Ok(Vec::new(alloc)),
+        }
     }
 
     // The first section with a name that has contents in the file.

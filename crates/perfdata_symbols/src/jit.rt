@@ -9,6 +9,9 @@ use perfdata_jit::{JitDumpRawRecord, JitDumpReader, JitDumpRecord};
 use std::alloc::{AllocError, Global};
 use std::collections::HashMap;
 
+// The flag of a jitdump whose times are those of the processor (`JITDUMP_FLAGS_ARCH_TIMESTAMP`).
+const PROCESSOR_TIMES: u64 = 1;
+
 // The code of a load or move record, and the time of the record.
 #[derive(Clone, Copy)]
 struct Load {
@@ -28,6 +31,8 @@ pub struct JitSymbols {
 // The loads that are read so far.
 #[derive(Drop)]
 struct Loads {
+    // Whether the times of records can be compared with those of samples.
+    has_times: bool,
     names: Vec<u8>,
     loads: Vec<Load>,
     // The last load of each code index.
@@ -85,11 +90,12 @@ impl Loads {
         alloc: Global,
         raw: &JitDumpRawRecord<'_>,
     ) -> Result<(), JitSymbolsError> {
+        let time = if self.has_times { raw.timestamp } else { 0 };
         match raw.parse(alloc)? {
             JitDumpRecord::CodeLoad(load) => {
                 let size = load.code_bytes.len() as u64;
                 self.add_load(
-                    raw.timestamp,
+                    time,
                     load.code_index,
                     load.code_addr,
                     size,
@@ -97,12 +103,7 @@ impl Loads {
                 )?;
             }
             JitDumpRecord::CodeMove(moved) => {
-                self.add_move(
-                    raw.timestamp,
-                    moved.code_index,
-                    moved.new_code_addr,
-                    moved.code_size,
-                )?;
+                self.add_move(time, moved.code_index, moved.new_code_addr, moved.code_size)?;
             }
             _ => {}
         }
@@ -128,11 +129,15 @@ fn add_next<R: Source>(
 impl JitSymbols {
     /// Reads the load and move records of a jitdump, up to its end or its first incomplete record.
     ///
+    /// If the times are those of the processor (the flag `JITDUMP_FLAGS_ARCH_TIMESTAMP`), all code counts as
+    /// loaded at time 0, in the order of the records.
+    ///
     /// It fails with `Jitdump` if the file does not open as a jitdump, with `Io` if a record is invalid or
     /// the source fails, and with `Memory` if out of memory.
     pub fn read<R: Source + Drop>(alloc: Global, source: R) -> Result<JitSymbols, JitSymbolsError> {
         let mut reader = JitDumpReader::new(alloc, source)?;
         let mut loads = Loads {
+            has_times: reader.header().flags & PROCESSOR_TIMES == 0,
             names: Vec::new(alloc),
             loads: Vec::new(alloc),
             by_index: HashMap::new(alloc),
@@ -147,6 +152,7 @@ impl JitSymbols {
             names,
             loads,
             by_index: _,
+            has_times: _,
         } = loads;
         Ok(JitSymbols {
             loads,

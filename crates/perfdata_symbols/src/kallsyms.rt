@@ -94,3 +94,17 @@ pub fn address_of(table: &SymbolTable, name: &[u8]) -> Option<u64> {
     }
     None
 }
+
+/// Returns the name of the module of a symbol in the table of such a list: what is in brackets after a tab
+/// after the symbol's name. It is empty for symbols of the kernel itself.
+pub fn module_of<'a>(table: &'a SymbolTable, symbol: &Symbol) -> &'a [u8] {
+    let names = table.names();
+    let rest = names.get(symbol.name_end..).unwrap_or(&names[..0]);
+    let Some(module) = rest.strip_prefix(b"\t[") else {
+        return &names[..0];
+    };
+    match memchr(b']', module) {
+        Some(len) => &module[..len],
+        None => &names[..0],
+    }
+}

@@ -2,6 +2,7 @@
 //! jitdumps and the symbols that simpleperf records.
 #![tactic(auto)]
 
+pub mod crc;
 mod cuts;
 pub mod elf;
 pub mod error;
@@ -16,10 +17,11 @@ pub mod symbol;
 pub mod table;
 mod text;
 
+pub use crc::Crc32;
 pub use elf::{DebugLink, ElfFile, Segment, SymbolSection, build_id_of_notes};
 pub use error::{ElfError, ElfTable, JitSymbolsError};
 pub use jit::JitSymbols;
-pub use kallsyms::{address_of, parse_kallsyms};
+pub use kallsyms::{address_of, module_of, parse_kallsyms};
 pub use perf_map::parse_perf_map;
 pub use ranked::{RankedSymbol, RankedSymbols};
 pub use simpleperf::table_of_record;

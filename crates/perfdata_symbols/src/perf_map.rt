@@ -6,7 +6,7 @@ ghost use Rattle.perfdata_symbols.specs.Text.{IsMapLine};
 
 use crate::symbol::Symbol;
 use crate::table::SymbolTable;
-use crate::text::{hex_number, line_end, split_field};
+use crate::text::{line_end, prefixed_hex_number, split_field};
 use std::alloc::{AllocError, Global};
 
 // The symbol of a line `START SIZE NAME` that starts at an offset of the text.
@@ -21,8 +21,8 @@ fn symbol_of_line(line: &[u8], offset: usize) -> Option<Symbol>
         return None;
     }
     Some(Symbol {
-        start: hex_number(start_digits)?,
-        size: hex_number(size_digits)?,
+        start: prefixed_hex_number(start_digits)?,
+        size: prefixed_hex_number(size_digits)?,
         name_start: offset + name_at,
         name_end: offset + line.len(),
     })
@@ -30,8 +30,9 @@ fn symbol_of_line(line: &[u8], offset: usize) -> Option<Symbol>
 
 /// Makes a table of the text of such a file. The last line that contains an address is preferred.
 ///
-/// A line is `START SIZE NAME`: two hexadecimal numbers below 2^64, each followed by one space, and a name of
-/// at least one byte, which may contain spaces. Other lines are skipped.
+/// A line is `START SIZE NAME`: two hexadecimal numbers below 2^64, with or without `0x` before their digits,
+/// each followed by one space, and a name of at least one byte, which may contain spaces. Other lines are
+/// skipped.
 pub fn parse_perf_map(alloc: Global, text: Vec<u8>) -> Result<SymbolTable, AllocError>
     ensures names { IfOk result (λ t. names_of t ≡ text.items) }
 {

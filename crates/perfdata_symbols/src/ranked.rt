@@ -13,6 +13,9 @@ const MAX_UNDERSCORES: usize = 255;
 pub struct RankedSymbol {
     /// The symbol. Size 0 means that the size is unknown.
     pub symbol: Symbol,
+    /// Whether the symbol isn't one of the file's symbol table, but one made for an entry of the procedure
+    /// linkage table.
+    pub is_made: bool,
     /// Whether the symbol is weak.
     pub is_weak: bool,
     /// Whether the symbol is global.
@@ -24,8 +27,9 @@ pub struct RankedSymbol {
 
 /// The symbols of one or more ELF files, and their names.
 ///
-/// The symbol at an address is, of those with a size that contain it, the one with the greatest start. Of
-/// several with that start, one that isn't weak is preferred, then one that is global, then one with fewer
+/// A made symbol is ignored if one of the file starts with it. The symbol at an address is, of those with a
+/// size that contain it, the one with the greatest start. Of several with that start, one that isn't weak is
+/// preferred, then one that is global, then one with fewer
 /// leading underscores (255 and more are the same), then one with a longer name, then an earlier one. If none
 /// with a size contains the address, it is the symbol without a size with the greatest start at or before the
 /// address, if no symbol starts after it up to the address, no symbol with a size starts with it, and the
@@ -40,6 +44,7 @@ pub struct RankedSymbols {
 #[derive(Clone, Copy, PartialEq, Eq, PartialOrd, Ord)]
 struct Rank {
     start: u64,
+    is_of_file: bool,
     has_size: bool,
     is_strong: bool,
     is_global: bool,
@@ -75,6 +80,7 @@ fn candidate_of(names: &[u8], ranked: &RankedSymbol) -> Candidate {
     Candidate {
         rank: Rank {
             start: ranked.symbol.start,
+            is_of_file: !ranked.is_made,
             has_size: ranked.symbol.size > 0,
             is_strong: !ranked.is_weak,
             is_global: ranked.is_global,
@@ -87,14 +93,18 @@ fn candidate_of(names: &[u8], ranked: &RankedSymbol) -> Candidate {
 }
 
 // Extends each symbol without a size to the next greater start or the end of its section, unless another
-// symbol with its start is preferred. The symbols are sorted by their ranks.
+// symbol with its start is preferred. Made symbols get size 0 then. The symbols are sorted by their ranks.
 fn extend_to_next(candidates: &mut [Candidate]) {
     let mut next_start = u64::MAX;
     'candidates: for candidate in candidates.iter_mut().rev() {
         let start = candidate.symbol.start;
-        if !candidate.rank.has_size && start < next_start {
-            let end = next_start.min(candidate.section_end);
-            candidate.symbol.size = end.saturating_sub(start);
+        if start < next_start {
+            if !candidate.rank.has_size {
+                let end = next_start.min(candidate.section_end);
+                candidate.symbol.size = end.saturating_sub(start);
+            }
+        } else if !candidate.rank.is_of_file {
+            candidate.symbol.size = 0;
         }
         next_start = start;
     }

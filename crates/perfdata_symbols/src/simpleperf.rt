@@ -8,13 +8,16 @@ use perfdata_simpleperf::simpleperf::{
 };
 use std::alloc::{AllocError, Global};
 
-// What is added to the address of a symbol, modulo 2^64, for the address that it is found at: an offset in an
-// ELF file, and the address itself for other files.
+// What is added to the address of a symbol, modulo 2^64, for what it is found at: an offset in an ELF file,
+// an offset in the memory of a kernel module, and the address itself for other files.
 fn shift_of(record: &SimpleperfFileRecord) -> u64 {
     match &record.type_specific_msg {
         Some(SimpleperfTypeSpecificInfo::ElfFile(elf)) => {
             elf.file_offset_of_min_vaddr.wrapping_sub(record.min_vaddr)
         }
+        Some(SimpleperfTypeSpecificInfo::KernelModule(module)) => module
+            .memory_offset_of_min_vaddr
+            .wrapping_sub(record.min_vaddr),
         _ => 0,
     }
 }
@@ -34,6 +37,7 @@ fn add_symbol(
             name_start,
             name_end: symbols.names.len(),
         },
+        is_made: false,
         is_weak: false,
         is_global: true,
         section_end: u64::MAX,
@@ -41,9 +45,11 @@ fn add_symbol(
     Ok(())
 }
 
-/// Makes a table of the symbols of a file. Their starts are offsets in the file if it is an ELF file
-/// (`vaddr - min_vaddr + file_offset_of_min_vaddr`), and addresses otherwise. The symbol with the greatest
-/// start is preferred.
+/// Makes a table of the symbols of a file. The symbol with the greatest start is preferred.
+///
+/// The starts are, modulo 2^64, for an ELF file offsets in it (`vaddr - min_vaddr +
+/// file_offset_of_min_vaddr`), for a kernel module offsets from the start of its mapping (`vaddr - min_vaddr
+/// + memory_offset_of_min_vaddr`), and for other files the recorded addresses.
 pub fn table_of_record(
     alloc: Global,
     record: &SimpleperfFileRecord,

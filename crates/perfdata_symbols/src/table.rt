@@ -1,9 +1,10 @@
 //! Tables that find the symbol of an address.
-ghost use Rattle.std.specs.Prelude.{◌≡◌, ◌≤◌, ◌<◌, ◌^◌, ◌++◌, ◌∷◌, [], ℕ, IfOk, OnErr, OnOk, None, length};
-ghost use Rattle.std.specs.Prelude.{slice_range, vec_len};
+ghost use Rattle.std.specs.Option.{option_map};
+ghost use Rattle.std.specs.Prelude.{◌≡◌, ◌≤◌, ◌<◌, ◌^◌, ◌++◌, ◌∷◌, [], ℕ, IfOk, OnErr, OnOk, None};
+ghost use Rattle.std.specs.Prelude.{vec_len};
 ghost use Rattle.std.proofs.Props.{props};
 ghost use Rattle.perfdata_symbols.specs.Layer.{symbol_in_layers};
-ghost use Rattle.perfdata_symbols.specs.Symbols.{IsLastIndex, IsLastSymbol, last_from};
+ghost use Rattle.perfdata_symbols.specs.Symbols.{IsLastIndex, IsLastName, IsLastSymbol, IsName, last_from};
 
 use crate::layer::Layer;
 use crate::symbol::Symbol;
@@ -25,7 +26,7 @@ pub struct SymbolTable {
 }
 
 impl SymbolTable {
-    ghost use Rattle.perfdata_symbols.specs.SymbolTable.{names_of, symbols_of};
+    ghost use Rattle.perfdata_symbols.specs.SymbolTable.{names_of, part_count, symbols_of};
 
     /// Makes a table without symbols. `names` contains the names of the symbols that `push` will add,
     /// anywhere and in any order.
@@ -49,6 +50,7 @@ impl SymbolTable {
     ) -> Result<SymbolTable, AllocError>
         ensures symbols { IfOk result (λ t. symbols_of t ≡ symbols.now) }
         ensures names { IfOk result (λ t. names_of t ≡ names.items) }
+        ensures compacted { IfOk result (λ t. part_count t ≤ 1) }
     {
         let mut table = SymbolTable::new(alloc, names);
         'symbols: for symbol in symbols.iter() {
@@ -65,11 +67,16 @@ impl SymbolTable {
         &self.symbols[..]
     }
 
+    // The bytes in which the names are.
+    pub(crate) fn names(&self) -> &[u8]
+        ensures { result.now ≡ names_of self.now }
+    {
+        &self.names[..]
+    }
+
     /// Returns the name of a symbol of this table. It is empty if the offsets aren't within the names.
     pub fn name(&self, symbol: &Symbol) -> &[u8]
-        ensures { symbol.now.name_start ≤ symbol.now.name_end
-            → symbol.now.name_end ≤ length (names_of self.now)
-            → result.now ≡ slice_range (names_of self.now) symbol.now.name_start symbol.now.name_end }
+        ensures { IsName (names_of self.now) symbol.now result.now }
     {
         let (start, end) = (symbol.name_start, symbol.name_end);
         if start <= end && end <= self.names.len() {
@@ -99,6 +106,7 @@ impl SymbolTable {
     ///
     /// It can fail with `AllocError`. Searches have the same results then.
     pub fn compact(&mut self) -> Result<(), AllocError>
+        ensures compacted { OnOk result (part_count self.new ≤ 1) }
         ensures symbols { symbols_of self.new ≡ symbols_of self.old }
         ensures names { names_of self.new ≡ names_of self.old }
     {
@@ -125,7 +133,10 @@ impl SymbolTable {
     }
 
     /// Returns the name of the last symbol that contains an address, or `None` if no symbol contains it.
-    pub fn find_name(&self, address: u64) -> Option<&[u8]> {
+    pub fn find_name(&self, address: u64) -> Option<&[u8]>
+        ensures { IsLastName (names_of self.now) (symbols_of self.now) address
+            (option_map (λ name. name.now) result) }
+    {
         match self.find(address) {
             Some(symbol) => Some(self.name(&symbol)),
             None => None,
@@ -160,7 +171,8 @@ fn merge_equal(alloc: Global, layers: &mut Vec<Layer>) -> Result<(), AllocError>
 
 // Merges all layers into one.
 fn merge_all(alloc: Global, layers: &mut Vec<Layer>) -> Result<(), AllocError>
-    ensures { (x : ℕ) → symbol_in_layers layers.new.items x ≡ symbol_in_layers layers.old.items x }
+    ensures one { OnOk result (vec_len layers.new ≤ 1) }
+    ensures same { (x : ℕ) → symbol_in_layers layers.new.items x ≡ symbol_in_layers layers.old.items x }
 {
     'merges: while layers.len() > 1 {
         merge_last(alloc, layers)?;

@@ -1,5 +1,6 @@
 //! Counts the stacks of samples.
 
+use crate::big_endian::{flags_of, format_of};
 use crate::frame_names::{FrameNames, NameSource, SampleOrigin};
 use crate::names::NameTable;
 use crate::options::{Options, ThreadIds, Weight};
@@ -16,7 +17,6 @@ use perfdata_cli::position::Position;
 use perfdata_events::bits::EventFlags;
 use perfdata_events::event::EventRecord;
 use perfdata_events::fields::task::Task;
-use perfdata_events::format::EventFormat;
 use perfdata_events::sample::SampleRecord;
 use perfdata_spaces::address_spaces::{AddressSpaces, context_of_mode};
 use perfdata_stacks::counts::{CountError, StackCounts};
@@ -58,8 +58,13 @@ fn overflow() -> Error {
 }
 
 // Returns what a sample counts.
-fn weight_of(weight: Weight, attr: &PerfEventAttr, sample: &SampleRecord<'_>) -> u64 {
-    let is_frequency = EventFlags::from_bits_retain(attr.flags.0).contains(EventFlags::FREQ);
+fn weight_of(
+    weight: Weight,
+    perf_file: &PerfFile,
+    attr: &PerfEventAttr,
+    sample: &SampleRecord<'_>,
+) -> u64 {
+    let is_frequency = flags_of(perf_file, attr).contains(EventFlags::FREQ);
     match (weight, sample.period) {
         (Weight::Samples, _) => 1,
         (Weight::Period, Some(period)) => period,
@@ -68,9 +73,9 @@ fn weight_of(weight: Weight, attr: &PerfEventAttr, sample: &SampleRecord<'_>) ->
     }
 }
 
-// Returns the process and the thread of a sample. Samples without are those of the idle task.
+// Returns the process and the thread of a sample. They are -1 for samples without.
 fn task_of(sample: &SampleRecord<'_>) -> Task {
-    sample.task.unwrap_or(Task { pid: 0, tid: 0 })
+    sample.task.unwrap_or(Task { pid: -1, tid: -1 })
 }
 
 // Returns the process and the time of a sample. All code is loaded before samples without a time.
@@ -215,12 +220,13 @@ impl<'a> Folder<'a> {
     // Adds a sample of an event.
     fn add_sample(
         &mut self,
+        perf_file: &PerfFile,
         attr: &PerfEventAttr,
         misc: u16,
         sample: &SampleRecord<'_>,
     ) -> Result<(), Error> {
         self.set_stack(misc, sample)?;
-        self.count_stack(weight_of(self.options.weight, attr, sample))
+        self.count_stack(weight_of(self.options.weight, perf_file, attr, sample))
     }
 
     // Adds a record of an event.
@@ -233,12 +239,12 @@ impl<'a> Folder<'a> {
         let Some(event) = perf_file.event_attributes().get(index) else {
             return Ok(());
         };
-        let format = EventFormat::new(event.attributes(), perf_file.endian());
+        let format = format_of(perf_file, event.attributes());
         match format.parse(raw)? {
             EventRecord::Sample(sample) => {
                 if self.selection.selects(perf_file, index) {
                     self.read_metadata(perf_file)?;
-                    return self.add_sample(event.attributes(), raw.misc, &sample);
+                    return self.add_sample(perf_file, event.attributes(), raw.misc, &sample);
                 }
                 self.other_events = self.other_events.saturating_add(1);
                 Ok(())

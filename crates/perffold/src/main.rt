@@ -2,6 +2,7 @@
 //! between them, and the number of samples.
 #![tactic(auto)]
 
+mod big_endian;
 mod fold;
 mod frame_names;
 mod names;

@@ -1,7 +1,9 @@
 //! The records in the order in which they apply.
 
+use crate::big_endian::{BigEndianRecords, flags_of};
 use bitflags::Flags;
 use linux_perf_data::in_memory::InMemoryRecords;
+use linux_perf_data::raw::Endianness;
 use linux_perf_data::{Error, PerfFile, PerfFileRecord, RecordPlace};
 use perfdata_events::bits::EventFlags;
 use perfdata_order::in_memory::InMemoryOrderedRecords;
@@ -12,6 +14,8 @@ use std::alloc::Global;
 pub(crate) enum Records<'a> {
     /// In order of time.
     Ordered(InMemoryOrderedRecords<'a>),
+    /// Those of a big-endian machine, in order of time.
+    BigEndian(BigEndianRecords<'a>),
     /// In the order of the input.
     InInputOrder(InMemoryRecords<'a>),
 }
@@ -19,7 +23,7 @@ pub(crate) enum Records<'a> {
 // Returns whether the records that aren't samples have times.
 fn has_times(perf_file: &PerfFile) -> bool {
     for event in perf_file.event_attributes() {
-        let flags = EventFlags::from_bits_retain(event.attributes().flags.0);
+        let flags = flags_of(perf_file, event.attributes());
         if flags.contains(EventFlags::SAMPLE_ID_ALL) {
             return true;
         }
@@ -34,10 +38,14 @@ impl<'a> Records<'a> {
         perf_file: &PerfFile,
         records: InMemoryRecords<'a>,
     ) -> Records<'a> {
-        if has_times(perf_file) {
-            Records::Ordered(InMemoryOrderedRecords::new(alloc, records))
-        } else {
-            Records::InInputOrder(records)
+        match (has_times(perf_file), perf_file.endian()) {
+            (true, Endianness::LittleEndian) => {
+                Records::Ordered(InMemoryOrderedRecords::new(alloc, records))
+            }
+            (true, Endianness::BigEndian) => {
+                Records::BigEndian(BigEndianRecords::new(alloc, records))
+            }
+            (false, _) => Records::InInputOrder(records),
         }
     }
 
@@ -48,6 +56,7 @@ impl<'a> Records<'a> {
     ) -> Result<Option<(RecordPlace, PerfFileRecord<'a>)>, Error> {
         match self {
             Records::Ordered(records) => records.next_record(perf_file),
+            Records::BigEndian(records) => records.next_record(perf_file),
             Records::InInputOrder(records) => records.next_record(perf_file),
         }
     }

@@ -49,12 +49,22 @@ pub(crate) enum Lookup {
     },
 }
 
+// Where the symbols of a file that the recording has start.
+#[derive(Clone, Copy)]
+enum RecordedStarts {
+    /// At offsets in the file.
+    FileOffsets,
+    /// At offsets from the start of the mapping.
+    MappingOffsets,
+    /// At addresses.
+    Addresses,
+}
+
 // The table of a file that the recording has the symbols of.
 #[derive(Clone, Copy)]
 struct RecordedTable {
     index: usize,
-    /// Whether symbols start at offsets in the file.
-    has_offsets: bool,
+    starts: RecordedStarts,
 }
 
 /// The symbols that frames can have.
@@ -81,14 +91,15 @@ fn read_all(rt: &HostRuntime, mut file: File) -> io::Result<Option<Vec<u8>>> {
     Ok(Some(bytes))
 }
 
-// Returns whether the symbols of a file start at offsets in it, as those of ELF and DEX files do.
-fn has_offsets(record: &SimpleperfFileRecord) -> bool {
+// Returns where the symbols of a file start.
+fn starts_of(record: &SimpleperfFileRecord) -> RecordedStarts {
     match &record.type_specific_msg {
         Some(
             SimpleperfTypeSpecificInfo::ElfFile(_)
             | SimpleperfTypeSpecificInfo::SimpleperfDexFileInfo(_),
-        ) => true,
-        Some(SimpleperfTypeSpecificInfo::KernelModule(_)) | None => false,
+        ) => RecordedStarts::FileOffsets,
+        Some(SimpleperfTypeSpecificInfo::KernelModule(_)) => RecordedStarts::MappingOffsets,
+        None => RecordedStarts::Addresses,
     }
 }
 
@@ -100,6 +111,18 @@ fn table_lookup(index: Option<usize>, mapping: &Mapping) -> Lookup {
             shift: mapping.page_offset.wrapping_sub(mapping.start),
         },
         None => Lookup::Nowhere,
+    }
+}
+
+// Returns the place in the table of the recording at which an address of a mapping is looked up.
+fn recorded_lookup(table: &RecordedTable, mapping: &Mapping) -> Lookup {
+    match table.starts {
+        RecordedStarts::FileOffsets => table_lookup(Some(table.index), mapping),
+        RecordedStarts::MappingOffsets => Lookup::Table {
+            index: table.index,
+            shift: mapping.start.wrapping_neg(),
+        },
+        RecordedStarts::Addresses => address_lookup(Some(table.index)),
     }
 }
 
@@ -156,7 +179,7 @@ impl<'a> Symbols<'a> {
         let index = self.add_table(table_of_record(alloc, record)?)?;
         let table = RecordedTable {
             index,
-            has_offsets: has_offsets(record),
+            starts: starts_of(record),
         };
         let path = record.path.as_bytes().to_vec(alloc)?;
         self.recorded.insert(path, table)?;
@@ -269,7 +292,7 @@ impl<'a> Symbols<'a> {
     /// Returns where the symbols of a mapping of the kernel are looked up.
     pub(crate) fn kernel_lookup(&self, mapping: &Mapping) -> Lookup {
         match self.recorded.get(mapping.path.as_slice()) {
-            Some(table) => address_lookup(Some(table.index)),
+            Some(table) => recorded_lookup(table, mapping),
             None => Lookup::Kernel,
         }
     }
@@ -281,12 +304,7 @@ impl<'a> Symbols<'a> {
         has_file: bool,
     ) -> Result<Lookup, AllocError> {
         if let Some(table) = self.recorded.get(mapping.path.as_slice()) {
-            let index = Some(table.index);
-            return Ok(if table.has_offsets {
-                table_lookup(index, mapping)
-            } else {
-                address_lookup(index)
-            });
+            return Ok(recorded_lookup(table, mapping));
         }
         if has_file {
             return Ok(table_lookup(self.of_file(mapping)?, mapping));

@@ -43,6 +43,12 @@ pub(crate) const NOBITS: u32 = 8;
 /// The type of `.dynsym` (`SHT_DYNSYM`).
 pub(crate) const DYNSYM: u32 = 11;
 
+/// The section indices of symbols that don't fit into their entries (`SHT_SYMTAB_SHNDX`).
+pub(crate) const SYMTAB_INDICES: u32 = 18;
+
+// The flag of a section with code (`SHF_EXECINSTR`).
+const CODE_FLAG: u64 = 4;
+
 /// A relocatable file (`ET_REL`).
 pub(crate) const RELOCATABLE: u16 = 1;
 
@@ -82,6 +88,8 @@ pub(crate) struct Section {
     // The offset of the name in the section names.
     pub(crate) name: u32,
     pub(crate) section_type: u32,
+    // Whether the section is code.
+    pub(crate) is_code: bool,
     pub(crate) address: u64,
     pub(crate) offset: u64,
     pub(crate) size: u64,
@@ -164,6 +172,7 @@ fn section_of(entry: Entry<'_>) -> Section {
     Section {
         name: entry.u32_at(0),
         section_type: entry.u32_at(4),
+        is_code: entry.word(8, 8) & CODE_FLAG != 0,
         address: entry.word(12, 16),
         offset: entry.word(16, 24),
         size: entry.word(20, 32),

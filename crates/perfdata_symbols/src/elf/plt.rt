@@ -1,5 +1,7 @@
 //! The entries of the procedure linkage table.
 
+ghost use Rattle.std.specs.Prelude.{◌<◌};
+
 use crate::elf::header::Section;
 use crate::elf::input::{Encoding, Entry};
 use crate::elf::strings::Strings;
@@ -7,13 +9,22 @@ use crate::elf::symbols::{min_symbol_size, symbol_of};
 use crate::error::{ElfError, ElfTable};
 use crate::ranked::{RankedSymbol, RankedSymbols};
 use crate::symbol::Symbol;
+use std::alloc::{AllocError, Global};
 
-// The machines whose tables have entries of other sizes (`EM_ARM`, `EM_AARCH64`).
+// The machines whose tables are known (`EM_386`, `EM_S390`, `EM_ARM`, `EM_X86_64`, `EM_AARCH64`, `EM_RISCV`).
+const X86: u16 = 3;
+
+const S390: u16 = 22;
+
 const ARM: u16 = 40;
+
+const X86_64: u16 = 62;
 
 const AARCH64: u16 = 183;
 
-// The usual size of an entry in bytes.
+const RISCV: u16 = 243;
+
+// The size of an entry of `.plt.sec`, and of one of `.plt` for other machines, in bytes.
 const USUAL_ENTRY_SIZE: u64 = 16;
 
 // The bytes after the name of a function in that of its entry.
@@ -22,6 +33,9 @@ const SUFFIX: [u8; 4] = [b'@', b'p', b'l', b't'];
 // How many times the bytes of the string table the names of entries may have.
 const MAX_NAME_SHARE: usize = 8;
 
+// The largest size of the code for TLS descriptors after the last entry, in bytes.
+const MAX_DESCRIPTOR_CODE_SIZE: u64 = 40;
+
 // The size of the part before the first entry, and the size of an entry, in bytes.
 #[derive(Clone, Copy)]
 pub(crate) struct PltLayout {
@@ -29,16 +43,84 @@ pub(crate) struct PltLayout {
     entry_size: u64,
 }
 
-// The layout of `.plt.sec`.
-pub(crate) const WITHOUT_HEADER: PltLayout = PltLayout {
-    header_size: 0,
-    entry_size: USUAL_ENTRY_SIZE,
-};
+// The tables of GNU ld, gold and lld, and of mold.
+const X86_LAYOUTS: [PltLayout; 2] = [
+    PltLayout {
+        header_size: 16,
+        entry_size: 16,
+    },
+    PltLayout {
+        header_size: 32,
+        entry_size: 16,
+    },
+];
+
+const S390_LAYOUTS: [PltLayout; 1] = [PltLayout {
+    header_size: 32,
+    entry_size: 32,
+}];
+
+// The tables of GNU ld, with short and with long entries, and of lld and mold.
+const ARM_LAYOUTS: [PltLayout; 3] = [
+    PltLayout {
+        header_size: 20,
+        entry_size: 12,
+    },
+    PltLayout {
+        header_size: 20,
+        entry_size: 16,
+    },
+    PltLayout {
+        header_size: 32,
+        entry_size: 16,
+    },
+];
+
+// Entries that start with the instruction for indirect branches (BTI) have 24 bytes.
+const AARCH64_LAYOUTS: [PltLayout; 2] = [
+    PltLayout {
+        header_size: 32,
+        entry_size: 16,
+    },
+    PltLayout {
+        header_size: 32,
+        entry_size: 24,
+    },
+];
+
+const RISCV_LAYOUTS: [PltLayout; 1] = [PltLayout {
+    header_size: 32,
+    entry_size: 16,
+}];
+
+// Whether a relocation is of a function that is called by an entry.
+#[derive(Clone, Copy, PartialEq, Eq)]
+enum RelocationKind {
+    // Of a symbol's function (`R_.._JUMP_SLOT`).
+    Function,
+    // Of a function that the program chooses (`R_.._IRELATIVE`), which has an entry but no symbol.
+    Indirect,
+    // Of a TLS descriptor (`R_.._TLSDESC`), which has no entry. Code for all of them may follow the entries.
+    Descriptor,
+    // Of something else.
+    Other,
+}
+
+// A relocation of the table.
+#[derive(Clone, Copy)]
+struct Relocation {
+    // The address of the pointer by which its entry jumps.
+    offset: u64,
+    // The index of its symbol.
+    symbol: u64,
+    kind: RelocationKind,
+}
 
 // What the relocations refer to.
 #[derive(Clone, Copy)]
 pub(crate) struct PltContext<'a> {
     pub(crate) encoding: Encoding,
+    pub(crate) machine: u16,
     pub(crate) relocations: &'a [u8],
     pub(crate) relocation_size: u64,
     pub(crate) symbols: &'a [u8],
@@ -46,36 +128,114 @@ pub(crate) struct PltContext<'a> {
     pub(crate) names: &'a Strings,
 }
 
-// The layout of `.plt`.
-pub(crate) fn layout_of(machine: u16, section: &Section) -> PltLayout {
-    let (header_size, entry_size) = match machine {
-        ARM => (20, 12),
-        AARCH64 => (32, 16),
-        _ => {
-            let size = if section.entry_size == 0 {
-                USUAL_ENTRY_SIZE
-            } else {
-                section.entry_size
-            };
-            (size, size)
-        }
-    };
-    PltLayout {
-        header_size,
-        entry_size,
+// The layouts of `.plt` that linkers write for a machine.
+fn layouts_of(machine: u16) -> &'static [PltLayout] {
+    match machine {
+        X86 | X86_64 => &X86_LAYOUTS,
+        S390 => &S390_LAYOUTS,
+        ARM => &ARM_LAYOUTS,
+        AARCH64 => &AARCH64_LAYOUTS,
+        RISCV => &RISCV_LAYOUTS,
+        _ => &[],
     }
 }
 
+// The kind of a relocation of this type (the processor supplements of the System V ABI). All types of other
+// machines count as those of functions.
+fn kind_of(machine: u16, relocation_type: u64) -> RelocationKind {
+    match (machine, relocation_type) {
+        (X86 | X86_64, 7) | (S390, 11) | (ARM, 22) | (AARCH64, 1026) | (RISCV, 5) => {
+            RelocationKind::Function
+        }
+        (X86, 42) | (X86_64, 37) | (S390, 61) | (ARM, 160) | (AARCH64, 1032) | (RISCV, 58) => {
+            RelocationKind::Indirect
+        }
+        (X86, 41) | (X86_64, 36) | (ARM, 13) | (AARCH64, 1031) => RelocationKind::Descriptor,
+        (X86 | X86_64 | S390 | ARM | AARCH64 | RISCV, _) => RelocationKind::Other,
+        _ => RelocationKind::Function,
+    }
+}
+
+// The relocation in these bytes.
+fn relocation_of(machine: u16, entry: Entry<'_>) -> Relocation {
+    let info = entry.word(4, 8);
+    let (symbol, relocation_type) = if entry.encoding.is_64_bit {
+        (info >> 32, info % (1 << 32))
+    } else {
+        (info >> 8, info % (1 << 8))
+    };
+    Relocation {
+        offset: entry.word(0, 0),
+        symbol,
+        kind: kind_of(machine, relocation_type),
+    }
+}
+
+impl PltLayout {
+    // Whether a section of this size has the header, this many entries, and at most `max_rest` bytes after
+    // them.
+    fn fits(&self, size: u64, count: u64, max_rest: u64) -> bool {
+        match count.checked_mul(self.entry_size) {
+            Some(entries) => match self.header_size.checked_add(entries) {
+                Some(end) => end <= size && size - end <= max_rest,
+                None => false,
+            },
+            None => false,
+        }
+    }
+
+    // The offset of an entry in the section, modulo 2^64.
+    fn offset_of(&self, index: u64) -> u64 {
+        index
+            .wrapping_mul(self.entry_size)
+            .wrapping_add(self.header_size)
+    }
+}
+
+// The layout for another machine: entries of the size that the section header gives, at the end.
+fn usual_layout(section: &Section, count: u64) -> Option<PltLayout> {
+    let entry_size = if section.entry_size == 0 {
+        USUAL_ENTRY_SIZE
+    } else {
+        section.entry_size
+    };
+    let entries = count.checked_mul(entry_size)?;
+    Some(PltLayout {
+        header_size: section.size.checked_sub(entries)?,
+        entry_size,
+    })
+}
+
+// The layout of `.plt` with this many entries, or `None` if no linker writes that.
+fn layout_of(machine: u16, section: &Section, count: u64, max_rest: u64) -> Option<PltLayout> {
+    let layouts = layouts_of(machine);
+    if layouts.is_empty() {
+        return usual_layout(section, count);
+    }
+    'layouts: for layout in layouts.iter() {
+        if layout.fits(section.size, count, max_rest) {
+            return Some(*layout);
+        }
+    }
+    None
+}
+
 impl<'a> PltContext<'a> {
+    // The relocations, in their order in the file.
+    fn all_relocations(&self, alloc: Global) -> Result<Vec<Relocation>, AllocError>
+        requires { 0 < self.now.relocation_size }
+    {
+        let encoding = self.encoding;
+        let mut relocations = Vec::new(alloc);
+        'relocations: for bytes in self.relocations.chunks_exact(self.relocation_size as usize) {
+            relocations.push(relocation_of(self.machine, Entry { encoding, bytes }))?;
+        }
+        Ok(relocations)
+    }
+
     // The name of the symbol of a relocation.
-    fn name_of(&self, relocation: Entry<'_>) -> Option<&'a [u8]> {
-        let info = relocation.word(4, 8);
-        let index = if self.encoding.is_64_bit {
-            info >> 32
-        } else {
-            info >> 8
-        };
-        let start = index.checked_mul(self.symbol_size)?;
+    fn name_of(&self, relocation: &Relocation) -> Option<&'a [u8]> {
+        let start = relocation.symbol.checked_mul(self.symbol_size)?;
         let end = start.checked_add(self.symbol_size)?;
         if end > self.symbols.len() as u64 {
             return None;
@@ -88,13 +248,130 @@ impl<'a> PltContext<'a> {
     }
 }
 
+// The relocations that have entries, in the order of the entries, which is that of the pointers.
+#[derive(Drop)]
+pub(crate) struct PltRelocations {
+    machine: u16,
+    // Those of symbols and those that the program chooses.
+    all: Vec<Relocation>,
+    // Those of symbols.
+    of_functions: Vec<Relocation>,
+    // Whether code for TLS descriptors may follow the entries.
+    has_descriptors: bool,
+}
+
+impl PltRelocations {
+    pub(crate) fn read(
+        alloc: Global,
+        context: &PltContext<'_>,
+    ) -> Result<PltRelocations, ElfError> {
+        let encoding = context.encoding;
+        if context.relocation_size < encoding.select(8, 16) as u64 {
+            return Err(ElfError::EntrySize(ElfTable::Relocations, context.relocation_size));
+        }
+        if context.symbol_size < min_symbol_size(encoding) as u64 {
+            return Err(ElfError::EntrySize(ElfTable::Symbols, context.symbol_size));
+        }
+        let mut relocations = context.all_relocations(alloc)?;
+        relocations.sort_by_key(|relocation| relocation.offset)?;
+        Ok(PltRelocations {
+            machine: context.machine,
+            all: with_kinds(alloc, &relocations, true)?,
+            of_functions: with_kinds(alloc, &relocations, false)?,
+            has_descriptors: relocations
+                .iter()
+                .any(|relocation| relocation.kind == RelocationKind::Descriptor),
+        })
+    }
+
+    // The relocations of the entries of `.plt`, and its layout. `None` if it isn't what linkers write.
+    fn plt_entries(&self, section: &Section) -> Option<(&[Relocation], PltLayout)> {
+        let max_rest = if self.has_descriptors {
+            MAX_DESCRIPTOR_CODE_SIZE
+        } else {
+            0
+        };
+        // Some linkers have the entries of chosen functions in another section.
+        if let Some(layout) = layout_of(self.machine, section, self.all.len() as u64, max_rest) {
+            return Some((&self.all, layout));
+        }
+        let count = self.of_functions.len() as u64;
+        match layout_of(self.machine, section, count, max_rest) {
+            Some(layout) => Some((&self.of_functions, layout)),
+            None => None,
+        }
+    }
+
+    // The relocations of the entries of `.plt.sec`, which has no header, and its layout.
+    fn second_entries(&self, section: &Section) -> Option<(&[Relocation], PltLayout)> {
+        let layout = PltLayout {
+            header_size: 0,
+            entry_size: USUAL_ENTRY_SIZE,
+        };
+        if layout.fits(section.size, self.all.len() as u64, 0) {
+            Some((&self.all, layout))
+        } else if layout.fits(section.size, self.of_functions.len() as u64, 0) {
+            Some((&self.of_functions, layout))
+        } else {
+            None
+        }
+    }
+
+    /// Adds the symbols of the entries of `.plt`.
+    pub(crate) fn add_plt(
+        &self,
+        context: &PltContext<'_>,
+        section: &Section,
+        symbols: &mut RankedSymbols,
+    ) -> Result<(), AllocError> {
+        match self.plt_entries(section) {
+            Some((relocations, layout)) => {
+                add_entries(context, section, layout, relocations, symbols)
+            }
+            None => Ok(()),
+        }
+    }
+
+    /// Adds the symbols of the entries of `.plt.sec`.
+    pub(crate) fn add_second_plt(
+        &self,
+        context: &PltContext<'_>,
+        section: &Section,
+        symbols: &mut RankedSymbols,
+    ) -> Result<(), AllocError> {
+        match self.second_entries(section) {
+            Some((relocations, layout)) => {
+                add_entries(context, section, layout, relocations, symbols)
+            }
+            None => Ok(()),
+        }
+    }
+}
+
+// The relocations of functions, and those of functions that the program chooses if `are_all`.
+fn with_kinds(
+    alloc: Global,
+    relocations: &[Relocation],
+    are_all: bool,
+) -> Result<Vec<Relocation>, AllocError> {
+    let mut found = Vec::new(alloc);
+    'relocations: for relocation in relocations.iter() {
+        match relocation.kind {
+            RelocationKind::Function => found.push(*relocation)?,
+            RelocationKind::Indirect if are_all => found.push(*relocation)?,
+            _ => {}
+        }
+    }
+    Ok(found)
+}
+
 // Adds a symbol whose name is that of a function, and `@plt`.
 fn add_entry(
     symbols: &mut RankedSymbols,
     start: u64,
     size: u64,
     name: &[u8],
-) -> Result<(), ElfError> {
+) -> Result<(), AllocError> {
     let name_start = symbols.names.len();
     symbols.names.extend_from_slice(name)?;
     symbols.names.extend_from_slice(&SUFFIX)?;
@@ -105,6 +382,7 @@ fn add_entry(
             name_start,
             name_end: symbols.names.len(),
         },
+        is_made: true,
         is_weak: false,
         is_global: true,
         section_end: u64::MAX,
@@ -112,39 +390,28 @@ fn add_entry(
     Ok(())
 }
 
-// Adds the symbols of a section's entries. Stops at the end of the section, or once the names have eight
-// times the bytes of the string table, which only names that overlap can have.
-pub(crate) fn add_plt(
+// Adds the symbols of a section's entries. Stops once the names have eight times the bytes of the string
+// table, which only names that overlap can have.
+fn add_entries(
     context: &PltContext<'_>,
     section: &Section,
     layout: PltLayout,
+    relocations: &[Relocation],
     symbols: &mut RankedSymbols,
-) -> Result<(), ElfError> {
-    let encoding = context.encoding;
-    if context.relocation_size < encoding.select(8, 16) as u64 {
-        return Err(ElfError::EntrySize(ElfTable::Relocations, context.relocation_size));
-    }
-    if context.symbol_size < min_symbol_size(encoding) as u64 {
-        return Err(ElfError::EntrySize(ElfTable::Symbols, context.symbol_size));
-    }
+) -> Result<(), AllocError> {
     let limit = symbols
         .names
         .len()
         .saturating_add(context.names.len().saturating_mul(MAX_NAME_SHARE));
-    let mut offset = layout.header_size;
-    'relocations: for bytes in context
-        .relocations
-        .chunks_exact(context.relocation_size as usize)
-    {
-        if offset >= section.size || symbols.names.len() > limit {
+    'relocations: for (index, relocation) in relocations.iter().enumerate() {
+        if symbols.names.len() > limit {
             return Ok(());
         }
-        let name = context.name_of(Entry { encoding, bytes }).unwrap_or(&[]);
+        let name = context.name_of(relocation).unwrap_or(&[]);
         if !name.is_empty() {
-            let start = section.offset.wrapping_add(offset);
+            let start = section.offset.wrapping_add(layout.offset_of(index as u64));
             add_entry(symbols, start, layout.entry_size, name)?;
         }
-        offset = offset.saturating_add(layout.entry_size);
     }
     Ok(())
 }

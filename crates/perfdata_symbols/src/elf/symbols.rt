@@ -29,10 +29,15 @@ const INTERNAL: u8 = 1;
 
 const HIDDEN: u8 = 2;
 
-// The sections of symbols that are in another file or have no section (`SHN_UNDEF`, `SHN_ABS`).
+// The section of symbols that are in another file (`SHN_UNDEF`).
 const UNDEFINED: u16 = 0;
 
-const ABSOLUTE: u16 = 0xfff1;
+// The index of a symbol's section is in another section (`SHN_XINDEX`).
+const LARGE_INDEX: u16 = 0xffff;
+
+// From this index on, an entry has a number that is no section, such as that of symbols without one
+// (`SHN_LORESERVE`).
+const FIRST_RESERVED: u16 = 0xff00;
 
 // The 32-bit machine of Arm (`EM_ARM`). Bit 0 of a function's value there says in which mode it runs.
 const ARM: u16 = 40;
@@ -43,6 +48,8 @@ pub(crate) struct SymbolContext<'a> {
     pub(crate) header: FileHeader,
     pub(crate) sections: &'a [Section],
     pub(crate) text_sections: &'a [bool],
+    // The section indices of all symbols, four bytes each, or none.
+    pub(crate) section_indices: &'a [u8],
     pub(crate) segments: &'a [Segment],
     pub(crate) names: &'a Strings,
 }
@@ -96,19 +103,35 @@ fn offset_of_address(segments: &[Segment], address: u64) -> Option<u64> {
 }
 
 impl SymbolContext<'_> {
-    fn section(&self, index: u16) -> Option<Section> {
-        if (index as usize) < self.sections.len() {
-            Some(self.sections[index as usize])
+    // The index of the section of the symbol with an index, or `None` if it has no section.
+    fn section_index(&self, symbol: &ElfSymbol, symbol_index: usize) -> Option<usize> {
+        if symbol.section == LARGE_INDEX {
+            let entry = Entry {
+                encoding: self.header.encoding,
+                bytes: self.section_indices,
+            };
+            return Some(entry.u32_at(symbol_index.saturating_mul(4)) as usize);
+        }
+        if symbol.section >= FIRST_RESERVED {
+            return None;
+        }
+        Some(symbol.section as usize)
+    }
+
+    fn section(&self, index: usize) -> Option<Section> {
+        if index < self.sections.len() {
+            Some(self.sections[index])
         } else {
             None
         }
     }
 
     // Whether a symbol without a type is a label in code.
-    fn is_label(&self, symbol: &ElfSymbol) -> bool {
-        let index = symbol.section as usize;
-        symbol.section != ABSOLUTE
-            && symbol.visibility != INTERNAL
+    fn is_label(&self, symbol: &ElfSymbol, section: Option<usize>) -> bool {
+        let Some(index) = section else {
+            return false;
+        };
+        symbol.visibility != INTERNAL
             && symbol.visibility != HIDDEN
             && index < self.text_sections.len()
             && self.text_sections[index]
@@ -116,13 +139,13 @@ impl SymbolContext<'_> {
     }
 
     // Whether a symbol is one of a function, an object or a label.
-    fn is_listed(&self, symbol: &ElfSymbol) -> bool {
+    fn is_listed(&self, symbol: &ElfSymbol, section: Option<usize>) -> bool {
         if symbol.name == 0 || symbol.section == UNDEFINED {
             return false;
         }
         match symbol.symbol_type {
             FUNCTION | INDIRECT_FUNCTION | OBJECT => true,
-            NO_TYPE => self.is_label(symbol),
+            NO_TYPE => self.is_label(symbol, section),
             _ => false,
         }
     }
@@ -135,15 +158,16 @@ impl SymbolContext<'_> {
         } else {
             symbol.value
         };
-        if self.header.file_type == RELOCATABLE {
+        if self.header.file_type == RELOCATABLE || self.segments.is_empty() {
             return section.map(|s| value.wrapping_sub(s.address).wrapping_add(s.offset));
         }
         offset_of_address(self.segments, value)
     }
 
-    // The symbol of an entry, if it is listed.
-    fn ranked(&self, symbol: &ElfSymbol) -> Option<RankedSymbol> {
-        if !self.is_listed(symbol) {
+    // The symbol of the entry with an index, if it is listed.
+    fn ranked(&self, symbol: &ElfSymbol, symbol_index: usize) -> Option<RankedSymbol> {
+        let section_index = self.section_index(symbol, symbol_index);
+        if !self.is_listed(symbol, section_index) {
             return None;
         }
         let name_start = symbol.name as usize;
@@ -151,7 +175,10 @@ impl SymbolContext<'_> {
         if name_end <= name_start {
             return None;
         }
-        let section = self.section(symbol.section);
+        let section = match section_index {
+            Some(index) => self.section(index),
+            None => None,
+        };
         let start = self.offset_of(symbol, section)?;
         Some(RankedSymbol {
             symbol: Symbol {
@@ -160,6 +187,7 @@ impl SymbolContext<'_> {
                 name_start,
                 name_end,
             },
+            is_made: false,
             is_weak: symbol.binding == WEAK,
             is_global: symbol.binding == GLOBAL,
             section_end: section_end(section, symbol.value, start),
@@ -189,9 +217,9 @@ pub(crate) fn add_symbols(
     if entry_size < min_symbol_size(encoding) as u64 {
         return Err(ElfError::EntrySize(ElfTable::Symbols, entry_size));
     }
-    'entries: for bytes in entries.chunks_exact(entry_size as usize) {
+    'entries: for (index, bytes) in entries.chunks_exact(entry_size as usize).enumerate() {
         let symbol = symbol_of(Entry { encoding, bytes });
-        if let Some(ranked) = context.ranked(&symbol) {
+        if let Some(ranked) = context.ranked(&symbol, index) {
             symbols.push(ranked)?;
         }
     }

@@ -18,6 +18,8 @@ pub(crate) struct DebugPath {
     pub(crate) place: DebugPlace,
     /// The path below the directory, which starts with a slash.
     pub(crate) path: String,
+    /// The CRC-32 of the file, if the mapped file's debug link has this path.
+    pub(crate) crc: Option<u32>,
 }
 
 // Returns the path of the directory of a file, with a slash at the end.
@@ -28,24 +30,29 @@ fn directory_of(path: &str) -> &str {
     }
 }
 
-// Adds the paths of the debug file that a mapped file in this directory names.
+// Adds the paths of the debug file with this name and CRC-32, which a mapped file in this directory names.
 fn add_linked(
     alloc: Global,
     directory: &str,
     name: &str,
+    crc: u32,
     paths: &mut Vec<DebugPath>,
 ) -> Result<(), AllocError> {
+    let crc = Some(crc);
     paths.push(DebugPath {
         place: DebugPlace::Files,
         path: format!(in alloc; "{directory}{name}")?,
+        crc,
     })?;
     paths.push(DebugPath {
         place: DebugPlace::Files,
         path: format!(in alloc; "{directory}.debug/{name}")?,
+        crc,
     })?;
     paths.push(DebugPath {
         place: DebugPlace::DebugFiles,
         path: format!(in alloc; "{directory}{name}")?,
+        crc,
     })?;
     Ok(())
 }
@@ -75,18 +82,20 @@ pub(crate) fn debug_paths(
     let mut paths = Vec::new(alloc);
     if let Some(link) = link {
         if let Ok(name) = str::from_utf8(&link.file_name) {
-            add_linked(alloc, directory_of(path), name, &mut paths)?;
+            add_linked(alloc, directory_of(path), name, link.crc, &mut paths)?;
         }
     }
     if !id.is_empty() {
         paths.push(DebugPath {
             place: DebugPlace::DebugFiles,
             path: build_id_path(alloc, id)?,
+            crc: None,
         })?;
     }
     paths.push(DebugPath {
         place: DebugPlace::DebugFiles,
         path: String::from_str(alloc, path)?,
+        crc: None,
     })?;
     Ok(paths)
 }

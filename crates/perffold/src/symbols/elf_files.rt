@@ -3,10 +3,16 @@
 use crate::symbols::debug_paths::{DebugPath, DebugPlace, debug_paths};
 use crate::symbols::directories::Directories;
 use perfdata_base::source::CountedBuffer;
-use perfdata_symbols::{DebugLink, ElfError, ElfFile, RankedSymbols, SymbolSection, SymbolTable};
+use perfdata_symbols::{
+    Crc32, DebugLink, ElfError, ElfFile, RankedSymbols, SymbolSection, SymbolTable,
+};
 use std::alloc::{AllocError, Global};
 use std::fs::File;
-use std::io::{BufReader, ErrorKind};
+use std::io;
+use std::io::{BufReader, ErrorKind, Read};
+
+// The number of bytes of a file that are read at once for its CRC-32.
+const PIECE_SIZE: usize = 4096;
 
 // An ELF file whose headers are read.
 type Elf = ElfFile<CountedBuffer<File>>;
@@ -43,6 +49,20 @@ pub(crate) fn is_recorded(id: &[u8], recorded: &[u8]) -> bool {
     !id.is_empty() && (is_extended(id, recorded) || is_extended(recorded, id))
 }
 
+// Returns the CRC-32 of the rest of a file.
+fn crc_of(file: &mut File) -> io::Result<u32> {
+    let mut crc = Crc32::new();
+    let mut piece = [0u8; PIECE_SIZE];
+    for _ in 0..u64::MAX {
+        let count = file.read(&mut piece)?;
+        if count == 0 {
+            break;
+        }
+        crc.update(piece.get(..count).unwrap_or(&[]));
+    }
+    Ok(crc.value())
+}
+
 // Returns whether a debug file has more symbols than the mapped file.
 fn is_preferred(debug: &Elf, mapped: &Elf) -> bool {
     debug.symbol_section() == Some(SymbolSection::Full)
@@ -65,13 +85,6 @@ fn symbols_of(
         Some(mut debug) if is_preferred(&debug, mapped) => debug.symbols(alloc, mapped.segments()),
         _ => own_symbols(alloc, mapped),
     }
-}
-
-// Returns the table of the symbols of a mapped file.
-fn table_of(alloc: Global, mapped: &mut Elf, debug: Option<Elf>) -> Result<SymbolTable, ElfError> {
-    let mut symbols = symbols_of(alloc, mapped, debug)?;
-    mapped.add_plt_symbols(alloc, &mut symbols)?;
-    Ok(symbols.into_table(alloc)?)
 }
 
 impl<'a> ElfFiles<'a> {
@@ -154,16 +167,43 @@ impl<'a> ElfFiles<'a> {
         }
     }
 
+    // Returns whether a debug file has the CRC-32 of the debug link, which decides where there is no build
+    // id.
+    fn is_linked(
+        &mut self,
+        file: &mut File,
+        crc: Option<u32>,
+        recorded: &[u8],
+    ) -> Result<bool, AllocError> {
+        let Some(crc) = crc else {
+            return Ok(true);
+        };
+        if !recorded.is_empty() {
+            return Ok(true);
+        }
+        match self.readable(crc_of(file).map_err(ElfError::Io))? {
+            Some(found) if found == crc => Ok(true),
+            Some(_) => {
+                self.counts.different = self.counts.different.saturating_add(1);
+                Ok(false)
+            }
+            None => Ok(false),
+        }
+    }
+
     // Opens a debug file.
     fn open_debug(&mut self, path: &DebugPath, recorded: &[u8]) -> Result<Option<Elf>, AllocError> {
         let directory = match path.place {
             DebugPlace::Files => &self.directories.files,
             DebugPlace::DebugFiles => &self.directories.debug_files,
         };
-        match directory.open(self.rt, path.path.as_str())? {
-            Some(file) => self.open_recorded(file, recorded),
-            None => Ok(None),
+        let Some(mut file) = directory.open(self.rt, path.path.as_str())? else {
+            return Ok(None);
+        };
+        if !self.is_linked(&mut file, path.crc, recorded)? {
+            return Ok(None);
         }
+        self.open_recorded(file, recorded)
     }
 
     // Returns the first debug file with all symbols, or else the first with those for the dynamic linker.
@@ -203,6 +243,21 @@ impl<'a> ElfFiles<'a> {
         self.first_with_symbols(&paths, &id)
     }
 
+    // Returns the table of the symbols of a mapped file. A procedure linkage table that can't be read loses
+    // its own names only.
+    fn table_of(
+        &mut self,
+        mapped: &mut Elf,
+        debug: Option<Elf>,
+    ) -> Result<Option<SymbolTable>, AllocError> {
+        let alloc = self.rt.alloc();
+        let Some(mut symbols) = self.readable(symbols_of(alloc, mapped, debug))? else {
+            return Ok(None);
+        };
+        let _ = self.readable(mapped.add_plt_symbols(alloc, &mut symbols))?;
+        Ok(Some(symbols.into_table(alloc)?))
+    }
+
     /// Returns the symbols of the file at a path, whose build id was recorded if it isn't empty. Their starts
     /// are offsets in the file.
     pub(crate) fn table(
@@ -217,7 +272,6 @@ impl<'a> ElfFiles<'a> {
         if recorded.is_empty() {
             self.counts.unknown = self.counts.unknown.saturating_add(1);
         }
-        let table = table_of(self.rt.alloc(), &mut mapped, debug);
-        self.readable(table)
+        self.table_of(&mut mapped, debug)
     }
 }

@@ -2,13 +2,17 @@
 
 use crate::names::NameTable;
 use crate::symbols::named_table::SymbolNumbers;
+use bstr::ByteSlice;
 use perfdata_spaces::mapping::Mapping;
-use perfdata_symbols::{SymbolTable, address_of, parse_kallsyms};
+use perfdata_symbols::{Symbol, SymbolTable, address_of, module_of, parse_kallsyms};
 use std::alloc::AllocError;
 use std::{fs, io};
 
 /// The path of the kernel's own mapping, which the name of a symbol follows.
 pub(crate) const KERNEL_PATH: &[u8] = b"[kernel.kallsyms]";
+
+// What is after the name of a module in that of its file.
+const MODULE_SUFFIX: &[u8] = b".ko";
 
 /// The kernel's list of symbols.
 #[derive(Drop)]
@@ -45,12 +49,13 @@ impl KernelSymbols {
         })
     }
 
-    /// Adds a mapping of the kernel. The first of its own says where the symbol is that its path names.
+    /// Adds a mapping of the kernel. The first of its own with a page offset says where the symbol is that
+    /// its path names.
     pub(crate) fn add_mapping(&mut self, path: &[u8], page_offset: u64) {
         let Some(symbol) = path.strip_prefix(KERNEL_PATH) else {
             return;
         };
-        if self.shift.is_none() {
+        if self.shift.is_none() && page_offset != 0 {
             self.shift = Some(match address_of(&self.table, symbol) {
                 Some(address) => address.wrapping_sub(page_offset),
                 None => 0,
@@ -58,30 +63,101 @@ impl KernelSymbols {
         }
     }
 
-    // Returns whether the symbol at an address is that of a module.
-    fn is_of_module(&self, mapping: &Mapping, address: u64) -> bool {
-        match (self.shift, self.table.find(address)) {
-            (None | Some(0), Some(symbol)) => symbol.start >= mapping.start,
-            _ => false,
+    // Returns whether a symbol is one of the kernel itself.
+    fn is_of_kernel(&self, symbol: &Symbol) -> bool {
+        module_of(&self.table, symbol).is_empty()
+    }
+
+    // Returns the index of the symbol at an address of the list.
+    fn index_at(&self, address: u64) -> Option<(usize, Symbol)> {
+        let index = self.table.find_index(address)?;
+        let symbol = self.table.symbols().get(index)?;
+        Some((index, *symbol))
+    }
+
+    // Returns the index of the symbol of a module at an address. Modules have the addresses of the recording
+    // if the kernel wasn't restarted.
+    fn module_index_at(&self, address: u64) -> Option<(usize, Symbol)> {
+        if self.shift.unwrap_or(0) != 0 {
+            return None;
+        }
+        self.index_at(address)
+    }
+
+    // Returns the index of the symbol at an address of the kernel's own mapping. The addresses of modules
+    // aren't shifted.
+    fn kernel_index(&self, address: u64) -> Option<usize> {
+        if let Some((_index, symbol)) = self.index_at(address) {
+            if !self.is_of_kernel(&symbol) {
+                let (index, _symbol) = self.module_index_at(address)?;
+                return Some(index);
+            }
+        }
+        let (index, symbol) = self.index_at(address.wrapping_add(self.shift.unwrap_or(0)))?;
+        if self.is_of_kernel(&symbol) {
+            Some(index)
+        } else {
+            None
+        }
+    }
+
+    // Returns the index of the symbol at an address of a module's mapping, if it is one of that module.
+    fn module_index(&self, mapping: &Mapping, address: u64) -> Option<usize> {
+        let (index, symbol) = self.module_index_at(address)?;
+        let module = module_of(&self.table, &symbol);
+        if symbol.start >= mapping.start && is_module(mapping.path.as_slice(), module) {
+            Some(index)
+        } else {
+            None
         }
     }
 
     /// Returns the number of the name of the symbol at an address of a mapping, or `None` if there is none.
-    /// The list has the symbols of modules too, at the addresses of the recording if the kernel wasn't
-    /// restarted.
     pub(crate) fn at(
         &mut self,
         mapping: &Mapping,
         address: u64,
         names: &mut NameTable,
     ) -> Result<Option<usize>, AllocError> {
-        if mapping.path.as_slice().starts_with(KERNEL_PATH) {
-            let address = address.wrapping_add(self.shift.unwrap_or(0));
-            return self.numbers.at(address, &self.table, names);
+        let index = if mapping.path.as_slice().starts_with(KERNEL_PATH) {
+            self.kernel_index(address)
+        } else {
+            self.module_index(mapping, address)
+        };
+        match index {
+            Some(index) => self.numbers.of_symbol(index, &self.table, names),
+            None => Ok(None),
         }
-        if self.is_of_module(mapping, address) {
-            return self.numbers.at(address, &self.table, names);
-        }
-        Ok(None)
     }
+}
+
+// Returns the name of a module by the path of its file, or by its name in brackets.
+fn module_name(path: &[u8]) -> &[u8] {
+    let name = match path.iter().rposition(|byte| *byte == b'/') {
+        Some(at) => path.get(at.saturating_add(1)..).unwrap_or(path),
+        None => path,
+    };
+    if let Some(rest) = name.strip_prefix(b"[") {
+        return rest.strip_suffix(b"]").unwrap_or(rest);
+    }
+    match name.find(MODULE_SUFFIX) {
+        Some(len) => name.get(..len).unwrap_or(name),
+        None => name,
+    }
+}
+
+// Returns whether a byte of the name of a module is that of its file. The kernel writes `_` for `-`.
+fn is_same_byte(of_module: u8, of_file: u8) -> bool {
+    of_module == of_file || (of_module == b'_' && of_file == b'-')
+}
+
+// Returns whether a path is that of the file of a module.
+fn is_module(path: &[u8], module: &[u8]) -> bool {
+    let name = module_name(path);
+    !module.is_empty()
+        && module.len() == name.len()
+        && module
+            .iter()
+            .zip(name.iter())
+            .all(|(of_module, of_file)| is_same_byte(*of_module, *of_file))
 }

@@ -38,8 +38,8 @@ impl SymbolNumbers {
         Ok(())
     }
 
-    // Returns the number of the name of a symbol of the table, or `None` if it has no name.
-    fn of_symbol(
+    /// Returns the number of the name of the symbol with an index, or `None` if it has no name.
+    pub(crate) fn of_symbol(
         &mut self,
         index: usize,
         table: &SymbolTable,
