@@ -152,7 +152,7 @@ impl<'a> Folder<'a> {
         for frame in SampleFrames::new(sample, context_of_mode(misc)) {
             let number = self
                 .frame_names
-                .number(origin, frame, &self.spaces, &mut self.names)?;
+                .number(origin, frame.frame, &self.spaces, &mut self.names)?;
             self.stack.push(number)?;
         }
         Ok(())
