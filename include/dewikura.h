@@ -752,7 +752,8 @@ static inline size_t dewikura_status_text(dewikura_status status, char *buffer, 
     return dewikura_status_text_raw(status, buffer ? buffer : &no_byte, capacity);
 }
 
-// Returns the kind of an input by its first 16 bytes: one of DEWIKURA_KIND_*. `size` may be less for a short input, or more.
+// Returns the kind of an input by its first 16 bytes: one of DEWIKURA_KIND_*. `size` may be less for a short input,
+// or more.
 static inline uint32_t dewikura_input_kind(const void *data, size_t size)
 {
     const char no_data = 0;

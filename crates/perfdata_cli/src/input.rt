@@ -49,7 +49,8 @@ pub fn display_name(path: &str) -> &str {
     }
 }
 
-/// Returns the path at which an input with this name in messages can be opened again, if it is a regular file.
+/// Returns the path at which an input with this name in messages can be opened again, if it is a regular
+/// file.
 pub(crate) fn path_of_name(name: &str) -> &str {
     match name {
         STANDARD_INPUT_NAME => STANDARD_INPUT_PATH,

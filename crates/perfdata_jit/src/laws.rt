@@ -22,8 +22,8 @@ pub fn jit_record_type_numbers()
     ensures code_unwinding_info { JitDumpRecordType.JIT_CODE_UNWINDING_INFO.0 ≡ 4 }
 {}
 
-/// Types of jitdump records are equal if and only if their numbers are. Equal types have the same hash, and the
-/// order of types is that of their numbers.
+/// Types of jitdump records are equal if and only if their numbers are. Equal types have the same hash, and
+/// the order of types is that of their numbers.
 pub fn jit_record_types_compare_by_number()
     ensures equality { JitTypesEqualByNumber }
     ensures hash { JitTypesHashByNumber }

@@ -1,4 +1,5 @@
 pub mod Applying
+pub mod Beyond
 pub mod Finding
 pub mod FollowSteps
 pub mod HistorySteps

@@ -31,3 +31,11 @@ flat_map_push f xs x = flat_map-append f xs (x ∷ []) ∙ ap (λ ys. flat_map f
 -- One more element after a split.
 pub split_push : {A : Type 0} → (xs earlier later : List A) (at x : A) → xs ≡ earlier ++ at ∷ later → xs ++ x ∷ [] ≡ earlier ++ at ∷ (later ++ x ∷ [])
 split_push xs earlier later at x is = ap (λ ys. ys ++ x ∷ []) is ∙ append_assoc earlier (at ∷ later) (x ∷ [])
+
+pub first_not_nil : {A : Type 0} → (xs ys : List A) → (xs ≡ [] → ⊥) → xs ++ ys ≡ [] → ⊥
+first_not_nil [] ys some none = some refl
+first_not_nil (x ∷ xs) ys some none = cc
+
+pub second_not_nil : {A : Type 0} → (xs ys : List A) → (ys ≡ [] → ⊥) → xs ++ ys ≡ [] → ⊥
+second_not_nil [] ys some none = some none
+second_not_nil (x ∷ xs) ys some none = cc

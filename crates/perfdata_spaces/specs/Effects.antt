@@ -1,5 +1,5 @@
 -- What records do to address spaces and to the names of threads.
-use Rattle.std.specs.Prelude.{ℕ, ℤ, ◌%◌, List, if◌then◌else◌}
+use Rattle.std.specs.Prelude.{ℕ, ℤ, ◌+◌, ◌%◌, List, [], ◌∷◌, length, if◌then◌else◌}
 use Rattle.perfdata_base.specs.ParseInfo.{is_set}
 use Rattle.perfdata_base.specs.Raw.{bytes_of}
 use Rattle.perfdata_base.specs.RecordType.{cpu_mode_of}
@@ -41,6 +41,26 @@ pub data NameEffect : Type 0 where
   -- Nothing changes.
   KeepsAll : NameEffect
 
+-- The mapping that an effect adds.
+abbrev pub added : SpaceEffect → List MappingValue
+added (Maps pid mapping) = mapping ∷ []
+added (MapsKernel mapping) = mapping ∷ []
+added (Registers mapping) = mapping ∷ []
+added _ = []
+
+-- An effect, with the number of mappings that were added before it. The mapping that it adds has this number as its index.
+pub record Numbered : Type 0 where
+  pub index : ℕ
+  pub effect : SpaceEffect
+
+-- Effects, with the number of mappings that were added before each of them. `first` of them were added before all.
+abbrev pub numbered_from : ℕ → List SpaceEffect → List Numbered
+numbered_from first [] = []
+numbered_from first (effect ∷ effects) = record { index = first; effect = effect } ∷ numbered_from (first + length (added effect)) effects
+
+abbrev pub numbered : List SpaceEffect → List Numbered
+numbered effects = numbered_from 0 effects
+
 -- The bit of a record header's `misc` that marks a FORK of a process that began for an exec of perf
 -- (PERF_RECORD_MISC_FORK_EXEC of Linux's `perf_event.h`). Those are the ones that perf synthesizes.
 abbrev pub FORK_EXEC_BIT : ℕ
@@ -50,10 +70,11 @@ FORK_EXEC_BIT = 13
 abbrev pub UNREGISTER_BIT : ℕ
 UNREGISTER_BIT = 0
 
+-- A mapping of a CPU mode that isn't known is one of the process, as perf has it.
 abbrev pub mapped_in : CpuMode → ℤ → MappingValue → SpaceEffect
 mapped_in User pid mapping = Maps pid mapping
 mapped_in Kernel pid mapping = MapsKernel mapping
-mapped_in Unknown pid mapping = Leaves
+mapped_in Unknown pid mapping = Maps pid mapping
 mapped_in Hypervisor pid mapping = Leaves
 mapped_in GuestKernel pid mapping = Leaves
 mapped_in GuestUser pid mapping = Leaves

@@ -1,5 +1,5 @@
 -- What is mapped.
-use Rattle.std.specs.Prelude.{ℕ, ℤ, Bool, pos, List, [], Option, None, Some, if◌then◌else◌}
+use Rattle.std.specs.Prelude.{◌≢◌, ℕ, ℤ, ◌+◌, ◌-◌, ◌%◌, ◌^◌, Bool, pos, List, [], ◌++◌, Option, None, Some, if◌then◌else◌}
 use Rattle.perfdata_base.specs.Raw.{bytes_of}
 use Rattle.perfdata_events.specs.declared.fields.file_id.Mmap2InodeAndVersion.{Mmap2InodeAndVersion}
 use Rattle.perfdata_events.specs.declared.fields.file_id.Mmap2FileId.{Mmap2FileId}
@@ -31,6 +31,14 @@ mapping_value m = record { pid = m.pid; start = m.start; byte_length = m.length;
 -- Whether a mapping contains an address.
 abbrev pub mapping_contains : ℕ → MappingValue → Bool
 mapping_contains address m = contains m.start m.byte_length address
+
+-- The mapping has bytes of its own: its path, its name or its build id.
+abbrev pub HasBytes : MappingValue → Type 0
+HasBytes m = (m.build_id ++ m.path) ≢ []
+
+-- The offset of an address in the file of a mapping, modulo 2^64.
+abbrev pub offset_of : MappingValue → ℕ → ℕ
+offset_of m address = (address + (2 ^ 64 - m.start) + m.page_offset) % 2 ^ 64
 
 abbrev pub kind_of : Bool → MappingKind
 kind_of is_data = if is_data then Data else Code

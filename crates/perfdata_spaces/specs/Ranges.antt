@@ -4,9 +4,9 @@ use Rattle.perfdata_spaces.specs.declared.ranges.AddressRange.{AddressRange}
 use Rattle.perfdata_spaces.specs.declared.ranges.RangeMap.{RangeMap}
 use Rattle.perfdata_spaces.specs.declared.ranges.Tree.{Tree, Empty, Whole, Split'}
 
--- Whether the addresses from `start` on contain an address. They aren't cut at 2^64, above which there is no address.
+-- Whether `size` addresses from `start` on contain an address. They end before 2^64: there is no address from there on.
 abbrev pub contains : ℕ → ℕ → ℕ → Bool
-contains start size address = nat_le start address && nat_lt address (start + size)
+contains start size address = nat_le start address && nat_lt address (start + size) && nat_lt address (2 ^ 64)
 
 abbrev pub is_within : AddressRange → ℕ → Bool
 is_within range address = nat_le range.first address && nat_le address range.last

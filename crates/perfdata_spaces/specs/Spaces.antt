@@ -1,11 +1,12 @@
 -- The address spaces of processes and of the kernel, as effects change them.
 use Rattle.std.specs.Prelude.{◌≡◌, ℕ, ℤ, ◌<◌, ◌^◌, ◌&&◌, List, [], ◌∷◌, ◌++◌, length, map, slice_get, Option, None, Some, Result, Ok, Err, if◌then◌else◌}
 use Rattle.std.specs.declared.alloc.AllocError.{AllocError}
-use Rattle.std.specs.Option.{option_or}
+use Rattle.std.specs.List.{flat_map}
+use Rattle.std.specs.Option.{option_map, option_or}
 use Rattle.perfdata_events.specs.declared.fields.call_chain.CallContext.{CallContext}
 use Rattle.perfdata_events.specs.declared.fields.call_chain.CallContext.TheVariants.{Kernel, User}
-use Rattle.perfdata_spaces.specs.Effects.{SpaceEffect, Maps, MapsKernel, Registers, Removes, Copies, Clears}
-use Rattle.perfdata_spaces.specs.Histories.{IsHistory, kernel_mappings, symbol_at, last_that}
+use Rattle.perfdata_spaces.specs.Effects.{SpaceEffect, Maps, MapsKernel, Registers, Removes, Copies, Clears, Numbered, added}
+use Rattle.perfdata_spaces.specs.Histories.{IndexedMapping, indexed_contains, IsHistory, kernel_mappings, symbol_at, last_that}
 use Rattle.perfdata_spaces.specs.Mappings.{MappingValue, mapping_value, mapping_contains}
 use Rattle.perfdata_spaces.specs.Processes.{value_in, is_same}
 use Rattle.perfdata_spaces.specs.Ranges.{value_of, contains}
@@ -20,13 +21,6 @@ abbrev pub index_at : Spaces → ℤ → ℕ → CallContext → Option ℕ
 index_at spaces pid address User = value_in spaces.processes pid address
 index_at spaces pid address Kernel = option_or (value_of spaces.symbols address) (value_of spaces.kernel address)
 index_at spaces pid address _ = None
-
--- The mapping that an effect adds.
-abbrev pub added : SpaceEffect → List MappingValue
-added (Maps pid mapping) = mapping ∷ []
-added (MapsKernel mapping) = mapping ∷ []
-added (Registers mapping) = mapping ∷ []
-added _ = []
 
 -- The index at an address of a process after an effect that adds its mapping at `next`. `index` is the one before.
 abbrev pub process_after : SpaceEffect → ℕ → (ℤ → ℕ → Option ℕ) → ℤ → ℕ → Option ℕ
@@ -48,8 +42,14 @@ symbol_after (Registers mapping) next index address =
 symbol_after (Removes start size) next index address = if contains start size address then None else index address
 symbol_after _ next index address = index address
 
+-- The index of the mapping that an effect adds, if it adds one. `next` mappings were added before.
+abbrev pub index_of_added : List MappingValue → ℕ → Option ℕ
+index_of_added [] next = None
+index_of_added (mapping ∷ mappings) next = Some next
+
 -- An effect was applied.
-pub record Applies (effect : SpaceEffect) (old new : Spaces) : Type 0 where
+pub record Applies (effect : SpaceEffect) (old : Spaces) (index : Option ℕ) (new : Spaces) : Type 0 where
+  pub index_is : index ≡ index_of_added (added effect) (length (values_of old))
   pub mappings : values_of new ≡ values_of old ++ added effect
   pub processes : (pid : ℤ) (address : ℕ) → address < 2 ^ 64 → value_in new.processes pid address
       ≡ process_after effect (length (values_of old)) (value_in old.processes) pid address
@@ -58,34 +58,43 @@ pub record Applies (effect : SpaceEffect) (old new : Spaces) : Type 0 where
   pub symbols : (address : ℕ) → address < 2 ^ 64 → value_of new.symbols address
       ≡ symbol_after effect (length (values_of old)) (value_of old.symbols) address
 
--- Nothing is mapped elsewhere than before. A mapping that isn't mapped anywhere may be added.
+-- Nothing is mapped elsewhere than before.
 pub record KeepsSpaces (old new : Spaces) : Type 0 where
-  pub more : List MappingValue
-  pub mappings : values_of new ≡ values_of old ++ more
+  pub mappings : values_of new ≡ values_of old
   pub processes : (pid : ℤ) (address : ℕ) → value_in new.processes pid address ≡ value_in old.processes pid address
   pub kernel : (address : ℕ) → value_of new.kernel address ≡ value_of old.kernel address
   pub symbols : (address : ℕ) → value_of new.symbols address ≡ value_of old.symbols address
 
-abbrev pub Changes : SpaceEffect → Spaces → Result (Unit {0}) AllocError → Spaces → Type 0
-Changes effect old (Ok done) new = Applies effect old new
+abbrev pub Changes : SpaceEffect → Spaces → Result (Option ℕ) AllocError → Spaces → Type 0
+Changes effect old (Ok index) new = Applies effect old index new
 Changes effect old (Err error) new = KeepsSpaces old new
 
+-- The mapping with an index, and the index.
+abbrev pub indexed_at : List MappingValue → Option ℕ → Option IndexedMapping
+indexed_at mappings None = None
+indexed_at mappings (Some index) = option_map (λ mapping. record { index = index; mapping = mapping }) (slice_get mappings index)
+
 -- An index is that of a mapping, or none.
-abbrev pub IsIndexOf : List MappingValue → Option ℕ → Option MappingValue → Type 0
+abbrev pub IsIndexOf : List MappingValue → Option ℕ → Option IndexedMapping → Type 0
 IsIndexOf mappings None found = found ≡ None
-IsIndexOf mappings (Some index) found = (index < length mappings) × (slice_get mappings index ≡ found)
+IsIndexOf mappings (Some index) found = (index < length mappings) × (indexed_at mappings (Some index) ≡ found)
 
 -- The indices at the addresses of a process are those of the last mappings that contain them.
-pub record FollowsProcess (effects : List SpaceEffect) (spaces : Spaces) (pid : ℤ) : Type 0 where
-  pub history : List MappingValue
+pub record FollowsProcess (effects : List Numbered) (spaces : Spaces) (pid : ℤ) : Type 0 where
+  pub history : List IndexedMapping
   pub is : IsHistory pid effects history
   pub finds : (address : ℕ) → address < 2 ^ 64
-      → IsIndexOf (values_of spaces) (value_in spaces.processes pid address) (last_that (mapping_contains address) history)
+      → IsIndexOf (values_of spaces) (value_in spaces.processes pid address) (last_that (indexed_contains address) history)
+
+-- The mappings that effects add.
+abbrev pub all_added : List Numbered → List MappingValue
+all_added effects = flat_map (λ (numbered : Numbered). added numbered.effect) effects
 
 -- The spaces are those after effects.
-pub record FollowsSpaces (effects : List SpaceEffect) (spaces : Spaces) : Type 0 where
+pub record FollowsSpaces (effects : List Numbered) (spaces : Spaces) : Type 0 where
+  pub mappings : values_of spaces ≡ all_added effects
   pub processes : (pid : ℤ) → FollowsProcess effects spaces pid
   pub kernel : (address : ℕ) → address < 2 ^ 64 → IsIndexOf (values_of spaces) (value_of spaces.kernel address)
-      (last_that (mapping_contains address) (kernel_mappings effects))
+      (last_that (indexed_contains address) (kernel_mappings effects))
   pub symbols : (address : ℕ) → address < 2 ^ 64
       → IsIndexOf (values_of spaces) (value_of spaces.symbols address) (symbol_at address effects)

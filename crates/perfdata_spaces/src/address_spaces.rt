@@ -1,10 +1,10 @@
 //! The address spaces of processes and of the kernel, and the names of threads.
 
-ghost use Rattle.std.specs.Prelude.{◌≡◌, ◌%◌, [], List, slice_get, OnOk, OnErr};
+ghost use Rattle.std.specs.Prelude.{◌≡◌, ◌%◌, [], List, slice_get, IfOk, OnOk, OnErr};
 ghost use Rattle.std.specs.Option.{option_map};
 ghost use Rattle.perfdata_base.specs.RecordType.{cpu_mode_of};
-ghost use Rattle.perfdata_spaces.specs.Effects.{Applied};
-ghost use Rattle.perfdata_spaces.specs.Histories.{context_in, IsFound};
+ghost use Rattle.perfdata_spaces.specs.Effects.{Applied, added, effect_of};
+ghost use Rattle.perfdata_spaces.specs.Histories.{context_in, IsFoundMapping};
 ghost use Rattle.perfdata_spaces.specs.Mappings.{mapping_value};
 ghost use Rattle.perfdata_spaces.specs.NameHistories.{IsName};
 
@@ -38,7 +38,8 @@ pub fn context_of_mode(misc: u16) -> CallContext
 }
 
 impl AddressSpaces {
-    ghost use Rattle.perfdata_spaces.specs.AddressSpaces.{Follows, FollowsBut, FindsIndex, KeepsIndices};
+    ghost use Rattle.perfdata_spaces.specs.AddressSpaces.{Follows, FollowsBut, FindsIndex};
+    ghost use Rattle.perfdata_spaces.specs.AddressSpaces.{AddsMappings, KeepsIndices};
     ghost use Rattle.perfdata_spaces.specs.AddressSpaces.{mapping_values, space_effects, name_effects};
     ghost use Rattle.perfdata_spaces.specs.AddressSpaces.{then_applied};
 
@@ -52,15 +53,22 @@ impl AddressSpaces {
         }
     }
 
-    /// Applies a record. `misc` is that of its header. The records of a recording are applied in order of
-    /// time.
+    /// Applies a record, and returns the index of the mapping that it adds, if it adds one. `misc` is that of
+    /// its header. The records of a recording are applied in order of time.
     ///
     /// Fails if memory runs out. Then nothing is mapped elsewhere than before, the thread may already have
     /// the new name, and the call can be repeated.
-    pub fn apply(&mut self, misc: u16, record: &EventRecord<'_>) -> Result<(), AllocError>
+    pub fn apply(
+        &mut self,
+        misc: u16,
+        record: &EventRecord<'_>,
+    ) -> Result<Option<usize>, AllocError>
         ensures ok { OnOk result ((records : List Applied) → Follows records self.old →
             Follows (then_applied records misc «record».now) self.new) }
+        ensures added { IfOk result (λ index.
+            AddsMappings (added (effect_of misc «record».now)) self.old index self.new) }
         ensures indices { KeepsIndices self.old self.new }
+        ensures unchanged { OnErr result (mapping_values self.new ≡ mapping_values self.old) }
         ensures err { OnErr result ((records : List Applied) → Follows records self.old →
             FollowsBut records «record».now self.new) }
         ensures repeated_ok { OnOk result ((records : List Applied) →
@@ -86,15 +94,15 @@ impl AddressSpaces {
     /// last mapping of the kernel (`Kernel`).
     pub fn find(&self, pid: i32, address: u64, context: CallContext) -> Option<&Mapping>
         ensures { (records : List Applied) → Follows records self.now →
-            IsFound (space_effects records) pid address context
+            IsFoundMapping (space_effects records) pid address context
             (option_map (λ m. mapping_value m.now) result) }
     {
         let index = self.find_index(pid, address, context)?;
         self.mapping(index)
     }
 
-    /// Returns the mapping with an index that [`AddressSpaces::find_index`] returned. Mappings that were
-    /// applied later have greater indices.
+    /// Returns the mapping with an index that [`AddressSpaces::apply`] or [`AddressSpaces::find_index`]
+    /// returned. Mappings that were applied later have greater indices.
     pub fn mapping(&self, index: usize) -> Option<&Mapping>
         ensures { option_map (λ m. mapping_value m.now) result ≡ slice_get (mapping_values self.now) index }
     {

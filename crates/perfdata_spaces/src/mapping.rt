@@ -1,6 +1,6 @@
 //! Mappings of files and of kernel symbols.
 
-ghost use Rattle.std.specs.Prelude.{◌≡◌, IfOk};
+ghost use Rattle.std.specs.Prelude.{◌≡◌, ◌≢◌, [], IfOk, OnErr};
 ghost use Rattle.perfdata_base.specs.Raw.{bytes_of};
 ghost use Rattle.perfdata_spaces.specs.Mappings.{inode_of, build_id_of};
 
@@ -50,10 +50,14 @@ pub struct Mapping {
     pub path: Vec<u8>,
 }
 
-// A copy of bytes.
+// A copy of bytes. Memory runs out only if there are bytes to copy.
 pub(crate) fn to_vec(alloc: Global, bytes: RawData<'_>) -> Result<Vec<u8>, AllocError>
-    ensures { IfOk result (λ copy. copy.items ≡ bytes_of bytes.entry) }
+    ensures ok { IfOk result (λ copy. copy.items ≡ bytes_of bytes.entry) }
+    ensures memory { OnErr result (bytes_of bytes.entry ≢ []) }
 {
+    if bytes.is_empty() {
+        return Ok(Vec::new(alloc));
+    }
     bytes.as_slice(alloc)?.into_owned(alloc)
 }
 
@@ -84,7 +88,8 @@ fn inode_of(file_id: Mmap2FileId<'_>) -> Option<Mmap2InodeAndVersion>
 
 // The build id of a file, empty if the record has none.
 fn build_id_of(alloc: Global, file_id: Mmap2FileId<'_>) -> Result<Vec<u8>, AllocError>
-    ensures { IfOk result (λ id. id.items ≡ build_id_of file_id.entry) }
+    ensures ok { IfOk result (λ id. id.items ≡ build_id_of file_id.entry) }
+    ensures memory { OnErr result (build_id_of file_id.entry ≢ []) }
 {
     match file_id {
         Mmap2FileId::InodeAndVersion(_) => Ok(Vec::new(alloc)),
@@ -94,11 +99,21 @@ fn build_id_of(alloc: Global, file_id: Mmap2FileId<'_>) -> Result<Vec<u8>, Alloc
 
 impl Mapping {
     ghost use Rattle.perfdata_spaces.specs.Mappings.{mapping_value, mapping_of_mmap, mapping_of_mmap2};
-    ghost use Rattle.perfdata_spaces.specs.Mappings.{mapping_of_ksymbol};
+    ghost use Rattle.perfdata_spaces.specs.Mappings.{mapping_of_ksymbol, HasBytes, offset_of};
 
-    /// Returns the mapping that a record describes. Fails if memory runs out.
+    /// Returns the offset of an address in the file, in bytes, modulo 2^64.
+    pub fn offset_of(&self, address: u64) -> u64
+        ensures { result ≡ offset_of (mapping_value self.now) address }
+    {
+        address
+            .wrapping_sub(self.start)
+            .wrapping_add(self.page_offset)
+    }
+
+    /// Returns the mapping that a record describes. Fails if memory for its path runs out.
     pub fn of_mmap(alloc: Global, record: &MmapRecord<'_>) -> Result<Mapping, AllocError>
-        ensures { IfOk result (λ mapping. mapping_value mapping ≡ mapping_of_mmap «record».now) }
+        ensures ok { IfOk result (λ mapping. mapping_value mapping ≡ mapping_of_mmap «record».now) }
+        ensures memory { OnErr result (HasBytes (mapping_of_mmap «record».now)) }
     {
         Ok(Mapping {
             pid: record.pid,
@@ -114,9 +129,10 @@ impl Mapping {
         })
     }
 
-    /// Returns the mapping that a record describes. Fails if memory runs out.
+    /// Returns the mapping that a record describes. Fails if memory for its path or its build id runs out.
     pub fn of_mmap2(alloc: Global, record: &Mmap2Record<'_>) -> Result<Mapping, AllocError>
-        ensures { IfOk result (λ mapping. mapping_value mapping ≡ mapping_of_mmap2 «record».now) }
+        ensures ok { IfOk result (λ mapping. mapping_value mapping ≡ mapping_of_mmap2 «record».now) }
+        ensures memory { OnErr result (HasBytes (mapping_of_mmap2 «record».now)) }
     {
         Ok(Mapping {
             pid: record.pid,
@@ -132,9 +148,10 @@ impl Mapping {
         })
     }
 
-    /// Returns the range of a kernel symbol. Fails if memory runs out.
+    /// Returns the range of a kernel symbol. Fails if memory for its name runs out.
     pub fn of_ksymbol(alloc: Global, record: &KsymbolRecord<'_>) -> Result<Mapping, AllocError>
-        ensures { IfOk result (λ mapping. mapping_value mapping ≡ mapping_of_ksymbol «record».now) }
+        ensures ok { IfOk result (λ mapping. mapping_value mapping ≡ mapping_of_ksymbol «record».now) }
+        ensures memory { OnErr result (HasBytes (mapping_of_ksymbol «record».now)) }
     {
         Ok(Mapping {
             pid: 0,

@@ -50,7 +50,7 @@ pub(crate) struct RangeMap {
 impl AddressRange {
     // The addresses from a start on, below 2^64, or `None` if there are none.
     pub(crate) fn new(start: u64, length: u64) -> Option<AddressRange>
-        ensures { (address : ℕ) → address < 2 ^ 64 → covers result address ≡ contains start length address }
+        ensures { (address : ℕ) → covers result address ≡ contains start length address }
     {
         if length == 0 {
             return None;

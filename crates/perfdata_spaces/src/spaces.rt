@@ -68,63 +68,72 @@ impl Spaces {
         self.mappings.get(index)
     }
 
-    // Adds a mapping to the space of a process.
-    fn map_process(&mut self, pid: i32, mapping: Mapping) -> Result<(), AllocError>
+    // Adds a mapping to the space of a process. Returns its index.
+    fn map_process(&mut self, pid: i32, mapping: Mapping) -> Result<Option<usize>, AllocError>
         ensures { Changes (Maps pid (mapping_value mapping)) self.old result self.new }
     {
         let index = self.mappings.len();
         let range = AddressRange::new(mapping.start, mapping.length);
-        self.mappings.push(mapping)?;
-        self.processes.set(pid, range, Some(index))
+        self.mappings.reserve(1)?;
+        self.processes.set(pid, range, Some(index))?;
+        self.mappings.push_reserved(mapping);
+        Ok(Some(index))
     }
 
-    // Adds a mapping to the space of the kernel.
-    fn map_kernel(&mut self, mapping: Mapping) -> Result<(), AllocError>
+    // Adds a mapping to the space of the kernel. Returns its index.
+    fn map_kernel(&mut self, mapping: Mapping) -> Result<Option<usize>, AllocError>
         ensures { Changes (MapsKernel (mapping_value mapping)) self.old result self.new }
     {
         let index = self.mappings.len();
         let range = AddressRange::new(mapping.start, mapping.length);
-        self.mappings.push(mapping)?;
+        self.mappings.reserve(1)?;
         let kernel = self.kernel.with(self.alloc, range, Some(index))?;
         self.kernel = kernel;
-        Ok(())
+        self.mappings.push_reserved(mapping);
+        Ok(Some(index))
     }
 
-    // Adds a mapping to the space of a process or of the kernel.
-    fn map(&mut self, mode: CpuMode, pid: i32, mapping: Mapping) -> Result<(), AllocError>
+    // Adds a mapping to the space of a process or of the kernel. Returns its index if it is added.
+    fn map(
+        &mut self,
+        mode: CpuMode,
+        pid: i32,
+        mapping: Mapping,
+    ) -> Result<Option<usize>, AllocError>
         ensures { Changes (mapped_in mode pid (mapping_value mapping)) self.old result self.new }
     {
         match mode {
-            CpuMode::User => self.map_process(pid, mapping),
+            CpuMode::User | CpuMode::Unknown => self.map_process(pid, mapping),
             CpuMode::Kernel => self.map_kernel(mapping),
-            _ => Ok(()),
+            _ => Ok(None),
         }
     }
 
-    // Adds a symbol of the kernel.
-    fn register(&mut self, symbol: Mapping) -> Result<(), AllocError>
+    // Adds a symbol of the kernel. Returns its index.
+    fn register(&mut self, symbol: Mapping) -> Result<Option<usize>, AllocError>
         ensures { Changes (Registers (mapping_value symbol)) self.old result self.new }
     {
         let index = self.mappings.len();
         let range = AddressRange::new(symbol.start, symbol.length);
-        self.mappings.push(symbol)?;
+        self.mappings.reserve(1)?;
         let symbols = self.symbols.with(self.alloc, range, Some(index))?;
         self.symbols = symbols;
-        Ok(())
+        self.mappings.push_reserved(symbol);
+        Ok(Some(index))
     }
 
     // Removes the symbols of the kernel in a range.
-    fn remove(&mut self, start: u64, length: u64) -> Result<(), AllocError>
+    fn remove(&mut self, start: u64, length: u64) -> Result<Option<usize>, AllocError>
         ensures { Changes (Removes start length) self.old result self.new }
     {
         let range = AddressRange::new(start, length);
         let symbols = self.symbols.with(self.alloc, range, None)?;
         self.symbols = symbols;
-        Ok(())
+        Ok(None)
     }
 
-    // Registers or removes a symbol of the kernel.
-    fn change_symbol(&mut self, symbol: &KsymbolRecord<'_>) -> Result<(), AllocError>
+    // Registers or removes a symbol of the kernel. Returns its index if it is registered.
+    fn change_symbol(&mut self, symbol: &KsymbolRecord<'_>) -> Result<Option<usize>, AllocError>
         ensures { Changes (symbol_effect symbol.now) self.old result self.new }
     {
         if symbol.flags & KSYMBOL_UNREGISTER != 0 {
@@ -136,26 +145,27 @@ impl Spaces {
     }
 
     // Removes the mappings of a process.
-    fn clear(&mut self, pid: i32) -> Result<(), AllocError>
+    fn clear(&mut self, pid: i32) -> Result<Option<usize>, AllocError>
         ensures { Changes (Clears pid) self.old result self.new }
     {
         self.processes.clear(pid);
-        Ok(())
+        Ok(None)
     }
 
     // Gives a process the mappings of another.
-    fn copy(&mut self, pid: i32, parent: i32) -> Result<(), AllocError>
+    fn copy(&mut self, pid: i32, parent: i32) -> Result<Option<usize>, AllocError>
         ensures { Changes (Copies pid parent) self.old result self.new }
     {
-        self.processes.copy(pid, parent)
+        self.processes.copy(pid, parent)?;
+        Ok(None)
     }
 
     // Gives a new process the mappings of the process that forked it.
-    fn fork(&mut self, misc: u16, fork: &ForkOrExitRecord) -> Result<(), AllocError>
+    fn fork(&mut self, misc: u16, fork: &ForkOrExitRecord) -> Result<Option<usize>, AllocError>
         ensures { Changes (forked misc fork.now) self.old result self.new }
     {
         if fork.pid == fork.ppid {
-            Ok(())
+            Ok(None)
         } else if MiscFlags(misc).contains(MiscFlags::FORK_EXEC) {
             self.clear(fork.pid)
         } else {
@@ -163,8 +173,12 @@ impl Spaces {
         }
     }
 
-    // Applies a record. `misc` is that of its header.
-    pub(crate) fn apply(&mut self, misc: u16, record: &EventRecord<'_>) -> Result<(), AllocError>
+    // Applies a record. `misc` is that of its header. Returns the index of the mapping that it adds.
+    pub(crate) fn apply(
+        &mut self,
+        misc: u16,
+        record: &EventRecord<'_>,
+    ) -> Result<Option<usize>, AllocError>
         ensures { Changes (effect_of misc «record».now) self.old result self.new }
     {
         match record {
@@ -179,7 +193,7 @@ impl Spaces {
             EventRecord::Ksymbol(symbol) => self.change_symbol(symbol),
             EventRecord::Comm(comm) if comm.is_execve => self.clear(comm.pid),
             EventRecord::Fork(fork) => self.fork(misc, fork),
-            _ => Ok(()),
+            _ => Ok(None),
         }
     }
 }

@@ -1,4 +1,5 @@
 -- The specifications that contracts use.
+pub mod BoxWidths
 pub mod Counts
 pub mod Frames
 pub mod Line

@@ -8,4 +8,5 @@
 pub mod counts;
 pub mod flame;
 pub mod frames;
+pub mod laws;
 pub mod line;

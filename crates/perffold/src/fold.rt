@@ -168,13 +168,10 @@ impl<'a> Folder<'a> {
         sample: &SampleRecord<'_>,
     ) -> Result<(), Error> {
         self.stack.clear();
-        let mut context = None;
         for frame in SampleFrames::new(sample, context_of_mode(misc)) {
-            let is_caller = context == Some(frame.context);
-            context = Some(frame.context);
             let number = self
                 .frame_names
-                .number(origin, frame, is_caller, &self.spaces, &mut self.names)?;
+                .number(origin, frame, &self.spaces, &mut self.names)?;
             self.stack.push(number)?;
         }
         Ok(())

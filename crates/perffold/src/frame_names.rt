@@ -9,6 +9,7 @@ use perfdata_events::call_chain::{CallContext, Frame};
 use perfdata_events::event::EventRecord;
 use perfdata_spaces::address_spaces::{AddressSpaces, context_of_mode};
 use perfdata_spaces::mapping::{Mapping, MappingKind, PROTECTION_EXEC};
+use perfdata_stacks::frames::SampleFrame;
 use perfdata_stacks::line::push_name;
 use std::alloc::{AllocError, Global};
 use std::io::Write;
@@ -105,13 +106,6 @@ fn push_address(text: &mut Vec<u8>, address: u64) -> Result<(), AllocError> {
         Ok(()) => Ok(()),
         Err(_) => Err(AllocError),
     }
-}
-
-// Returns the frame at whose address the name of a frame is looked up. A caller's address is that of the
-// instruction after its call, which can belong to another function: its name is that of the byte before.
-fn looked_up(frame: Frame, is_caller: bool) -> Option<Frame> {
-    let address = frame.address.checked_sub(u64::from(is_caller))?;
-    Some(Frame { address, ..frame })
 }
 
 // Returns the process whose jitdump describes the code at an address: the one that made this mapping.
@@ -346,17 +340,17 @@ impl<'a> FrameNames<'a> {
     pub(crate) fn number(
         &mut self,
         origin: SampleOrigin,
-        frame: Frame,
-        is_caller: bool,
+        frame: SampleFrame,
         spaces: &AddressSpaces,
         names: &mut NameTable,
     ) -> Result<usize, AllocError> {
         if matches!(self.source, NameSource::Addresses) {
-            return self.address_number(frame.address, names);
+            return self.address_number(frame.frame.address, names);
         }
-        match looked_up(frame, is_caller) {
-            Some(frame) => self.found_number(origin, frame, spaces, names),
-            None => names.number(UNKNOWN),
-        }
+        let looked_up = Frame {
+            address: frame.lookup_address(),
+            ..frame.frame
+        };
+        self.found_number(origin, looked_up, spaces, names)
     }
 }

@@ -85,13 +85,15 @@ pub struct CallChainIter<'a> {
 
 ghost use Rattle.perfdata_events.specs.CallChain.{is_context_change, context_of, frames_of};
 
-fn is_context_change(value: u64) -> bool
+/// Returns whether a value of a call chain changes the context. Then it is no frame.
+pub fn is_context_change(value: u64) -> bool
     ensures { result ≡ is_context_change value }
 {
     CONTEXT_MAX <= value
 }
 
-fn context_of(value: u64) -> CallContext
+/// Returns the context that a value which changes the context begins.
+pub fn context_of(value: u64) -> CallContext
     ensures { result ≡ context_of value }
 {
     if value == CONTEXT_HV {

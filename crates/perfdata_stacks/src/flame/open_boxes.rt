@@ -10,7 +10,7 @@ use std::alloc::{AllocError, Global};
 ///
 /// A box that is opened in another one starts at or after that one, and is closed at or before it: each box
 /// is within the one around it. The next box in it starts where the last one ended at the earliest, so their
-/// widths add up to at most that of the box around them.
+/// widths add up to at most that of the box around them ([`laws::widths`](crate::laws::widths)).
 #[derive(Drop)]
 pub struct OpenBoxes {
     // The starts of the boxes.
@@ -51,6 +51,7 @@ impl OpenBoxes {
     pub fn advance(&mut self, weight: u64)
         ensures starts { starts_of self.new ≡ starts_of self.old }
         ensures position { position_of self.new ≡ min (position_of self.old + weight) (2 ^ 64 - 1) }
+        ensures forward { position_of self.old ≤ position_of self.new }
     {
         self.position = self.position.saturating_add(weight);
     }
@@ -58,6 +59,7 @@ impl OpenBoxes {
     /// Closes the innermost box at the current position. Returns its samples, or `None` if no box is open.
     pub fn close(&mut self) -> Option<Span>
         ensures none { IfNone result (starts_of self.old ≡ []) }
+        ensures none_opened { IfNone result (starts_of self.new ≡ []) }
         ensures innermost { IfSome result (λ span.
             starts_of self.old ≡ starts_of self.new ++ span.start ∷ []) }
         ensures end { IfSome result (λ span. span.end ≡ position_of self.old) }

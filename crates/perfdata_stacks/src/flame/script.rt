@@ -107,7 +107,7 @@ pub(crate) const SCRIPT: &str = r##"
       width += Math.max(0, box.left + box.width - Math.max(box.left, end));
       end = Math.max(end, box.left + box.width);
     });
-    return width / all.width;
+    return all ? width / all.width : 0;
   }
 
   function make(space, name, attributes) {

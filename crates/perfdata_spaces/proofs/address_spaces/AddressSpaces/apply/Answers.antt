@@ -3,7 +3,7 @@ use Rattle.std.proofs.lemmas.List.{append-nil}
 use Rattle.perfdata_spaces.specs.Effects.{effect_of}
 use Rattle.perfdata_spaces.specs.Spaces.{values_of}
 use Rattle.std.proofs.lemmas.Result.{err_from_is_err_and}
-use Rattle.perfdata_spaces.proofs.Applying.{applied_ok, applied_err, indices_kept, follows_but, none_applied, from_follows_ok, from_follows_err}
+use Rattle.perfdata_spaces.proofs.Applying.{applied_ok, applied_err, indices_kept, mappings_added, mappings_kept, follows_but, none_applied, from_follows_ok, from_follows_err}
 use Rattle.perfdata_spaces.proofs.address_spaces.AddressSpaces.apply.Goals as goal
 
 pub returns-clause-repeated_ok : goal.returns-clause-repeated_ok
@@ -28,3 +28,9 @@ returns-clause-indices c = indices_kept (effect_of c.args.misc c.args.record.now
 
 pub returns-in_err-apply-clause-indices : goal.returns-in_err-apply-clause-indices
 returns-in_err-apply-clause-indices c = ([], sym (append-nil (values_of c.args.self.now.spaces)))
+
+pub returns-clause-added : goal.returns-clause-added
+returns-clause-added c = mappings_added (effect_of c.args.misc c.args.record.now) c.args.self.now _ c.apply-2.result c.apply-2.ensures
+
+pub returns-clause-unchanged : goal.returns-clause-unchanged
+returns-clause-unchanged c = mappings_kept (effect_of c.args.misc c.args.record.now) c.args.self.now.spaces c.apply-2.new.self c.apply-2.result c.apply-2.ensures

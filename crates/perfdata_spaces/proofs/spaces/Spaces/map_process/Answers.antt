@@ -1,14 +1,25 @@
-use Rattle.std.proofs.Common.{◌≡◌, rules, refl, w32, length}
+use Rattle.std.proofs.Common.{◌≡◌, rules, refl, length, w32}
 use Rattle.std.proofs.lemmas.List.{length-map}
+use Rattle.std.proofs.lemmas.Result.{err_from_is_err_and}
 use Rattle.std.proofs.lemmas.Int.{to_z-of_z}
 use Rattle.perfdata_spaces.specs.Mappings.{mapping_value}
 use Rattle.perfdata_spaces.specs.Spaces.{values_of}
-use Rattle.perfdata_spaces.proofs.SpaceChanges.{values_push, process_mapped}
+use Rattle.perfdata_spaces.proofs.SpaceChanges.{keeps, values_added, process_mapped}
 use Rattle.perfdata_spaces.proofs.spaces.Spaces.map_process.Goals as goal
+
+pub returns-in_err-reserve : goal.returns-in_err-reserve
+returns-in_err-reserve c =
+    let p = err_from_is_err_and c.from_residual.result c.from_residual.ensures.1 in
+    rw p.1 (keeps _ _ c.in_err-reserve.ensures.items (λ pid address. refl) refl refl)
+
+pub returns-in_err-set : goal.returns-in_err-set
+returns-in_err-set c =
+    let p = err_from_is_err_and c.from_residual-in_err-set.result c.from_residual-in_err-set.ensures.1 in
+    rw p.1 (keeps _ _ c.in_ok-reserve.ensures.items c.in_err-set.ensures.err refl refl)
 
 pub returns : goal.returns
 returns c =
-    let pid = to_z-of_z w32 c.args.pid c.ranges.pid in
-    let ok = simp pid at c.set.ensures.ok in
-    let last : c.len-index.result ≡ length (values_of c.args.self.now) = rw (length-map c.args.self.now.mappings.items mapping_value) (search rules) in
-    process_mapped _ _ c.args.pid (mapping_value c.args.mapping) c.len-index.result c.new-range.result c.set.result (values_push _ _ c.args.mapping c.in_ok-push.ensures.items) refl refl last c.new-range.ensures ok c.set.ensures.err
+    let index : c.len-index.result ≡ length (values_of c.args.self.now) = rw (length-map c.args.self.now.mappings.items mapping_value) (search rules) in
+    let values = values_added _ _ _ c.args.mapping c.in_ok-reserve.ensures.items c.push_reserved.ensures.items in
+    let set = simp (to_z-of_z w32 c.args.pid c.ranges.pid) at c.in_ok-set.ensures.ok in
+    process_mapped _ _ (mapping_value c.args.mapping) c.len-index.result c.new-range.result values index c.new-range.ensures c.args.pid refl refl set

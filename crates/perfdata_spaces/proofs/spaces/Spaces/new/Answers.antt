@@ -1,10 +1,11 @@
-use Rattle.std.proofs.Common.{[], refl}
+use Rattle.std.proofs.Common.{[], refl, rules}
 use Rattle.std.proofs.lemmas.List.Elements.{All-nil}
 use Rattle.perfdata_spaces.specs.Histories.{never_reset}
 use Rattle.perfdata_spaces.proofs.spaces.Spaces.new.Goals as goal
 
 pub returns : goal.returns
 returns c = record {
+  mappings = search rules;
   processes = λ pid. record {
     history = [];
     is = never_reset pid [] [] (All-nil _) refl;
