@@ -1,7 +1,7 @@
 //! The text of a line: the name of the thread, then the names of the frames, root first, with semicolons
 //! between them.
-ghost use Rattle.std.specs.Prelude.{◌≡◌, ◌++◌, map, OnOk};
-ghost use Rattle.perfdata_stacks.specs.Line.{name_byte, comm_byte};
+ghost use Rattle.std.specs.Prelude.{◌≡◌, ◌++◌, map, OnErr, OnOk};
+ghost use Rattle.perfdata_stacks.specs.Line.{name_byte, comm_byte, AppendsPart};
 
 use std::alloc::AllocError;
 
@@ -28,9 +28,10 @@ fn comm_byte(byte: u8) -> u8
 
 /// Appends the name of a frame to a line.
 ///
-/// Fails if memory runs out. Then a part of the name may be appended.
+/// Fails if memory runs out. Then only the first bytes of the name, or none, are appended.
 pub fn push_name(line: &mut Vec<u8>, name: &[u8]) -> Result<(), AllocError>
-    ensures { OnOk result (line.new.items ≡ line.old.items ++ map name_byte name.now) }
+    ensures ok { OnOk result (line.new.items ≡ line.old.items ++ map name_byte name.now) }
+    ensures err { OnErr result (AppendsPart line.old.items (map name_byte name.now) line.new.items) }
 {
     'bytes: for byte in name {
         line.push(name_byte(*byte))?;
@@ -40,9 +41,10 @@ pub fn push_name(line: &mut Vec<u8>, name: &[u8]) -> Result<(), AllocError>
 
 /// Appends the name of a thread to a line.
 ///
-/// Fails if memory runs out. Then a part of the name may be appended.
+/// Fails if memory runs out. Then only the first bytes of the name, or none, are appended.
 pub fn push_comm(line: &mut Vec<u8>, comm: &[u8]) -> Result<(), AllocError>
-    ensures { OnOk result (line.new.items ≡ line.old.items ++ map comm_byte comm.now) }
+    ensures ok { OnOk result (line.new.items ≡ line.old.items ++ map comm_byte comm.now) }
+    ensures err { OnErr result (AppendsPart line.old.items (map comm_byte comm.now) line.new.items) }
 {
     'bytes: for byte in comm {
         line.push(comm_byte(*byte))?;
