@@ -1,4 +1,5 @@
 //! The calls of the parsers of single values and of event bodies, and of the jitdump reader.
+mod derives;
 mod events;
 mod jitdump;
 mod lists;
@@ -25,6 +26,7 @@ fn call_in<T: FileOrder>(call: &Call<'_>, out: &mut Output) -> CaseResult<bool> 
     Ok(
         sources::call::<T>(call, out)?
             || tables::call(call, out)
+            || derives::call(call, out)?
             || numbers::call(call, out)?
             || simpleperf::call::<T>(call, out)?
             || jitdump::call::<T>(call, out)?

@@ -66,9 +66,15 @@ const JIT_TYPES: [(&str, JitDumpRecordType); 5] = named![
     JIT_CODE_UNWINDING_INFO
 ];
 
-const READ_ERRORS: [ReadError; 10] = variants![
+/// The variants of `ReadError`.
+pub const READ_ERRORS: [ReadError; 10] = variants![
     ReadError: PerfHeader FeatureSection BuildIdSection StringLen String NrCpus AttrsSection
     PerfEventAttr PerfEventHeader PerfEventData
+];
+
+/// The variants of `DecodeError`.
+pub const DECODE_ERRORS: [DecodeError; 8] = variants![
+    DecodeError: Truncated Varint Key WireType Group Depth Utf8 Memory
 ];
 
 /// Makes the call of a case, if this module has it.
@@ -90,12 +96,7 @@ pub fn call(call: &Call<'_>, out: &mut Output) -> bool {
         }
         "CompressionInfo::ZSTD_TYPE" => out.push_line(&CompressionInfo::ZSTD_TYPE),
         "ReadError" => push_texts(out, &READ_ERRORS),
-        "DecodeError" => {
-            let errors = variants![
-                DecodeError: Truncated Varint Key WireType Group Depth Utf8 Memory
-            ];
-            push_texts(out, &errors);
-        }
+        "DecodeError" => push_texts(out, &DECODE_ERRORS),
         "Error" => push_error_texts(out),
         "Error::from" => push_converted(out),
         _ => return false,
