@@ -112,6 +112,11 @@ impl<'a> Folder<'a> {
         }
     }
 
+    /// Returns which samples are counted.
+    pub(crate) fn selection(&self) -> Selection<'a> {
+        self.selection
+    }
+
     /// Returns the number of samples of events that aren't selected.
     pub(crate) fn other_events(&self) -> u64 {
         self.other_events

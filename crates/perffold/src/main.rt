@@ -11,6 +11,7 @@ mod output;
 mod records;
 mod selection;
 mod symbols;
+mod title;
 mod top;
 
 use fold::Folder;

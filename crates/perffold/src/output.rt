@@ -6,12 +6,14 @@ use crate::records::Records;
 use crate::symbols::FileCounts;
 use crate::symbols::directories::PathError;
 use crate::symbols::kernel_list::NoList;
+use crate::title::title_of;
 use crate::top::write_top;
+use linux_perf_data::PerfFile;
 use linux_perf_data::in_memory::InMemoryReader;
 use perfdata_cli::error::{InputError, ProgramError};
 use perfdata_cli::input::{Input, open_in_memory};
 use perfdata_stacks::counts::StackCounts;
-use perfdata_stacks::flame::svg::write_flame_graph;
+use perfdata_stacks::flame::svg::{Caption, write_flame_graph};
 use std::fs::File;
 use std::io::{BufWriter, IsTerminal, Write};
 use std::{fs, io};
@@ -32,6 +34,13 @@ impl<'a> From<InputError> for FoldError<'a> {
     fn from(error: InputError) -> FoldError<'a> {
         FoldError::Program(ProgramError::Input(error))
     }
+}
+
+// What is written: the lines with their counts, and what a flame graph says of itself.
+#[derive(Clone, Copy)]
+struct Outcome<'a> {
+    counts: &'a StackCounts,
+    caption: Caption<'a>,
 }
 
 // Writes the lines with their counts.
@@ -65,14 +74,14 @@ fn format_of(rt: &HostRuntime, arguments: &Arguments<'_>) -> OutputFormat {
 fn write_counts<W: Write>(
     rt: &HostRuntime,
     arguments: &Arguments<'_>,
-    counts: &StackCounts,
+    outcome: Outcome<'_>,
     out: &mut W,
 ) -> io::Result<()> {
-    let unit = unit_of(arguments.options.weight);
+    let Outcome { counts, caption } = outcome;
     match format_of(rt, arguments) {
         OutputFormat::Lines => write_lines(counts, out)?,
-        OutputFormat::Svg => write_flame_graph(rt.alloc(), counts, unit, out)?,
-        OutputFormat::Top => write_top(rt.alloc(), counts, unit, out)?,
+        OutputFormat::Svg => write_flame_graph(rt.alloc(), counts, caption, out)?,
+        OutputFormat::Top => write_top(rt.alloc(), counts, caption.unit, out)?,
     }
     out.flush()
 }
@@ -81,10 +90,10 @@ fn write_counts<W: Write>(
 fn write_stdout(
     rt: &HostRuntime,
     arguments: &Arguments<'_>,
-    counts: &StackCounts,
+    outcome: Outcome<'_>,
 ) -> io::Result<()> {
     let mut out = BufWriter::new(rt.alloc(), rt.stdout())?;
-    write_counts(rt, arguments, counts, &mut out)
+    write_counts(rt, arguments, outcome, &mut out)
 }
 
 // Writes a file, which then replaces the one at a path.
@@ -93,10 +102,10 @@ fn write_file(
     part: &str,
     path: &str,
     arguments: &Arguments<'_>,
-    counts: &StackCounts,
+    outcome: Outcome<'_>,
 ) -> io::Result<()> {
     let mut out = BufWriter::new(rt.alloc(), File::create(rt, part)?)?;
-    write_counts(rt, arguments, counts, &mut out)?;
+    write_counts(rt, arguments, outcome, &mut out)?;
     fs::rename(rt, part, path)
 }
 
@@ -105,10 +114,10 @@ fn replace_file(
     rt: &HostRuntime,
     path: &str,
     arguments: &Arguments<'_>,
-    counts: &StackCounts,
+    outcome: Outcome<'_>,
 ) -> io::Result<()> {
     let part = format!(in rt.alloc(); "{path}.part")?;
-    let written = write_file(rt, part.as_str(), path, arguments, counts);
+    let written = write_file(rt, part.as_str(), path, arguments, outcome);
     if written.is_err() {
         let _ = fs::remove_file(rt, part.as_str());
     }
@@ -119,13 +128,13 @@ fn replace_file(
 fn write_output<'a>(
     rt: &HostRuntime,
     arguments: &Arguments<'a>,
-    counts: &StackCounts,
+    outcome: Outcome<'_>,
 ) -> Result<(), FoldError<'a>> {
     match arguments.output {
-        Some(path) => replace_file(rt, path, arguments, counts).map_err(|error| FoldError::File(
+        Some(path) => replace_file(rt, path, arguments, outcome).map_err(|error| FoldError::File(
             PathError { path, error },
         )),
-        None => write_stdout(rt, arguments, counts).map_err(|error| FoldError::Program(
+        None => write_stdout(rt, arguments, outcome).map_err(|error| FoldError::Program(
             ProgramError::Output(error),
         )),
     }
@@ -180,16 +189,47 @@ fn print_unreadable(rt: &HostRuntime, name: &str, files: u64) {
     }
 }
 
+// Writes what was counted.
+fn write_result<'a>(
+    rt: &HostRuntime,
+    arguments: &Arguments<'a>,
+    folder: &Folder<'_>,
+    perf_file: &PerfFile,
+) -> Result<(), FoldError<'a>> {
+    let counts = folder.counts()?;
+    let unit = unit_of(arguments.options.weight);
+    let title = title_of(
+        rt.alloc(),
+        perf_file,
+        folder.selection(),
+        counts.total(),
+        unit,
+    );
+    let title = title.map_err(|error| FoldError::Program(ProgramError::Output(error)))?;
+    let caption = Caption {
+        title: title.as_slice(),
+        unit,
+    };
+    write_output(
+        rt,
+        arguments,
+        Outcome {
+            counts: &counts,
+            caption,
+        },
+    )
+}
+
 // Writes the lines of the samples that were read, and fails with the error that ended them, if there is one.
 fn finish<'a>(
     rt: &HostRuntime,
     name: &str,
     arguments: &Arguments<'a>,
     folder: &Folder<'_>,
+    perf_file: &PerfFile,
     read: Result<(), InputError>,
 ) -> Result<(), FoldError<'a>> {
-    let counts = folder.counts()?;
-    write_output(rt, arguments, &counts)?;
+    write_result(rt, arguments, folder, perf_file)?;
     print_other_events(rt, name, folder.other_events());
     print_undecoded(rt, name, folder.undecoded());
     print_missing_list(rt, name, folder.missing_kernel_list());
@@ -212,7 +252,7 @@ fn fold_opened<'a>(
     let mut perf_file = reader.perf_file;
     let mut records = Records::new(rt.alloc(), &perf_file, reader.records);
     let read = folder.add_all(&mut records, &mut perf_file);
-    finish(rt, name, arguments, folder, read)
+    finish(rt, name, arguments, folder, &perf_file, read)
 }
 
 // Reads the input at a path into memory. Returns whether it is a pipe, and its bytes.

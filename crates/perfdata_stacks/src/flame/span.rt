@@ -1,8 +1,5 @@
 //! Parts of the width of the graph.
 
-/// The width of the graph in hundredths of a pixel.
-pub(crate) const GRAPH_WIDTH: u64 = 118_000;
-
 /// The samples from one up to another, in the order of the lines.
 #[derive(Clone, Copy, Debug, PartialEq, Eq)]
 pub struct Span {

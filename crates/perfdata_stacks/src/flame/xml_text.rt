@@ -13,6 +13,16 @@ pub(crate) struct XmlText<'a> {
     pub(crate) limit: usize,
 }
 
+impl<'a> XmlText<'a> {
+    /// Returns the text of all characters.
+    pub(crate) fn whole(bytes: &'a [u8]) -> XmlText<'a> {
+        XmlText {
+            bytes,
+            limit: usize::MAX,
+        }
+    }
+}
+
 // Returns whether no XML document may contain a character.
 fn is_forbidden(character: char) -> bool {
     match character {
