@@ -1,5 +1,6 @@
 pub mod Cuts
 pub mod Layer
+pub mod Lines
 pub mod Overlay
 pub mod Symbols
 pub mod SymbolTable

@@ -1,5 +1,5 @@
 -- The lines of text files of symbols.
-use Rattle.std.specs.Prelude.{◌≡◌, ◌⊎◌, ◌+◌, ◌<◌, ◌≤◌, ◌^◌, ℕ, List, ◌∷◌, ◌++◌, length, drop, slice_index}
+use Rattle.std.specs.Prelude.{◌≡◌, ◌≢◌, ◌⊎◌, ◌+◌, ◌<◌, ◌≤◌, ◌^◌, ℕ, List, ◌∷◌, ◌++◌, All, length, drop, slice_index}
 use Rattle.std.specs.Str.Parse.{IsNumeral, digits_value}
 use Rattle.perfdata_symbols.specs.declared.symbol.Symbol.{Symbol}
 
@@ -30,6 +30,8 @@ pub record IsMapLine (line : List ℕ) (offset : ℕ) (s : Symbol) : Type 0 wher
   pub start_digits : List ℕ
   pub size_digits : List ℕ
   pub symbol_name : List ℕ
+  pub start_field : All (λ b. b ≢ 32) start_digits
+  pub size_field : All (λ b. b ≢ 32) size_digits
   pub line_is : line ≡ start_digits ++ 32 ∷ (size_digits ++ 32 ∷ symbol_name)
   pub start_is : WritesHex start_digits s.start
   pub size_is : WritesHex size_digits s.size

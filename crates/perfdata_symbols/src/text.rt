@@ -1,5 +1,5 @@
 //! Numbers and lines of text files.
-ghost use Rattle.std.specs.Prelude.{◌≡◌, ◌≢◌, ◌≤◌, ◌⊎◌, ◌++◌, ◌∷◌, ℕ, All, IfNone, IfSome, SomeIff};
+ghost use Rattle.std.specs.Prelude.{◌≡◌, ◌≢◌, ◌≤◌, ◌⊎◌, ◌++◌, ◌∷◌, ◌<◌, ℕ, All, IfNone, IfSome, SomeIff};
 ghost use Rattle.std.specs.Prelude.{drop, length, slice_index};
 ghost use Rattle.std.specs.Str.Parse.{digits_value};
 ghost use Rattle.perfdata_symbols.specs.Text.{AreDigitsOf, IsHex, WritesHex};
@@ -46,6 +46,7 @@ pub(crate) fn line_end(text: &[u8], start: usize) -> usize
     requires { start ≤ length text.now }
     ensures start { start ≤ result }
     ensures within { result ≤ length text.now }
+    ensures one { (k : ℕ) → start ≤ k → k < result → slice_index text.now k ≢ 10 }
     ensures ends { (result ≡ length text.now) ⊎ (slice_index text.now result ≡ 10) }
 {
     match memchr(b'\n', &text[start..]) {
