@@ -1,4 +1,6 @@
 pub mod CutLemmas
+pub mod KernelLineLemmas
+pub mod KernelSizeLemmas
 pub mod LayerLemmas
 pub mod LineLemmas
 pub mod LookupLemmas

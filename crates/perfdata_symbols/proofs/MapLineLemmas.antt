@@ -66,7 +66,8 @@ fields_unique line a b n x y m f g =
     let two = split_unique 32 b y n m f.second g.second one.1 in
     (one.0, two.0, two.1)
 
-same_symbol : (s t : Symbol) → s.start ≡ t.start → s.size ≡ t.size → s.name_start ≡ t.name_start → s.name_end ≡ t.name_end → s ≡ t
+-- two symbols with equal fields
+pub same_symbol : (s t : Symbol) → s.start ≡ t.start → s.size ≡ t.size → s.name_start ≡ t.name_start → s.name_end ≡ t.name_end → s ≡ t
 same_symbol s t a b c d =
     ap (λ x. record { start = x; size = s.size; name_start = s.name_start; name_end = s.name_end }) a
     ∙ ap (λ x. record { start = t.start; size = x; name_start = s.name_start; name_end = s.name_end }) b

@@ -1,4 +1,5 @@
 pub mod Cuts
+pub mod Kernel
 pub mod Layer
 pub mod Lines
 pub mod Overlay

@@ -25,6 +25,12 @@ pub record WritesHex (text : List ℕ) (n : ℕ) : Type 0 where
   pub hex : IsHex digits
   pub value : n ≡ digits_value 16 digits
 
+-- the first field of the bytes has this length: it ends before the first byte `separator`, or at the end if there is none
+pub record IsFieldLen (bytes : List ℕ) (separator n : ℕ) : Type 0 where
+  pub within : n ≤ length bytes
+  pub field : (k : ℕ) → k < n → slice_index bytes k ≢ separator
+  pub ends : n < length bytes → slice_index bytes n ≡ separator
+
 -- the symbol of a line `START SIZE NAME` of a perf-PID.map file, which starts at this offset of the text
 pub record IsMapLine (line : List ℕ) (offset : ℕ) (s : Symbol) : Type 0 where
   pub start_digits : List ℕ

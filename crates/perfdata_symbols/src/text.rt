@@ -2,7 +2,7 @@
 ghost use Rattle.std.specs.Prelude.{◌≡◌, ◌≢◌, ◌≤◌, ◌⊎◌, ◌++◌, ◌∷◌, ◌<◌, ℕ, All, IfNone, IfSome, SomeIff};
 ghost use Rattle.std.specs.Prelude.{drop, length, slice_index};
 ghost use Rattle.std.specs.Str.Parse.{digits_value};
-ghost use Rattle.perfdata_symbols.specs.Text.{AreDigitsOf, IsHex, WritesHex};
+ghost use Rattle.perfdata_symbols.specs.Text.{AreDigitsOf, IsFieldLen, IsHex, WritesHex};
 
 use memchr::memchr;
 
@@ -65,4 +65,11 @@ pub(crate) fn split_field(line: &[u8], separator: u8) -> Option<(&[u8], usize)>
 {
     let end = memchr(separator, line)?;
     Some((&line[..end], end + 1))
+}
+
+// The number of bytes before the first byte `separator`, or of all bytes if there is none.
+pub(crate) fn field_len(bytes: &[u8], separator: u8) -> usize
+    ensures { IsFieldLen bytes.now separator result }
+{
+    memchr(separator, bytes).unwrap_or(bytes.len())
 }
