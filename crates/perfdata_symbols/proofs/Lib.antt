@@ -1,6 +1,10 @@
 pub mod CutLemmas
+pub mod KernelLineLemmas
+pub mod KernelSizeLemmas
 pub mod LayerLemmas
+pub mod LineLemmas
 pub mod LookupLemmas
+pub mod MapLineLemmas
 pub mod OverlayLemmas
 pub mod SymbolLemmas
 pub mod TextLemmas

@@ -1,5 +1,7 @@
 pub mod Cuts
+pub mod Kernel
 pub mod Layer
+pub mod Lines
 pub mod Overlay
 pub mod Symbols
 pub mod SymbolTable

@@ -1,5 +1,5 @@
 -- The lines of text files of symbols.
-use Rattle.std.specs.Prelude.{◌≡◌, ◌⊎◌, ◌+◌, ◌<◌, ◌≤◌, ◌^◌, ℕ, List, ◌∷◌, ◌++◌, length, drop, slice_index}
+use Rattle.std.specs.Prelude.{◌≡◌, ◌≢◌, ◌⊎◌, ◌+◌, ◌<◌, ◌≤◌, ◌^◌, ℕ, List, ◌∷◌, ◌++◌, All, length, drop, slice_index}
 use Rattle.std.specs.Str.Parse.{IsNumeral, digits_value}
 use Rattle.perfdata_symbols.specs.declared.symbol.Symbol.{Symbol}
 
@@ -25,11 +25,19 @@ pub record WritesHex (text : List ℕ) (n : ℕ) : Type 0 where
   pub hex : IsHex digits
   pub value : n ≡ digits_value 16 digits
 
+-- the first field of the bytes has this length: it ends before the first byte `separator`, or at the end if there is none
+pub record IsFieldLen (bytes : List ℕ) (separator n : ℕ) : Type 0 where
+  pub within : n ≤ length bytes
+  pub field : (k : ℕ) → k < n → slice_index bytes k ≢ separator
+  pub ends : n < length bytes → slice_index bytes n ≡ separator
+
 -- the symbol of a line `START SIZE NAME` of a perf-PID.map file, which starts at this offset of the text
 pub record IsMapLine (line : List ℕ) (offset : ℕ) (s : Symbol) : Type 0 where
   pub start_digits : List ℕ
   pub size_digits : List ℕ
   pub symbol_name : List ℕ
+  pub start_field : All (λ b. b ≢ 32) start_digits
+  pub size_field : All (λ b. b ≢ 32) size_digits
   pub line_is : line ≡ start_digits ++ 32 ∷ (size_digits ++ 32 ∷ symbol_name)
   pub start_is : WritesHex start_digits s.start
   pub size_is : WritesHex size_digits s.size

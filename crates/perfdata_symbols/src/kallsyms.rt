@@ -1,33 +1,48 @@
 //! The kernel's list of symbols, `/proc/kallsyms`.
 
-ghost use Rattle.std.specs.Prelude.{◌≡◌, ◌+◌, ◌^◌, ◌<◌, IfOk, length};
-ghost use Rattle.perfdata_symbols.specs.SymbolTable.{names_of};
+ghost use Rattle.std.specs.Prelude.{◌≡◌, ◌↔◌, ◌+◌, ◌^◌, ◌<◌, IfNone, IfOk, IfSome, IsTrue, length, map};
+ghost use Rattle.std.specs.List.Sorted.{IsNonDecreasingBy};
+ghost use Rattle.perfdata_symbols.specs.Kernel.{AreKernelSymbols, IsKernelLine, IsListed, IsListedType};
+ghost use Rattle.perfdata_symbols.specs.Kernel.{ReachNext, without_size};
+ghost use Rattle.perfdata_symbols.specs.Lines.{AreSymbolsOfLines};
+ghost use Rattle.perfdata_symbols.specs.SymbolTable.{names_of, symbols_of};
+ghost use Rattle.perfdata_symbols.specs.declared.symbol.Symbol.{Symbol};
 
 use crate::symbol::Symbol;
 use crate::table::SymbolTable;
-use crate::text::{hex_number, line_end, split_field};
+use crate::text::{field_len, hex_number, line_end, split_field};
 use memchr::memchr;
 use std::alloc::{AllocError, Global};
 
 // Whether symbols of this type are code or data.
-fn is_listed_type(symbol_type: u8) -> bool {
+fn is_listed_type(symbol_type: u8) -> bool
+    ensures { IsTrue result ↔ IsListedType symbol_type }
+{
     matches!(
         symbol_type,
         b'T' | b't' | b'W' | b'w' | b'D' | b'd' | b'B' | b'b'
     )
 }
 
+// Whether what follows the address in a line is the type of code or data, a space and a name without `$`.
+fn is_listed(rest: &[u8]) -> bool
+    ensures { IsTrue result ↔ IsListed rest.now }
+{
+    rest.len() >= 3 && is_listed_type(rest[0]) && rest[1] == b' ' && rest[2] != b'$'
+}
+
 // The symbol, of size 0, of a line `ADDRESS TYPE NAME` that starts at an offset of the text.
 fn symbol_of_line(line: &[u8], offset: usize) -> Option<Symbol>
     requires { offset + length line.now < 2 ^ 64 }
+    ensures some { IfSome result (λ s. IsKernelLine line.now offset s) }
+    ensures none { IfNone result ((s : Symbol) → ¬ IsKernelLine line.now offset s) }
 {
     let (address, type_at) = split_field(line, b' ')?;
     let rest = &line[type_at..];
-    if rest.len() < 3 || !is_listed_type(rest[0]) || rest[1] != b' ' || rest[2] == b'$' {
+    if !is_listed(rest) {
         return None;
     }
-    let name = &rest[2..];
-    let name_len = memchr(b'\t', name).unwrap_or(name.len());
+    let name_len = field_len(&rest[2..], b'\t');
     if name_len == 0 {
         return None;
     }
@@ -41,7 +56,9 @@ fn symbol_of_line(line: &[u8], offset: usize) -> Option<Symbol>
 }
 
 // The symbols of the lines, in their order.
-fn symbols_of_lines(alloc: Global, text: &[u8]) -> Result<Vec<Symbol>, AllocError> {
+fn symbols_of_lines(alloc: Global, text: &[u8]) -> Result<Vec<Symbol>, AllocError>
+    ensures { IfOk result (λ symbols. AreSymbolsOfLines IsKernelLine text.now symbols.items) }
+{
     let mut symbols = Vec::new(alloc);
     let mut at = 0;
     'lines: while at < text.len() {
@@ -55,15 +72,22 @@ fn symbols_of_lines(alloc: Global, text: &[u8]) -> Result<Vec<Symbol>, AllocErro
 }
 
 // Extends each symbol to the next greater start. The symbols are sorted by their starts.
-fn extend_to_next(symbols: &mut [Symbol]) {
+fn extend_to_next(symbols: &mut [Symbol])
+    requires { IsNonDecreasingBy (λ s. s.start) symbols.old }
+    ensures same { map without_size symbols.new ≡ map without_size symbols.old }
+    ensures reach { ReachNext symbols.new }
+{
     let mut end = u64::MAX;
     let mut next_start = u64::MAX;
-    'symbols: for symbol in symbols.iter_mut().rev() {
-        if symbol.start < next_start {
+    let mut at = symbols.len();
+    'symbols: while at > 0 {
+        at -= 1;
+        let start = symbols[at].start;
+        if start < next_start {
             end = next_start;
         }
-        symbol.size = end.saturating_sub(symbol.start);
-        next_start = symbol.start;
+        symbols[at].size = end - start;
+        next_start = start;
     }
 }
 
@@ -74,6 +98,7 @@ fn extend_to_next(symbols: &mut [Symbol]) {
 /// name. Lines of other types than T, W, D and B, in both cases, names that start with `$`, and malformed
 /// lines are skipped.
 pub fn parse_kallsyms(alloc: Global, text: Vec<u8>) -> Result<SymbolTable, AllocError>
+    ensures symbols { IfOk result (λ t. AreKernelSymbols text.items (symbols_of t)) }
     ensures names { IfOk result (λ t. names_of t ≡ text.items) }
 {
     let mut symbols = symbols_of_lines(alloc, &text)?;

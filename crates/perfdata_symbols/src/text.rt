@@ -1,8 +1,8 @@
 //! Numbers and lines of text files.
-ghost use Rattle.std.specs.Prelude.{◌≡◌, ◌≢◌, ◌≤◌, ◌⊎◌, ◌++◌, ◌∷◌, ℕ, All, IfNone, IfSome, SomeIff};
+ghost use Rattle.std.specs.Prelude.{◌≡◌, ◌≢◌, ◌≤◌, ◌⊎◌, ◌++◌, ◌∷◌, ◌<◌, ℕ, All, IfNone, IfSome, SomeIff};
 ghost use Rattle.std.specs.Prelude.{drop, length, slice_index};
 ghost use Rattle.std.specs.Str.Parse.{digits_value};
-ghost use Rattle.perfdata_symbols.specs.Text.{AreDigitsOf, IsHex, WritesHex};
+ghost use Rattle.perfdata_symbols.specs.Text.{AreDigitsOf, IsFieldLen, IsHex, WritesHex};
 
 use memchr::memchr;
 
@@ -46,6 +46,7 @@ pub(crate) fn line_end(text: &[u8], start: usize) -> usize
     requires { start ≤ length text.now }
     ensures start { start ≤ result }
     ensures within { result ≤ length text.now }
+    ensures one { (k : ℕ) → start ≤ k → k < result → slice_index text.now k ≢ 10 }
     ensures ends { (result ≡ length text.now) ⊎ (slice_index text.now result ≡ 10) }
 {
     match memchr(b'\n', &text[start..]) {
@@ -64,4 +65,11 @@ pub(crate) fn split_field(line: &[u8], separator: u8) -> Option<(&[u8], usize)>
 {
     let end = memchr(separator, line)?;
     Some((&line[..end], end + 1))
+}
+
+// The number of bytes before the first byte `separator`, or of all bytes if there is none.
+pub(crate) fn field_len(bytes: &[u8], separator: u8) -> usize
+    ensures { IsFieldLen bytes.now separator result }
+{
+    memchr(separator, bytes).unwrap_or(bytes.len())
 }

@@ -1,8 +1,10 @@
-use Rattle.std.proofs.Common.{◌+◌, ◌-◌, ◌≤◌, length}
+use Rattle.std.proofs.Common.{◌+◌, ◌-◌, length}
+use Rattle.perfdata_symbols.specs.Kernel.{IsKernelLine}
+use Rattle.perfdata_symbols.proofs.LineLemmas.{Lists}
 use Rattle.perfdata_symbols.proofs.kallsyms.symbols_of_lines.Given as goal
 
 abbrev pub invariant-lines : goal.invariant-lines
-invariant-lines l = l.at ≤ length l.text + 1
+invariant-lines l = Lists IsKernelLine l.text l.at l.symbols.items
 
 abbrev pub decreases-lines : goal.decreases-lines
 decreases-lines l = length l.text + 1 - l.at
