@@ -5,6 +5,7 @@ pub mod LayerLemmas
 pub mod LineLemmas
 pub mod LookupLemmas
 pub mod MapLineLemmas
+pub mod NameLemmas
 pub mod OverlayLemmas
 pub mod SymbolLemmas
 pub mod TextLemmas

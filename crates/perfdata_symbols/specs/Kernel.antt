@@ -34,6 +34,16 @@ pub record IsKernelLine (line : List ℕ) (offset : ℕ) (s : Symbol) : Type 0 w
   pub name_from : s.name_start ≡ offset + length address + 3
   pub name_to : s.name_end ≡ s.name_start + name_len
 
+-- what follows a symbol's name in the text is a tab and this name of a module in brackets
+pub record IsBracketed (after module_name : List ℕ) : Type 0 where
+  pub rest : List ℕ
+  pub field : All (λ b. b ≢ 93) module_name
+  pub is : after ≡ 9 ∷ 91 ∷ (module_name ++ 93 ∷ rest)
+
+-- the name of the module that follows a symbol's name, or none if no such name follows it
+abbrev pub IsModuleName : List ℕ → List ℕ → Type 0
+IsModuleName after module_name = IsBracketed after module_name ⊎ ((module_name ≡ []) × ((other : List ℕ) → ¬ IsBracketed after other))
+
 -- the symbol with size 0
 abbrev pub without_size : Symbol → Symbol
 without_size s = record s { size = 0 }

@@ -37,6 +37,21 @@ abbrev pub IsLastName : List ℕ → List Symbol → ℕ → Option (List ℕ) �
 IsLastName names symbols x None = All (λ s. ¬ Covers s x) symbols
 IsLastName names symbols x (Some n) = (s : Symbol) × IsLastSymbol symbols x (Some s) × IsName names s n
 
+-- this is the start of the first symbol with this name
+pub record IsFirstNamed (names : List ℕ) (symbols : List Symbol) (n : List ℕ) (start : ℕ) : Type 0 where
+  pub before : List Symbol
+  pub symbol : Symbol
+  pub after : List Symbol
+  pub list : symbols ≡ before ++ symbol ∷ after
+  pub named : IsName names symbol n
+  pub start_is : start ≡ symbol.start
+  pub first : All (λ s. ¬ IsName names s n) before
+
+-- the start of the first symbol with this name, or `None` exactly if none has it
+abbrev pub IsFirstStart : List ℕ → List Symbol → List ℕ → Option ℕ → Type 0
+IsFirstStart names symbols n None = All (λ s. ¬ IsName names s n) symbols
+IsFirstStart names symbols n (Some start) = IsFirstNamed names symbols n start
+
 -- the index of the last symbol that contains the address, where the first symbol has index `i`; `before` if none does
 abbrev pub last_from : ℕ → Option ℕ → List Symbol → ℕ → Option ℕ
 last_from i before [] x = before

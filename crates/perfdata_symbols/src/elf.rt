@@ -168,7 +168,8 @@ impl<R: PlacedSource + Drop> ElfFile<R> {
     /// The entries are in the order of the addresses of their pointers, `r_offset` of the relocations
     /// `.rela.plt` or `.rel.plt`. How many bytes are before the first one follows from the size of the
     /// section and the number of entries. A table that isn't what linkers write for the machine has no
-    /// symbols. A symbol of the file at the start of an entry is preferred to these.
+    /// symbols. A relocation of a TLS descriptor has no entry, so the code after the entries, which all
+    /// descriptors share, has no symbol. A symbol of the file at the start of an entry is preferred to these.
     ///
     /// If it fails, the symbols may have those of some entries.
     pub fn add_plt_symbols(

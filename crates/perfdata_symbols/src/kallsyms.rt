@@ -1,17 +1,17 @@
 //! The kernel's list of symbols, `/proc/kallsyms`.
 
-ghost use Rattle.std.specs.Prelude.{◌≡◌, ◌↔◌, ◌+◌, ◌^◌, ◌<◌, IfNone, IfOk, IfSome, IsTrue, length, map};
+ghost use Rattle.std.specs.Prelude.{◌≡◌, ◌↔◌, ◌+◌, ◌^◌, ◌<◌, IfNone, IfOk, IfSome, IsTrue, drop, length, map};
 ghost use Rattle.std.specs.List.Sorted.{IsNonDecreasingBy};
 ghost use Rattle.perfdata_symbols.specs.Kernel.{AreKernelSymbols, IsKernelLine, IsListed, IsListedType};
-ghost use Rattle.perfdata_symbols.specs.Kernel.{ReachNext, without_size};
+ghost use Rattle.perfdata_symbols.specs.Kernel.{IsModuleName, ReachNext, without_size};
 ghost use Rattle.perfdata_symbols.specs.Lines.{AreSymbolsOfLines};
 ghost use Rattle.perfdata_symbols.specs.SymbolTable.{names_of, symbols_of};
+ghost use Rattle.perfdata_symbols.specs.Symbols.{IsFirstStart};
 ghost use Rattle.perfdata_symbols.specs.declared.symbol.Symbol.{Symbol};
 
 use crate::symbol::Symbol;
 use crate::table::SymbolTable;
 use crate::text::{field_len, hex_number, line_end, split_field};
-use memchr::memchr;
 use std::alloc::{AllocError, Global};
 
 // Whether symbols of this type are code or data.
@@ -111,7 +111,9 @@ pub fn parse_kallsyms(alloc: Global, text: Vec<u8>) -> Result<SymbolTable, Alloc
 ///
 /// The difference to the address that a recording has for it (`pgoff` of the kernel's MMAP record) is how far
 /// the kernel of the list is shifted.
-pub fn address_of(table: &SymbolTable, name: &[u8]) -> Option<u64> {
+pub fn address_of(table: &SymbolTable, name: &[u8]) -> Option<u64>
+    ensures { IsFirstStart (names_of table.now) (symbols_of table.now) name.now result }
+{
     'symbols: for symbol in table.symbols().iter() {
         if table.name(symbol) == name {
             return Some(symbol.start);
@@ -120,16 +122,24 @@ pub fn address_of(table: &SymbolTable, name: &[u8]) -> Option<u64> {
     None
 }
 
+// The name of a module in brackets that these bytes start with after a tab, or none.
+fn module_at(after: &[u8]) -> &[u8]
+    ensures { IsModuleName after.now result.now }
+{
+    if after.len() < 2 || after[0] != b'\t' || after[1] != b'[' {
+        return &after[..0];
+    }
+    match split_field(&after[2..], b']') {
+        Some((name, _)) => name,
+        None => &after[..0],
+    }
+}
+
 /// Returns the name of the module of a symbol in the table of such a list: what is in brackets after a tab
 /// after the symbol's name. It is empty for symbols of the kernel itself.
-pub fn module_of<'a>(table: &'a SymbolTable, symbol: &Symbol) -> &'a [u8] {
+pub fn module_of<'a>(table: &'a SymbolTable, symbol: &Symbol) -> &'a [u8]
+    ensures { IsModuleName (drop symbol.now.name_end (names_of table.now)) result.now }
+{
     let names = table.names();
-    let rest = names.get(symbol.name_end..).unwrap_or(&names[..0]);
-    let Some(module) = rest.strip_prefix(b"\t[") else {
-        return &names[..0];
-    };
-    match memchr(b']', module) {
-        Some(len) => &module[..len],
-        None => &names[..0],
-    }
+    module_at(&names[symbol.name_end.min(names.len())..])
 }
