@@ -11,6 +11,7 @@ import pathlib
 import random
 import struct
 import subprocess
+import sys
 import tempfile
 import unittest
 
@@ -18,6 +19,8 @@ import dewikura
 from dewikura.__main__ import main, record_line
 
 TOP = pathlib.Path(__file__).resolve().parent.parent.parent
+sys.path.insert(0, str(TOP / "tests"))
+import perfdata
 CALLS = TOP / "crates/perfinfo/data/calls.data"
 CALLS_PIPE = TOP / "crates/perfinfo/data/calls.pipe"
 FIRST = TOP / "crates/perflist/data/first.data"
@@ -65,7 +68,7 @@ class RecordingTest(unittest.TestCase):
 
     def test_input_kind(self):
         def header(size, order):
-            return {"little": b"PERFILE2", "big": b"2ELIFREP"}[order] + size.to_bytes(8, order)
+            return perfdata.MAGIC[order] + size.to_bytes(8, order)
 
         for order in ("little", "big"):
             for size, kind in ((16, "PIPE"), (24, "PIPE"), (103, "PIPE"), (104, "FILE"), (2**64 - 1, "FILE")):
@@ -193,14 +196,7 @@ def last_index(data):
 
 def with_features(sections):
     """A file with one attribute, no records, and these feature sections."""
-    features = sum(1 << number for number in sections).to_bytes(32, "little")
-    header = b"PERFILE2" + struct.pack("<9Q", 104, 80, 104, 80, 184, 0, 0, 0, 0)[:64] + features
-    attr = struct.pack("<IIQ", 1, 64, 0).ljust(80, b"\0")
-    table, data = b"", b""
-    for _, section in sorted(sections.items()):
-        table += struct.pack("<QQ", len(header + attr) + 16 * len(sections) + len(data), len(section))
-        data += section
-    return header + attr + table + data
+    return perfdata.file(b"", perfdata.attribute(event_type=1), features=sections)
 
 
 def debug_info(data, offset):
@@ -266,18 +262,14 @@ class SampleTest(unittest.TestCase):
 
     def test_samples_without_times(self):
         # Samples with the times 5, none (2^64 - 1), 3, none (0) and 3.
-        attribute = struct.pack("<IIQQQQQ", 1, 64, 0, 0, 1 << 2, 0, 0) + bytes(16) + struct.pack("<QQ", 0, 0)
-        times = [5, 2 ** 64 - 1, 3, 0, 3]
-        header = b"PERFILE2" + struct.pack("<8Q", 104, 80, 104, 80, 184, 16 * len(times), 0, 0) + bytes(32)
-        with dewikura.from_buffer(header + attribute + b"".join(struct.pack("<IHHQ", 9, 2, 16, time) for time in times)) as recording:
+        records = b"".join(perfdata.record(9, 2, perfdata.u64s(time)) for time in (5, 2 ** 64 - 1, 3, 0, 3))
+        with dewikura.from_buffer(perfdata.file(records, perfdata.attribute(1 << 2, event_type=1))) as recording:
             self.assertEqual([sample.offset // 16 for sample in recording.samples_by_time()], [1, 3, 2, 4, 0])
 
     def test_details(self):
         # RAW and WEIGHT
-        attribute = struct.pack("<IIQQQQQ", 1, 64, 0, 0, 1 << 10 | 1 << 14, 0, 0) + bytes(16) + struct.pack("<QQ", 0, 0)
-        record = struct.pack("<IHHI12sQ", 9, 2, 32, 12, b"raw data", 77)
-        header = b"PERFILE2" + struct.pack("<8Q", 104, 80, 104, 80, 184, 40, 0, 0) + bytes(32)
-        with dewikura.from_buffer(header + attribute + record + struct.pack("<IHH", 9, 2, 8)) as recording:
+        records = perfdata.record(9, 2, struct.pack("<I12sQ", 12, b"raw data", 77)) + perfdata.record(9, 2)
+        with dewikura.from_buffer(perfdata.file(records, perfdata.attribute(1 << 10 | 1 << 14, event_type=1))) as recording:
             first, second = recording.records
             details = recording.details(first)
             self.assertEqual((details.weight, details.raw_offset, details.raw_size, details.aux_size), (77, 4, 12, 0))
@@ -286,12 +278,8 @@ class SampleTest(unittest.TestCase):
 
     def test_many_pages(self):
         # Records of 8 bytes: more of them than the first array has elements.
-        header, count = bytearray(FIRST.read_bytes()[:104]), 500
-        attribute = struct.pack("<IIQQQQQ", 1, 64, 0, 0, 1 << 2, 0, 0) + bytes(16) + struct.pack("<QQ", 0, 0)
-        struct.pack_into("<QQQQQQQQ", header, 8, 104, 80, 104, 80, 184, 8 * count, 0, 0)
-        header[72:104] = bytes(32)
-        data = bytes(header) + attribute + struct.pack("<IHH", 9, 2, 8) * count
-        with dewikura.from_buffer(data) as recording:
+        count = 500
+        with dewikura.from_buffer(perfdata.file(perfdata.record(9, 2) * count, perfdata.attribute(1 << 2, event_type=1))) as recording:
             samples = recording.samples
             self.assertEqual([sample.offset for sample in samples], [8 * index for index in range(count)])
             self.assertEqual({sample.error for sample in samples}, {dewikura.BodyError.TRUNCATED})
@@ -347,12 +335,10 @@ class TaskTest(unittest.TestCase):
     def test_counters(self):
         """No recording has any: a file with an attribute of a group, and samples with more counters than the first array has elements."""
         read_format = dewikura.ReadFormat.GROUP | dewikura.ReadFormat.ID
-        attribute = struct.pack("<IIQQQQQ", 1, 136, 0, 1, 1 << 16 | 1 << 4, read_format, 0) + bytes(136 - 48)
+        attribute = perfdata.attribute(1 << 16 | 1 << 4, event_type=1, period=1, read_format=read_format, size=136)
         counters = [(0xb00 + index, 0xc00 + index) for index in range(40)]
         body = struct.pack("<QQ", 1, len(counters)) + b"".join(struct.pack("<QQ", *counter) for counter in counters)
-        records = 2 * (struct.pack("<IHH", 9, 2, 8 + len(body)) + body)
-        header = b"PERFILE2" + struct.pack("<QQQQQQ", 104, 152, 104, 152, 256, len(records)) + bytes(48)
-        with dewikura.from_buffer(header + attribute + bytes(16) + records) as recording:
+        with dewikura.from_buffer(perfdata.file(2 * perfdata.record(9, 2, body), attribute)) as recording:
             found = [(counter.value, counter.id, counter.offset) for counter in recording.counters]
             self.assertEqual(found, [(*counter, offset) for offset in (0, 8 + len(body)) for counter in counters])
             self.assertEqual({(counter.time_enabled, counter.time_running, counter.lost) for counter in recording.counters}, {(0, 0, 0)})
@@ -382,12 +368,12 @@ class TaskTest(unittest.TestCase):
 
     def test_many_tasks(self):
         # More of them than the first array has elements.
-        attribute = struct.pack("<IIQ", 1, 64, 0).ljust(80, b"\0")
-        records = b"".join(struct.pack("<IHHii8s", 3, 0, 24, -index, index, b"a name") for index in range(500))
+        records = b"".join(perfdata.record(3, 0, struct.pack("<ii8s", -index, index, b"a name")) for index in range(500))
         bad_record = struct.pack("<IHH", 3, 0, 7)
-        for size, status in ((len(records), None), (len(records) + 8, dewikura.Status.BAD_RECORD_SIZE)):
-            header = b"PERFILE2" + struct.pack("<8Q", 104, 80, 104, 80, 184, size, 0, 0) + bytes(32)
-            with dewikura.from_buffer(header + attribute + records + bad_record) as recording:
+        attribute = perfdata.attribute(event_type=1)
+        for data, status in ((perfdata.file(records, attribute) + bad_record, None),
+                             (perfdata.file(records + bad_record, attribute), dewikura.Status.BAD_RECORD_SIZE)):
+            with dewikura.from_buffer(data) as recording:
                 tasks, error = recording.partial_tasks()
                 self.assertEqual([(task.pid, task.tid) for task in tasks], [(-index, index) for index in range(500)])
                 self.assertEqual({recording.name(task) for task in tasks}, {b"a name"})
@@ -468,10 +454,8 @@ class DataFrameTest(unittest.TestCase):
                 self.assertFalse({"path_offset", "path_size", "build_id_size", "reserved"} & set(mappings))
 
     def test_names_that_are_not_utf_8(self):
-        attribute = struct.pack("<IIQ", 1, 64, 0).ljust(80, b"\0")
-        record = struct.pack("<IHHii8s", 3, 0, 24, 1, 2, b"a\xffb")
-        header = b"PERFILE2" + struct.pack("<8Q", 104, 80, 104, 80, 184, 24, 0, 0) + bytes(32)
-        with dewikura.from_buffer(header + attribute + record) as recording:
+        record = perfdata.record(3, 0, struct.pack("<ii8s", 1, 2, b"a\xffb"))
+        with dewikura.from_buffer(perfdata.file(record, perfdata.attribute(event_type=1))) as recording:
             self.assertEqual(recording.tasks.to_pandas()["name"].tolist(), ["a\\xffb"])
 
 

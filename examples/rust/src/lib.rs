@@ -2,23 +2,11 @@
 //! counter values of recordings.
 //!
 //! A slice of Rust is never NULL and never changes while it is borrowed, so each call meets the obligations of `include/dewikura.h`.
-use std::fmt;
+pub mod declarations;
 
-/// A record of a perf.data file or pipe (`struct dewikura_record`).
-#[repr(C)]
-#[derive(Clone, Copy, Debug, Default, PartialEq, Eq)]
-pub struct Record {
-    pub offset: u64,
-    pub body_offset: u64,
-    pub body_size: u64,
-    pub round: u64,
-    timestamp: u64,
-    attr_index: u64,
-    pub record_type: u32,
-    pub misc: u16,
-    has_timestamp: u8,
-    has_attr: u8,
-}
+use declarations::*;
+pub use declarations::{Counter, Cursor, Frame, JitRecord, Mapping, Record, Sample, Task};
+use std::fmt;
 
 impl Record {
     /// The time in nanoseconds of the recording's clock.
@@ -35,55 +23,6 @@ impl Record {
     pub fn body<'a>(&self, input: &'a [u8]) -> &'a [u8] {
         &input[self.body_offset as usize..][..self.body_size as usize]
     }
-}
-
-/// Where the records of a file continue (`struct dewikura_cursor`). The default is the first record.
-#[repr(C)]
-#[derive(Clone, Copy, Debug, Default, PartialEq, Eq)]
-pub struct Cursor {
-    pub offset: u64,
-    pub round: u64,
-}
-
-/// A record of a jitdump (`struct dewikura_jit_record`).
-#[repr(C)]
-#[derive(Clone, Copy, Debug, Default, PartialEq, Eq)]
-pub struct JitRecord {
-    pub offset: u64,
-    pub timestamp: u64,
-    pub record_type: u32,
-    pub size: u32,
-}
-
-/// A sample, decoded (`struct dewikura_sample`). A field that it doesn't have is 0: `fields` says what it has.
-#[repr(C)]
-#[derive(Clone, Copy, Debug, Default, PartialEq, Eq)]
-pub struct Sample {
-    pub offset: u64,
-    pub timestamp: u64,
-    pub ip: u64,
-    pub address: u64,
-    pub id: u64,
-    pub period: u64,
-    frames_start: u64,
-    frames_count: u32,
-    pub attr_index: u32,
-    pub fields: u32,
-    pub cpu: u32,
-    pub pid: i32,
-    pub tid: i32,
-    pub misc: u16,
-    pub error: u8,
-    reserved: [u8; 5],
-}
-
-/// A frame of a call chain (`struct dewikura_frame`).
-#[repr(C)]
-#[derive(Clone, Copy, Debug, Default, PartialEq, Eq)]
-pub struct Frame {
-    pub address: u64,
-    pub context: u32,
-    reserved: u32,
 }
 
 /// Samples, and the frames of their call chains.
@@ -110,22 +49,6 @@ impl Samples {
     }
 }
 
-/// A record on a task, decoded (`struct dewikura_task`): its name, its start or its end.
-#[repr(C)]
-#[derive(Clone, Copy, Debug, Default, PartialEq, Eq)]
-pub struct Task {
-    pub offset: u64,
-    pub timestamp: u64,
-    name_offset: u64,
-    name_size: u64,
-    pub record_type: u32,
-    is_execve: u32,
-    pub pid: i32,
-    pub tid: i32,
-    pub ppid: i32,
-    pub ptid: i32,
-}
-
 impl Task {
     /// Whether the task has this name because it executed another program.
     pub fn is_execve(&self) -> bool {
@@ -136,33 +59,6 @@ impl Task {
     pub fn name<'a>(&self, input: &'a [u8]) -> &'a [u8] {
         &input[self.name_offset as usize..][..self.name_size as usize]
     }
-}
-
-/// A mapping, decoded (`struct dewikura_mapping`). What it doesn't have is 0.
-#[repr(C)]
-#[derive(Clone, Copy, Debug, Default, PartialEq, Eq)]
-pub struct Mapping {
-    pub offset: u64,
-    pub timestamp: u64,
-    pub address: u64,
-    pub length: u64,
-    pub page_offset: u64,
-    pub inode: u64,
-    pub inode_generation: u64,
-    path_offset: u64,
-    path_size: u64,
-    pub record_type: u32,
-    pub major: u32,
-    pub minor: u32,
-    pub protection: u32,
-    pub flags: u32,
-    pub pid: i32,
-    pub tid: i32,
-    build_id: [u8; 20],
-    build_id_size: u8,
-    is_data: u8,
-    pub misc: u16,
-    reserved: u32,
 }
 
 impl Mapping {
@@ -182,44 +78,6 @@ impl Mapping {
     }
 }
 
-/// The value of a counter in a sample or in a READ record (`struct dewikura_counter`). What it doesn't have is 0.
-#[repr(C)]
-#[derive(Clone, Copy, Debug, Default, PartialEq, Eq)]
-pub struct Counter {
-    pub value: u64,
-    pub id: u64,
-    pub time_enabled: u64,
-    pub time_running: u64,
-    pub lost: u64,
-    /// The offset of the record.
-    pub offset: u64,
-}
-
-const _: () = assert!(size_of::<Record>() == 56 && size_of::<JitRecord>() == 24 && size_of::<Sample>() == 88 && size_of::<Frame>() == 16);
-const _: () = assert!(size_of::<Task>() == 56 && size_of::<Mapping>() == 128 && size_of::<Counter>() == 48);
-
-/// The status DEWIKURA_NO_SPACE.
-const NO_SPACE: u32 = 25;
-
-extern "C" {
-    fn dewikura_status_text_raw(status: u32, buffer: *mut u8, capacity: usize) -> usize;
-    fn dewikura_read_file_records_raw(data: *const u8, size: usize, cursor: *mut Cursor, records: *mut Record, capacity: usize, count: *mut u64) -> u32;
-    fn dewikura_read_pipe_records_raw(data: *const u8, size: usize, start: u64, records: *mut Record, capacity: usize, total: *mut u64) -> u32;
-    fn dewikura_read_file_samples_raw(
-        data: *const u8, size: usize, cursor: *mut Cursor, samples: *mut Sample, capacity: usize, count: *mut u64, frames: *mut Frame, frames_capacity: usize, frames_count: *mut u64,
-    ) -> u32;
-    fn dewikura_read_pipe_samples_raw(
-        data: *const u8, size: usize, samples: *mut Sample, capacity: usize, total: *mut u64, frames: *mut Frame, frames_capacity: usize, frames_total: *mut u64,
-    ) -> u32;
-    fn dewikura_read_file_tasks_raw(data: *const u8, size: usize, cursor: *mut Cursor, tasks: *mut Task, capacity: usize, count: *mut u64) -> u32;
-    fn dewikura_read_pipe_tasks_raw(data: *const u8, size: usize, tasks: *mut Task, capacity: usize, total: *mut u64) -> u32;
-    fn dewikura_read_file_mappings_raw(data: *const u8, size: usize, cursor: *mut Cursor, mappings: *mut Mapping, capacity: usize, count: *mut u64) -> u32;
-    fn dewikura_read_pipe_mappings_raw(data: *const u8, size: usize, mappings: *mut Mapping, capacity: usize, total: *mut u64) -> u32;
-    fn dewikura_read_file_counters_raw(data: *const u8, size: usize, cursor: *mut Cursor, counters: *mut Counter, capacity: usize, count: *mut u64) -> u32;
-    fn dewikura_read_pipe_counters_raw(data: *const u8, size: usize, counters: *mut Counter, capacity: usize, total: *mut u64) -> u32;
-    fn dewikura_read_jit_records_raw(data: *const u8, size: usize, start_offset: u64, records: *mut JitRecord, capacity: usize, count: *mut u64, next_offset: *mut u64) -> u32;
-}
-
 /// A status other than `DEWIKURA_OK`: the first error of the input.
 #[derive(Clone, Copy, Debug, PartialEq, Eq)]
 pub struct Error(pub u32);
@@ -236,7 +94,7 @@ impl fmt::Display for Error {
 impl std::error::Error for Error {}
 
 fn result_of(status: u32) -> Result<(), Error> {
-    if status == 0 {
+    if status == DEWIKURA_OK {
         Ok(())
     } else {
         Err(Error(status))
@@ -294,7 +152,7 @@ pub fn file_samples(input: &[u8]) -> (Samples, Result<(), Error>) {
                 input.as_ptr(), input.len(), &mut cursor, page.as_mut_ptr(), page.len(), &mut count, frames.as_mut_ptr(), frames.len(), &mut frames_count,
             )
         };
-        if status == NO_SPACE {
+        if status == DEWIKURA_NO_SPACE {
             frames.resize(frames_count as usize, Frame::default());
             continue;
         }
@@ -384,7 +242,7 @@ pub fn file_counters(input: &[u8]) -> (Vec<Counter>, Result<(), Error>) {
         let mut count = 0;
         // SAFETY: the pointers are those of slices, with their lengths; the array is initialized.
         let status = unsafe { dewikura_read_file_counters_raw(input.as_ptr(), input.len(), &mut cursor, page.as_mut_ptr(), page.len(), &mut count) };
-        if status == NO_SPACE {
+        if status == DEWIKURA_NO_SPACE {
             page.resize(count as usize, Counter::default());
             continue;
         }

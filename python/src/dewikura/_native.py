@@ -3,12 +3,11 @@
 import ctypes
 import os
 import pathlib
-from ctypes import POINTER, c_uint8 as u8, c_uint32 as u32, c_uint64 as u64
+from ctypes import POINTER
 
 from . import _structs
+from ._declarations import declare
 from .constants import VERSION
-
-size = ctypes.c_size_t
 
 
 def _load() -> ctypes.CDLL:
@@ -20,63 +19,45 @@ def _load() -> ctypes.CDLL:
 
 
 _library = _load()
+declare(_library)
 
 
-def _declare(name, *kinds, result=u32):
-    function = getattr(_library, f"dewikura_{name}")
-    function.restype = result
-    function.argtypes = list(kinds)
-    return function
+def _of_kinds(name: str) -> dict:
+    """The exports for a file and for a pipe."""
+    return {kind: getattr(_library, f"dewikura_read_{kind}_{name}_raw") for kind in ("file", "pipe")}
 
 
-_version = _declare("version")
-_status_text = _declare("status_text_raw", u32, ctypes.c_char_p, size, result=size)
+# The structs of entries, with the names of the exports that read them: of a file from a cursor on, and of a whole pipe.
+_ENTRIES = {kind: _of_kinds(name) for kind, name in ((_structs.Task, "tasks"), (_structs.Mapping, "mappings"), (_structs.Counter, "counters"))}
 
-
-def _declare_read(name, *kinds):
-    """A call on an input, which is passed as an address and a size."""
-    return _declare(name, ctypes.c_void_p, size, *kinds)
-
-
-def _declare_reads(name, *kinds):
-    """The calls on a file and on a pipe."""
-    return {kind: _declare_read(f"read_{kind}_{name}_raw", *kinds) for kind in ("file", "pipe")}
-
-
-input_kind = _declare_read("input_kind_raw")
-is_big_endian = _declare_read("is_big_endian_raw")
-read_file_records = _declare_read("read_file_records_raw", POINTER(_structs.Cursor), POINTER(_structs.Record), size, POINTER(u64))
-read_pipe_records = _declare_read("read_pipe_records_raw", u64, POINTER(_structs.Record), size, POINTER(u64))
-read_file_samples = _declare_read("read_file_samples_raw", POINTER(_structs.Cursor), POINTER(_structs.Sample), size, POINTER(u64),
-                                  POINTER(_structs.Frame), size, POINTER(u64))
-read_pipe_samples = _declare_read("read_pipe_samples_raw", POINTER(_structs.Sample), size, POINTER(u64), POINTER(_structs.Frame), size, POINTER(u64))
-# The calls that read the entries of a struct: of a file from a cursor on, and of a whole pipe.
-_ENTRIES = ((_structs.Task, "tasks"), (_structs.Mapping, "mappings"), (_structs.Counter, "counters"))
-read_file_entries = {kind: _declare_read(f"read_file_{name}_raw", POINTER(_structs.Cursor), POINTER(kind), size, POINTER(u64))
-                     for kind, name in _ENTRIES}
-read_pipe_entries = {kind: _declare_read(f"read_pipe_{name}_raw", POINTER(kind), size, POINTER(u64))
-                     for kind, name in _ENTRIES}
-read_sample_details = _declare_read("read_sample_details_raw", u32, POINTER(_structs.Attr), POINTER(_structs.SampleDetails))
-sort_records = _declare("sort_records_raw", POINTER(_structs.Record), size)
-read_attrs = _declare_reads("attrs", POINTER(_structs.Attr), size, POINTER(u8), size, POINTER(u64), size, POINTER(_structs.AttrTotals))
-read_feature_set = _declare_reads("feature_set", POINTER(_structs.FeatureSet))
-read_feature = _declare_reads("feature", u32, POINTER(u8), size, POINTER(u8), POINTER(u64))
-read_build_id = _declare_read("read_build_id_raw", u32, u64, POINTER(_structs.BuildIdEntry))
-read_string = _declare_read("read_string_raw", u32, u64, POINTER(_structs.StringStruct))
-read_meta_info = _declare_read("read_meta_info_raw", POINTER(_structs.MetaPairStruct), size, POINTER(u64))
-read_symbol_tables = _declare_read("read_symbol_tables_raw", u32, u32, POINTER(_structs.SymbolFileStruct), size, POINTER(_structs.SymbolStruct),
-                                   size, POINTER(u8), size, POINTER(u64), size, POINTER(_structs.SymbolTotals))
-read_jit_header = _declare_read("read_jit_header_raw", POINTER(_structs.JitHeaderStruct))
-read_jit_records = _declare_read("read_jit_records_raw", u64, POINTER(_structs.JitRecord), size, POINTER(u64), POINTER(u64))
-read_jit_load = _declare_read("read_jit_load_raw", u64, POINTER(_structs.JitLoadStruct))
-read_jit_move = _declare_read("read_jit_move_raw", u64, POINTER(_structs.JitMoveStruct))
-read_jit_unwinding = _declare_read("read_jit_unwinding_raw", u64, POINTER(_structs.JitUnwindingStruct))
-read_jit_debug_info = _declare_read("read_jit_debug_info_raw", u64, POINTER(u64), POINTER(_structs.JitDebugEntryStruct), size, POINTER(u64))
+input_kind = _library.dewikura_input_kind_raw
+is_big_endian = _library.dewikura_is_big_endian_raw
+read_file_records = _library.dewikura_read_file_records_raw
+read_pipe_records = _library.dewikura_read_pipe_records_raw
+read_file_samples = _library.dewikura_read_file_samples_raw
+read_pipe_samples = _library.dewikura_read_pipe_samples_raw
+read_file_entries = {kind: exports["file"] for kind, exports in _ENTRIES.items()}
+read_pipe_entries = {kind: exports["pipe"] for kind, exports in _ENTRIES.items()}
+read_sample_details = _library.dewikura_read_sample_details_raw
+sort_records = _library.dewikura_sort_records_raw
+read_attrs = _of_kinds("attrs")
+read_feature_set = _of_kinds("feature_set")
+read_feature = _of_kinds("feature")
+read_build_id = _library.dewikura_read_build_id_raw
+read_string = _library.dewikura_read_string_raw
+read_meta_info = _library.dewikura_read_meta_info_raw
+read_symbol_tables = _library.dewikura_read_symbol_tables_raw
+read_jit_header = _library.dewikura_read_jit_header_raw
+read_jit_records = _library.dewikura_read_jit_records_raw
+read_jit_load = _library.dewikura_read_jit_load_raw
+read_jit_move = _library.dewikura_read_jit_move_raw
+read_jit_unwinding = _library.dewikura_read_jit_unwinding_raw
+read_jit_debug_info = _library.dewikura_read_jit_debug_info_raw
 
 
 def library_version() -> "tuple[int, int, int]":
     """Returns the version of the loaded library."""
-    number = _version()
+    number = _library.dewikura_version()
     return number // 10000, number // 100 % 100, number % 100
 
 
@@ -87,7 +68,7 @@ if library_version()[:2] != VERSION[:2]:
 def status_text(status: int) -> str:
     """Returns the text of a status."""
     buffer = ctypes.create_string_buffer(128)
-    _status_text(status, buffer, len(buffer))
+    _library.dewikura_status_text_raw(status, buffer, len(buffer))
     return buffer.value.decode("utf-8")
 
 

@@ -131,7 +131,7 @@ class JitDump(ContextManager["JitDump"]):
     @property
     def header(self) -> JitHeader:
         """The header."""
-        found = _structs.JitHeaderStruct()
+        found = _structs.JitHeader()
         with _native.Input(self._data) as (address, size):
             check(_native.read_jit_header(address, size, found))
         return JitHeader(found.timestamp, found.flags, found.version, found.size, found.elf_machine, found.pid,
@@ -156,7 +156,7 @@ class JitDump(ContextManager["JitDump"]):
 
     def load(self, record: Union[JitRecord, int]) -> JitLoad:
         """Returns a load record, which is given as a record or by its offset."""
-        data, found = self._data, _structs.JitLoadStruct()
+        data, found = self._data, _structs.JitLoad()
         with _native.Input(data) as (address, size):
             check(_native.read_jit_load(address, size, _offset_of(record), found))
         name = bytes(data[found.name_offset:found.name_offset + found.name_size])
@@ -165,14 +165,14 @@ class JitDump(ContextManager["JitDump"]):
 
     def move(self, record: Union[JitRecord, int]) -> JitMove:
         """Returns a move record, which is given as a record or by its offset."""
-        found = _structs.JitMoveStruct()
+        found = _structs.JitMove()
         with _native.Input(self._data) as (address, size):
             check(_native.read_jit_move(address, size, _offset_of(record), found))
         return JitMove(*(getattr(found, name) for name in JitMove._fields))
 
     def unwinding(self, record: Union[JitRecord, int]) -> JitUnwinding:
         """Returns an unwinding info record, which is given as a record or by its offset."""
-        data, found = self._data, _structs.JitUnwindingStruct()
+        data, found = self._data, _structs.JitUnwinding()
         with _native.Input(data) as (address, size):
             check(_native.read_jit_unwinding(address, size, _offset_of(record), found))
         eh_frame_hdr = data[found.eh_frame_hdr_offset:found.eh_frame_hdr_offset + found.eh_frame_hdr_size]
@@ -184,7 +184,7 @@ class JitDump(ContextManager["JitDump"]):
         data, code_address, count, capacity = self._data, u64(), u64(), 0
         with _native.Input(data) as (address, size):
             while True:
-                entries = (_structs.JitDebugEntryStruct * max(capacity, 1))()
+                entries = (_structs.JitDebugEntry * max(capacity, 1))()
                 check(_native.read_jit_debug_info(address, size, _offset_of(record), code_address, entries, capacity, count))
                 if count.value <= capacity:
                     break

@@ -235,7 +235,7 @@ class SymbolFile(NamedTuple):
     dex_offsets: Tuple[int, ...]
 
 
-def _symbol_file(file: _structs.SymbolFileStruct, symbols, names: bytes, offsets) -> SymbolFile:
+def _symbol_file(file: _structs.SymbolFile, symbols, names: bytes, offsets) -> SymbolFile:
     def text(offset: int, size: int) -> str:
         return names[offset:offset + size].decode("utf-8")
 
@@ -469,7 +469,7 @@ class Recording(ContextManager["Recording"]):
     def strings(self, feature: int, start: int = 0) -> Iterator[str]:
         """Iterates over the strings of a feature section, from an offset on; none if the recording doesn't have the section."""
         section = self.features.get(feature, memoryview(b""))
-        is_big_endian, found = self.byteorder == "big", _structs.StringStruct(next_offset=start)
+        is_big_endian, found = self.byteorder == "big", _structs.StringEntry(next_offset=start)
         while found.next_offset < len(section):
             with _native.Input(section) as (address, size):
                 check(_native.read_string(address, size, is_big_endian, found.next_offset, found))
@@ -671,7 +671,7 @@ class Recording(ContextManager["Recording"]):
     def _read_build_ids(self, data: memoryview) -> Tuple[BuildId, ...]:
         if Feature.BUILD_ID not in self.features:
             return ()
-        section, entry, found = self.features[Feature.BUILD_ID], _structs.BuildIdEntry(), []
+        section, entry, found = self.features[Feature.BUILD_ID], _structs.BuildId(), []
         is_big_endian = self.byteorder == "big"
         with _native.Input(section) as (address, size):
             while (status := _native.read_build_id(address, size, is_big_endian, entry.next_offset, entry)) == Status.OK:
@@ -686,7 +686,7 @@ class Recording(ContextManager["Recording"]):
         section, count, capacity = self.features.get(Feature.SIMPLEPERF_META_INFO, memoryview(b"")), u64(), 0
         with _native.Input(section) as (address, size):
             while True:
-                pairs = (_structs.MetaPairStruct * max(capacity, 1))()
+                pairs = (_structs.MetaPair * max(capacity, 1))()
                 check(_native.read_meta_info(address, size, pairs, capacity, count))
                 if count.value <= capacity:
                     break
@@ -706,7 +706,7 @@ class Recording(ContextManager["Recording"]):
         with _native.Input(section) as (address, size):
             while True:
                 files, symbols, names, offsets = ((kind * max(count, 1))() for kind, count in zip(
-                    (_structs.SymbolFileStruct, _structs.SymbolStruct, u8, u64), capacities))
+                    (_structs.SymbolFile, _structs.Symbol, u8, u64), capacities))
                 check(_native.read_symbol_tables(address, size, feature, is_big_endian, files, capacities[0], symbols, capacities[1],
                                                  names, capacities[2], offsets, capacities[3], totals))
                 found = totals.file_count, totals.symbol_count, totals.names_size, totals.dex_offset_count
