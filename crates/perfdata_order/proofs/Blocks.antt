@@ -358,14 +358,16 @@ pub not_last : (b b' : Block) → b.held ≢ 1 → b'.held ≡ b.held - 1 → va
 not_last b b' more less = vacancy_left b.held b'.held (same_or_other b.held 0) more less
 
 pub cleared_held : (b b' : Block) (r : Bool) → IsCleared b r b' → b.held ≡ 0 → b'.held ≡ 0
-cleared_held b b' true cleared none = cleared.1
+cleared_held b b' true cleared none = cleared.none_after
 cleared_held b b' false cleared none = let some = cleared.1 in absurd (omega (arith, some, none))
 
 -- ---- the calls of all bodies
 
 pub current_reused : (old new : Bodies) (r : Bool) (b b' : Block) → old.current < length old.blocks.items → b ≡ get_or old.blocks.items old.current b → new.blocks.items ≡ set old.blocks.items old.current b' → new.current ≡ old.current
     → IsCleared b r b' → ReusesCurrent old r new
-current_reused old new true b b' below is now at (none, none') =
+current_reused old new true b b' below is now at cleared =
+    let none = cleared.none in
+    let none' = cleared.none_after in
     let bs = old.blocks.items in
     let bs' = new.blocks.items in
     let count = same_count bs bs' old.current b b' below is now in

@@ -1,5 +1,5 @@
 -- A block of bodies, and which blocks are spare.
-use Rattle.std.specs.Prelude.{◌≡◌, ◌≢◌, ℕ, ◌+◌, ◌-◌, ◌^◌, ◌<◌, ◌≤◌, ◌==◌, ◌⊎◌, Bool, true, false, List, [], ◌++◌, length, map, Result, Ok, Err, slice_index_or, if◌then◌else◌}
+use Rattle.std.specs.Prelude.{◌≡◌, ◌≢◌, ℕ, ◌+◌, ◌-◌, ◌^◌, ◌<◌, ◌≤◌, ◌==◌, ◌⊎◌, Bool, true, false, List, [], ◌++◌, length, map, Result, Ok, Err, min, slice_index_or, vec_capacity, if◌then◌else◌}
 use Rattle.std.specs.List.{sum_by}
 use Rattle.std.specs.declared.alloc.AllocError.{AllocError}
 use Rattle.perfdata_order.specs.declared.bodies.Block.{Block}
@@ -45,9 +45,16 @@ abbrev pub AppendsTo : Block → List ℕ → Result (ℕ × Snapshot (Vec ℕ G
 AppendsTo old body (Ok found) new = Appended old body found.0 found.1 new
 AppendsTo old body (Err e) new = (new.bytes.items ≡ old.bytes.items) × (new.held ≡ old.held)
 
--- The bytes of a block without held bodies make no difference.
+-- A block without held bodies is emptied. Its capacity doesn't grow, and stays that of a block if it was that at least.
+pub record Cleared (old new : Block) : Type 0 where
+  pub none : old.held ≡ 0
+  pub none_after : new.held ≡ 0
+  pub bytes : new.bytes.items ≡ []
+  pub no_more : vec_capacity new.bytes ≤ vec_capacity old.bytes
+  pub enough : min 4096 (vec_capacity old.bytes) ≤ vec_capacity new.bytes
+
 abbrev pub IsCleared : Block → Bool → Block → Type 0
-IsCleared old true new = (old.held ≡ 0) × (new.held ≡ 0)
+IsCleared old true new = Cleared old new
 IsCleared old false new = (new ≡ old) × (0 < old.held)
 
 abbrev pub WasLast : Block → Bool → Type 0

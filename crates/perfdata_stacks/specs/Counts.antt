@@ -1,5 +1,5 @@
 -- The sum of the weights of each line.
-use Rattle.std.specs.Prelude.{◌≡◌, ℕ, ◌+◌, ◌≤◌, ◌^◌, Bool, false, List, [], ◌∷◌, Option, None, Some, Result, Ok, Err, Vec, filter, map, slice_get}
+use Rattle.std.specs.Prelude.{◌≡◌, ◌⊎◌, ℕ, ◌+◌, ◌<◌, ◌≤◌, ◌^◌, Bool, false, List, [], ◌∷◌, Option, None, Some, Result, Ok, Err, Vec, filter, length, map, slice_get}
 use Rattle.std.specs.declared.alloc.Global.{Global}
 use Rattle.std.specs.List.{sum_by}
 use Rattle.std.specs.Option.{unwrap_or}
@@ -42,14 +42,14 @@ pub record CountsLine (old : StackCounts) (line : List ℕ) (weight : ℕ) (new 
   pub others : (other : List ℕ) → is_line line other ≡ false → count_of new other ≡ count_of old other
   pub sum : sum_of_counts new ≡ sum_of_counts old + weight
 
--- Why a weight isn't added.
-abbrev pub IsCause : StackCounts → ℕ → CountError → Type 0
-IsCause old weight Overflow = 2 ^ 64 ≤ sum_of_counts old + weight
-IsCause old weight Memory = Unit {0}
+-- Why a weight isn't added. No memory is needed for an empty line that is counted already.
+abbrev pub IsCause : StackCounts → List ℕ → ℕ → CountError → Type 0
+IsCause old line weight Overflow = 2 ^ 64 ≤ sum_of_counts old + weight
+IsCause old line weight Memory = (0 < length line) ⊎ (count_of old line ≡ None)
 
 abbrev pub AddsToLine : StackCounts → List ℕ → ℕ → Result (Unit {0}) CountError → StackCounts → Type 0
 AddsToLine old line weight (Ok done) new = CountsLine old line weight new
-AddsToLine old line weight (Err error) new = (counted_lines new ≡ counted_lines old) × IsCause old weight error
+AddsToLine old line weight (Err error) new = (counted_lines new ≡ counted_lines old) × IsCause old line weight error
 
 -- A line with its weight, as it was added.
 pub record Added : Type 0 where

@@ -1,4 +1,5 @@
 pub mod CutLemmas
+pub mod EntryLemmas
 pub mod KernelLineLemmas
 pub mod KernelSizeLemmas
 pub mod LayerLemmas
@@ -7,5 +8,6 @@ pub mod LookupLemmas
 pub mod MapLineLemmas
 pub mod NameLemmas
 pub mod OverlayLemmas
+pub mod PltLemmas
 pub mod SymbolLemmas
 pub mod TextLemmas

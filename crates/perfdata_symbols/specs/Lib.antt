@@ -1,8 +1,11 @@
 pub mod Cuts
+pub mod Elf
 pub mod Kernel
 pub mod Layer
 pub mod Lines
 pub mod Overlay
+pub mod Plt
+pub mod PltRelocations
 pub mod Symbols
 pub mod SymbolTable
 pub mod Text

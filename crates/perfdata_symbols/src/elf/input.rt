@@ -1,5 +1,6 @@
 //! Tables of an ELF file, and the numbers in their entries.
-ghost use Rattle.std.specs.Prelude.{◌≤◌};
+ghost use Rattle.std.specs.Prelude.{◌≡◌, ◌≤◌, slice_index};
+ghost use Rattle.perfdata_symbols.specs.Elf.{by_class, number_at, word_at};
 
 use crate::error::{ElfError, ElfTable};
 use perfdata_base::endian;
@@ -25,6 +26,7 @@ pub(crate) struct Entry<'a> {
 impl Encoding {
     // The first value in a 32-bit file, the second in a 64-bit file.
     pub(crate) fn select(self, value_32: usize, value_64: usize) -> usize
+        ensures class { result ≡ by_class self value_32 value_64 }
         ensures least { value_32 ≤ value_64 → value_32 ≤ result }
     {
         if self.is_64_bit { value_64 } else { value_32 }
@@ -32,7 +34,9 @@ impl Encoding {
 }
 
 impl Entry<'_> {
-    pub(crate) fn u8_at(&self, at: usize) -> u8 {
+    pub(crate) fn u8_at(&self, at: usize) -> u8
+        ensures { result ≡ slice_index self.now.bytes.now at }
+    {
         if at < self.bytes.len() {
             self.bytes[at]
         } else {
@@ -40,7 +44,9 @@ impl Entry<'_> {
         }
     }
 
-    pub(crate) fn u16_at(&self, at: usize) -> u16 {
+    pub(crate) fn u16_at(&self, at: usize) -> u16
+        ensures { result ≡ number_at self.now.encoding self.now.bytes.now at 2 }
+    {
         if at <= self.bytes.len() && 2 <= self.bytes.len() - at {
             endian::read_u16(self.encoding.endian, &self.bytes[at..])
         } else {
@@ -48,7 +54,9 @@ impl Entry<'_> {
         }
     }
 
-    pub(crate) fn u32_at(&self, at: usize) -> u32 {
+    pub(crate) fn u32_at(&self, at: usize) -> u32
+        ensures { result ≡ number_at self.now.encoding self.now.bytes.now at 4 }
+    {
         if at <= self.bytes.len() && 4 <= self.bytes.len() - at {
             endian::read_u32(self.encoding.endian, &self.bytes[at..])
         } else {
@@ -56,7 +64,9 @@ impl Entry<'_> {
         }
     }
 
-    pub(crate) fn u64_at(&self, at: usize) -> u64 {
+    pub(crate) fn u64_at(&self, at: usize) -> u64
+        ensures { result ≡ number_at self.now.encoding self.now.bytes.now at 8 }
+    {
         if at <= self.bytes.len() && 8 <= self.bytes.len() - at {
             endian::read_u64(self.encoding.endian, &self.bytes[at..])
         } else {
@@ -65,12 +75,17 @@ impl Entry<'_> {
     }
 
     // A number of four bytes, at an offset that depends on the class.
-    pub(crate) fn half(&self, at_32: usize, at_64: usize) -> u32 {
+    pub(crate) fn half(&self, at_32: usize, at_64: usize) -> u32
+        ensures { result
+            ≡ number_at self.now.encoding self.now.bytes.now (by_class self.now.encoding at_32 at_64) 4 }
+    {
         self.u32_at(self.encoding.select(at_32, at_64))
     }
 
     // A number of four bytes in a 32-bit file, and of eight bytes in a 64-bit file.
-    pub(crate) fn word(&self, at_32: usize, at_64: usize) -> u64 {
+    pub(crate) fn word(&self, at_32: usize, at_64: usize) -> u64
+        ensures { result ≡ word_at self.now.encoding self.now.bytes.now at_32 at_64 }
+    {
         if self.encoding.is_64_bit {
             self.u64_at(at_64)
         } else {

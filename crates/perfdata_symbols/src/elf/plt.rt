@@ -1,6 +1,10 @@
 //! The entries of the procedure linkage table.
 
-ghost use Rattle.std.specs.Prelude.{◌<◌};
+ghost use Rattle.std.specs.Prelude.{◌≡◌, ◌⊎◌, ◌+◌, ◌*◌, ◌%◌, ◌^◌, ◌<◌, ◌++◌, ◌∷◌, [], ℕ, List};
+ghost use Rattle.std.specs.Prelude.{All, IfOk, IfSome, OnErr, OnOk, filter};
+ghost use Rattle.perfdata_symbols.specs.Plt.{AddsInOrder, AddsPlt, IsInPointerOrder, IsMade};
+ghost use Rattle.perfdata_symbols.specs.Plt.{IsOfFile, IsRelocation, has_entry};
+ghost use Rattle.perfdata_symbols.specs.declared.ranked.RankedSymbol.{RankedSymbol};
 
 use crate::elf::header::Section;
 use crate::elf::input::{Encoding, Entry};
@@ -157,7 +161,9 @@ fn kind_of(machine: u16, relocation_type: u64) -> RelocationKind {
 }
 
 // The relocation in these bytes.
-fn relocation_of(machine: u16, entry: Entry<'_>) -> Relocation {
+fn relocation_of(machine: u16, entry: Entry<'_>) -> Relocation
+    ensures { IsRelocation entry.entry.encoding entry.entry.bytes.now result }
+{
     let info = entry.word(4, 8);
     let (symbol, relocation_type) = if entry.encoding.is_64_bit {
         (info >> 32, info % (1 << 32))
@@ -185,7 +191,9 @@ impl PltLayout {
     }
 
     // The offset of an entry in the section, modulo 2^64.
-    fn offset_of(&self, index: u64) -> u64 {
+    fn offset_of(&self, index: u64) -> u64
+        ensures { result ≡ ((index * self.now.entry_size) % 2 ^ 64 + self.now.header_size) % 2 ^ 64 }
+    {
         index
             .wrapping_mul(self.entry_size)
             .wrapping_add(self.header_size)
@@ -224,11 +232,16 @@ impl<'a> PltContext<'a> {
     // The relocations, in their order in the file.
     fn all_relocations(&self, alloc: Global) -> Result<Vec<Relocation>, AllocError>
         requires { 0 < self.now.relocation_size }
+        ensures { IfOk result (λ relocations. All (IsOfFile self.now) relocations.items) }
     {
         let encoding = self.encoding;
+        let size = self.relocation_size as usize;
         let mut relocations = Vec::new(alloc);
-        'relocations: for bytes in self.relocations.chunks_exact(self.relocation_size as usize) {
+        let mut at = 0;
+        'relocations: while size <= self.relocations.len() - at {
+            let bytes = &self.relocations[at..at + size];
             relocations.push(relocation_of(self.machine, Entry { encoding, bytes }))?;
+            at += size;
         }
         Ok(relocations)
     }
@@ -258,13 +271,16 @@ pub(crate) struct PltRelocations {
     of_functions: Vec<Relocation>,
     // Whether code for TLS descriptors may follow the entries.
     has_descriptors: bool,
+    ghost all_in_order: { IsInPointerOrder all.items },
+    ghost functions_in_order: { IsInPointerOrder of_functions.items },
 }
 
 impl PltRelocations {
-    pub(crate) fn read(
-        alloc: Global,
-        context: &PltContext<'_>,
-    ) -> Result<PltRelocations, ElfError> {
+    ghost use Rattle.perfdata_symbols.specs.PltRelocations.{AreOfFile};
+
+    pub(crate) fn read(alloc: Global, context: &PltContext<'_>) -> Result<PltRelocations, ElfError>
+        ensures { IfOk result (λ p. AreOfFile context.now p) }
+    {
         let encoding = context.encoding;
         if context.relocation_size < encoding.select(8, 16) as u64 {
             return Err(ElfError::EntrySize(ElfTable::Relocations, context.relocation_size));
@@ -285,7 +301,9 @@ impl PltRelocations {
     }
 
     // The relocations of the entries of `.plt`, and its layout. `None` if it isn't what linkers write.
-    fn plt_entries(&self, section: &Section) -> Option<(&[Relocation], PltLayout)> {
+    fn plt_entries(&self, section: &Section) -> Option<(&[Relocation], PltLayout)>
+        ensures { IfSome result (λ entries. IsInPointerOrder entries.0.now) }
+    {
         let max_rest = if self.has_descriptors {
             MAX_DESCRIPTOR_CODE_SIZE
         } else {
@@ -303,7 +321,9 @@ impl PltRelocations {
     }
 
     // The relocations of the entries of `.plt.sec`, which has no header, and its layout.
-    fn second_entries(&self, section: &Section) -> Option<(&[Relocation], PltLayout)> {
+    fn second_entries(&self, section: &Section) -> Option<(&[Relocation], PltLayout)>
+        ensures { IfSome result (λ entries. IsInPointerOrder entries.0.now) }
+    {
         let layout = PltLayout {
             header_size: 0,
             entry_size: USUAL_ENTRY_SIZE,
@@ -323,7 +343,9 @@ impl PltRelocations {
         context: &PltContext<'_>,
         section: &Section,
         symbols: &mut RankedSymbols,
-    ) -> Result<(), AllocError> {
+    ) -> Result<(), AllocError>
+        ensures { (symbols.new ≡ symbols.old) ⊎ AddsInOrder section.now symbols.old symbols.new }
+    {
         match self.plt_entries(section) {
             Some((relocations, layout)) => {
                 add_entries(context, section, layout, relocations, symbols)
@@ -338,7 +360,9 @@ impl PltRelocations {
         context: &PltContext<'_>,
         section: &Section,
         symbols: &mut RankedSymbols,
-    ) -> Result<(), AllocError> {
+    ) -> Result<(), AllocError>
+        ensures { (symbols.new ≡ symbols.old) ⊎ AddsInOrder section.now symbols.old symbols.new }
+    {
         match self.second_entries(section) {
             Some((relocations, layout)) => {
                 add_entries(context, section, layout, relocations, symbols)
@@ -348,18 +372,30 @@ impl PltRelocations {
     }
 }
 
+// Whether a relocation of this kind has an entry, if those of functions that the program chooses have one.
+fn kind_has_entry(are_all: bool, kind: RelocationKind) -> bool
+    ensures { result ≡ has_entry are_all kind }
+{
+    match kind {
+        RelocationKind::Function => true,
+        RelocationKind::Indirect => are_all,
+        RelocationKind::Descriptor => false,
+        RelocationKind::Other => false,
+    }
+}
+
 // The relocations of functions, and those of functions that the program chooses if `are_all`.
 fn with_kinds(
     alloc: Global,
     relocations: &[Relocation],
     are_all: bool,
-) -> Result<Vec<Relocation>, AllocError> {
+) -> Result<Vec<Relocation>, AllocError>
+    ensures { IfOk result (λ found. found.items ≡ filter (λ r. has_entry are_all r.kind) relocations.now) }
+{
     let mut found = Vec::new(alloc);
     'relocations: for relocation in relocations.iter() {
-        match relocation.kind {
-            RelocationKind::Function => found.push(*relocation)?,
-            RelocationKind::Indirect if are_all => found.push(*relocation)?,
-            _ => {}
+        if kind_has_entry(are_all, relocation.kind) {
+            found.push(*relocation)?;
         }
     }
     Ok(found)
@@ -371,7 +407,12 @@ fn add_entry(
     start: u64,
     size: u64,
     name: &[u8],
-) -> Result<(), AllocError> {
+) -> Result<(), AllocError>
+    ensures names { (more : List ℕ) × (symbols.new.names.items ≡ symbols.old.names.items ++ more) }
+    ensures ok { OnOk result ((r : RankedSymbol)
+        × (symbols.new.symbols.items ≡ symbols.old.symbols.items ++ r ∷ []) × IsMade start size r) }
+    ensures err { OnErr result (symbols.new.symbols.items ≡ symbols.old.symbols.items) }
+{
     let name_start = symbols.names.len();
     symbols.names.extend_from_slice(name)?;
     symbols.names.extend_from_slice(&SUFFIX)?;
@@ -398,7 +439,9 @@ fn add_entries(
     layout: PltLayout,
     relocations: &[Relocation],
     symbols: &mut RankedSymbols,
-) -> Result<(), AllocError> {
+) -> Result<(), AllocError>
+    ensures { AddsPlt section.now layout relocations.now symbols.old symbols.new }
+{
     let limit = symbols
         .names
         .len()

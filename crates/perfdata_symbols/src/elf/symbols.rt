@@ -1,6 +1,10 @@
 //! The entries of symbol tables.
 
-ghost use Rattle.std.specs.Prelude.{◌<◌};
+ghost use Rattle.std.specs.Option.{option_map};
+ghost use Rattle.std.specs.Prelude.{◌≡◌, ◌<◌, IfSome, slice_get};
+ghost use Rattle.perfdata_symbols.specs.Elf.{AddsEntries, IsOffsetOfAddress, IsRanked, IsSymbolOffset};
+ghost use Rattle.perfdata_symbols.specs.Elf.{elf_symbol_in, section_index_of, section_offset};
+ghost use Rattle.perfdata_symbols.specs.Elf.{symbol_address};
 
 use crate::elf::header::{FileHeader, RELOCATABLE, Section, Segment};
 use crate::elf::input::{Encoding, Entry};
@@ -73,7 +77,9 @@ pub(crate) fn min_symbol_size(encoding: Encoding) -> usize
     encoding.select(16, 24)
 }
 
-pub(crate) fn symbol_of(entry: Entry<'_>) -> ElfSymbol {
+pub(crate) fn symbol_of(entry: Entry<'_>) -> ElfSymbol
+    ensures { result ≡ elf_symbol_in entry.entry.encoding entry.entry.bytes.now }
+{
     let encoding = entry.encoding;
     let info = entry.u8_at(encoding.select(12, 4));
     ElfSymbol {
@@ -93,7 +99,9 @@ fn is_mapping_symbol(name: &[u8]) -> bool {
 }
 
 // The offset of an address in a file with these segments.
-fn offset_of_address(segments: &[Segment], address: u64) -> Option<u64> {
+fn offset_of_address(segments: &[Segment], address: u64) -> Option<u64>
+    ensures { IsOffsetOfAddress segments.now address result }
+{
     'segments: for segment in segments.iter() {
         if segment.address <= address && address - segment.address < segment.memory_size {
             return Some((address - segment.address).wrapping_add(segment.offset));
@@ -102,9 +110,27 @@ fn offset_of_address(segments: &[Segment], address: u64) -> Option<u64> {
     None
 }
 
+// The offset of an address in a file by a section.
+fn offset_in_section(section: Option<Section>, address: u64) -> Option<u64>
+    ensures { result ≡ option_map (section_offset address) section }
+{
+    match section {
+        Some(section) => {
+            Some(
+                address
+                    .wrapping_sub(section.address)
+                    .wrapping_add(section.offset),
+            )
+        }
+        None => None,
+    }
+}
+
 impl SymbolContext<'_> {
     // The index of the section of the symbol with an index, or `None` if it has no section.
-    fn section_index(&self, symbol: &ElfSymbol, symbol_index: usize) -> Option<usize> {
+    fn section_index(&self, symbol: &ElfSymbol, symbol_index: usize) -> Option<usize>
+        ensures { result ≡ section_index_of self.now symbol.now symbol_index }
+    {
         if symbol.section == LARGE_INDEX {
             let entry = Entry {
                 encoding: self.header.encoding,
@@ -118,7 +144,9 @@ impl SymbolContext<'_> {
         Some(symbol.section as usize)
     }
 
-    fn section(&self, index: usize) -> Option<Section> {
+    fn section(&self, index: usize) -> Option<Section>
+        ensures { result ≡ slice_get self.now.sections.now index }
+    {
         if index < self.sections.len() {
             Some(self.sections[index])
         } else {
@@ -150,22 +178,33 @@ impl SymbolContext<'_> {
         }
     }
 
-    // The offset of a symbol in the file that is mapped.
-    fn offset_of(&self, symbol: &ElfSymbol, section: Option<Section>) -> Option<u64> {
-        let is_arm_function = self.header.machine == ARM && symbol.symbol_type == FUNCTION;
-        let value = if is_arm_function {
+    // The address of a symbol: its value, without the bit that says in which mode a function for Arm runs.
+    fn address_of(&self, symbol: &ElfSymbol) -> u64
+        ensures { result ≡ symbol_address self.now.header.machine symbol.now }
+    {
+        if self.header.machine == ARM && symbol.symbol_type == FUNCTION {
             symbol.value & !1
         } else {
             symbol.value
-        };
-        if self.header.file_type == RELOCATABLE || self.segments.is_empty() {
-            return section.map(|s| value.wrapping_sub(s.address).wrapping_add(s.offset));
         }
-        offset_of_address(self.segments, value)
+    }
+
+    // The offset of a symbol in the file that is mapped.
+    fn offset_of(&self, symbol: &ElfSymbol, section: Option<Section>) -> Option<u64>
+        ensures { IsSymbolOffset self.now symbol.now section result }
+    {
+        let address = self.address_of(symbol);
+        if self.header.file_type == RELOCATABLE || self.segments.is_empty() {
+            offset_in_section(section, address)
+        } else {
+            offset_of_address(self.segments, address)
+        }
     }
 
     // The symbol of the entry with an index, if it is listed.
-    fn ranked(&self, symbol: &ElfSymbol, symbol_index: usize) -> Option<RankedSymbol> {
+    fn ranked(&self, symbol: &ElfSymbol, symbol_index: usize) -> Option<RankedSymbol>
+        ensures { IfSome result (λ r. IsRanked self.now symbol.now symbol_index r) }
+    {
         let section_index = self.section_index(symbol, symbol_index);
         if !self.is_listed(symbol, section_index) {
             return None;
@@ -212,16 +251,23 @@ pub(crate) fn add_symbols(
     entries: &[u8],
     entry_size: u64,
     symbols: &mut Vec<RankedSymbol>,
-) -> Result<(), ElfError> {
+) -> Result<(), ElfError>
+    ensures { AddsEntries context.now entries.now entry_size symbols.old.items symbols.new.items }
+{
     let encoding = context.header.encoding;
     if entry_size < min_symbol_size(encoding) as u64 {
         return Err(ElfError::EntrySize(ElfTable::Symbols, entry_size));
     }
-    'entries: for (index, bytes) in entries.chunks_exact(entry_size as usize).enumerate() {
+    let size = entry_size as usize;
+    let (mut index, mut at) = (0, 0);
+    'entries: while size <= entries.len() - at {
+        let bytes = &entries[at..at + size];
         let symbol = symbol_of(Entry { encoding, bytes });
         if let Some(ranked) = context.ranked(&symbol, index) {
             symbols.push(ranked)?;
         }
+        at += size;
+        index += 1;
     }
     Ok(())
 }

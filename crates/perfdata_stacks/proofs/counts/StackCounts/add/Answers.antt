@@ -1,11 +1,11 @@
-use Rattle.std.proofs.Common.{◌≡◌, ◌≤◌, ◌+◌, arith, rules, sym, ◌∙◌, ap, Some}
+use Rattle.std.proofs.Common.{◌≡◌, ◌≤◌, ◌+◌, arith, rules, sym, ◌∙◌, ap, inr, None, Some}
 use Rattle.std.specs.List.{sum_by}
 use Rattle.std.specs.Option.{unwrap_or}
 use Rattle.std.specs.Map.{values_of}
 use Rattle.std.specs.Ordering.{is_eq}
 use Rattle.std.specs.BTreeMap.{get}
 use Rattle.std.proofs.lemmas.Cmp.{nat_list_cmp_total, on_total}
-use Rattle.perfdata_stacks.specs.Counts.{line_cmp}
+use Rattle.perfdata_stacks.specs.Counts.{count_of, line_cmp}
 use Rattle.perfdata_stacks.proofs.Counting.{count_at_most_sum, counts_after, others_kept, sum_with}
 use Rattle.perfdata_stacks.proofs.counts.StackCounts.add.Goals as goal
 use Rattle.perfdata_stacks.proofs.counts.StackCounts.add.Goals.{in-Ok, in-Err}
@@ -40,7 +40,9 @@ returns-clause-line c =
             others = λ other apart. others_kept c.args.self.now.counts.entries c.insert.new.self.entries c.extend_from_slice.new.self other w.in-Ok.ensures.updates.3 apart;
             sum = sum;
           })
-      | in-Err w ↦ rw (w.result-is, w.self-is) (w.in-Err.ensures.err, tt)
+      | in-Err w ↦
+          let absent : count_of c.args.self.now c.args.line.now ≡ None = ap (λ line. count_of c.args.self.now line) (sym bytes) ∙ w.in-Err.ensures.absent in
+          rw (w.result-is, w.self-is) (w.in-Err.ensures.err, inr absent)
     ]
 
 pub returns-clause-counts : goal.returns-clause-counts

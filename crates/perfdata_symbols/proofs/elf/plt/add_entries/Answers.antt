@@ -1,0 +1,29 @@
+use Rattle.std.proofs.Common.{◌+◌, ◌%◌, ◌^◌, sym, subst}
+use Rattle.perfdata_symbols.specs.Plt.{AddsPlt, IsMade}
+use Rattle.perfdata_symbols.specs.declared.elf.plt.Relocation.{Relocation}
+use Rattle.perfdata_symbols.specs.declared.elf.plt.RelocationKind.TheVariants.{Other}
+use Rattle.perfdata_symbols.proofs.PltLemmas.{plt_more, plt_none}
+use Rattle.perfdata_symbols.proofs.elf.plt.add_entries.Goals as goal
+use Rattle.perfdata_symbols.proofs.elf.plt.add_entries.Goals.{then-not-is_empty+in_ok-add_entry, else-not-is_empty}
+
+abbrev none : Relocation
+none = record { offset = 0; symbol = 0; kind = Other }
+
+pub relocations-init : goal.relocations-init
+relocations-init c = plt_none c.args.section.now c.args.layout c.args.relocations.now c.args.symbols.now
+
+pub relocations-preserved : goal.relocations-preserved
+relocations-preserved c =
+    let section = c.args.section.now in
+    let layout = c.args.layout in
+    let relocations = c.args.relocations.now in
+    let old = c.args.symbols.now in
+    elim c.if-not-is_empty.branch [
+      | then-not-is_empty+in_ok-add_entry w ↦
+          let added = w.in_ok-add_entry.ensures.ok in
+          let names = w.in_ok-add_entry.ensures.names in
+          subst (AddsPlt section layout relocations old) (sym w.symbols-is)
+          (plt_more section layout relocations old c.relocations.symbols w.add_entry.new.symbols c.relocations.index none names.0 added.0 c.relocations.invariant c.relocations-test.true
+          names.1 added.1 (subst (λ offset. IsMade ((section.offset + offset) % 2 ^ 64) layout.entry_size added.0) w.offset_of.ensures added.2))
+      | else-not-is_empty w ↦ subst (AddsPlt section layout relocations old) (sym w.symbols-is) c.relocations.invariant
+    ]
