@@ -104,8 +104,8 @@ impl<'a> Cursor<'a> {
 
     /// Returns the number that the next decimal digits write, at least one, and moves after them.
     ///
-    /// Fails with [`Failure::Grammar`] if the next byte isn't a digit, and with [`Failure::Limit`] if the number
-    /// is 2^64 or more.
+    /// Fails with [`Failure::Grammar`] if the next byte isn't a digit, and with [`Failure::Limit`] if the
+    /// number is 2^64 or more.
     pub fn number(&mut self) -> Result<usize, Failure>
         ensures bytes { bytes_of self.new ≡ bytes_of self.old }
         ensures position { position_of self.old ≤ position_of self.new }

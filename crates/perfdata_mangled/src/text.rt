@@ -35,8 +35,8 @@ impl Text {
         }
     }
 
-    /// Removes all bytes, and sets the limit to that of a name of this length in bytes: 128 for each byte, and
-    /// at most 65,536.
+    /// Removes all bytes, and sets the limit to that of a name of this length in bytes: 128 for each byte,
+    /// and at most 65,536.
     pub fn start(&mut self, name_length: usize)
         ensures text { text_of self.new ≡ [] }
         ensures limit { limit_of self.new ≡ limit_for name_length }

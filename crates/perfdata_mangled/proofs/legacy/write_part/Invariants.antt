@@ -1,0 +1,6 @@
+use Rattle.std.proofs.Common.{◌≡◌}
+use Rattle.perfdata_mangled.specs.Text.{limit_of}
+use Rattle.perfdata_mangled.proofs.legacy.write_part.Given as goal
+
+abbrev pub invariant-bytes : goal.invariant-bytes
+invariant-bytes l = limit_of l.text ≡ limit_of l.fn.text
