@@ -1,0 +1,2 @@
+pub mod Demangler
+pub mod Prefix
