@@ -1,0 +1,13 @@
+use Rattle.std.proofs.Common.{◌++◌, List, refl, sym, subst}
+use Rattle.perfdata_profile.specs.Samples.{applied_in}
+use Rattle.perfdata_profile.proofs.Building.{builds_applied, selected_applied}
+use Rattle.perfdata_profile.proofs.Counting.{on_ok}
+use Rattle.perfdata_spaces.specs.AddressSpaces.{Follows}
+use Rattle.perfdata_spaces.specs.Effects.{Applied}
+use Rattle.perfdata_profile.proofs.builder.ProfileBuilder.apply.Goals as goal
+
+pub returns-clause-ok : goal.returns-clause-ok
+returns-clause-ok g c = on_ok c.apply-2.result (λ given weight builds.
+    let follows = c.in_ok-index.ensures.ok (applied_in given) builds.follows in
+    builds_applied g.R.Resolver.names_thread g.R.Resolver.names_frame given c.args.self.now _ builds _ (selected_applied c.args.misc c.args.record.now weight c.requires) refl refl
+    (subst (λ (l : List Applied). Follows (applied_in given ++ l) c.apply.new.self) (sym c.requires) follows))
