@@ -16,7 +16,7 @@ use Rattle.perfdata_profile.specs.Tallies.{Counted, Tallies}
 use Rattle.perfdata_profile.specs.declared.builder.Profile.{Profile}
 use Rattle.perfdata_profile.specs.declared.builder.ProfileBuilder.{ProfileBuilder}
 use Rattle.perfdata_profile.specs.declared.names.NameId.{NameId}
-use Rattle.perfdata_profile.proofs.Counting.{counted_keys, counted_map, counted_weaker, ids_kept, names_of_ids, stack_within}
+use Rattle.perfdata_profile.proofs.Counting.{counted_keys, counted_map, counted_number, counted_weaker, ids_kept, names_of_ids, stack_within}
 use Rattle.perfdata_profile.proofs.Naming.{tallies_names}
 use Rattle.perfdata_spaces.specs.AddressSpaces.{Follows}
 use Rattle.perfdata_spaces.specs.Effects.{Applied}
@@ -68,8 +68,10 @@ module _ (names_thread : ThreadValue → List ℕ → Type 0) (names_frame : Fra
       let table = names_of builder.names in
       let stacks = counted_keys (HasIds names_thread names_frame table) (AreIds table) (stack_within names_thread names_frame table) given builds.counted builds.are in
       let tallies = tallies_names table builds.counted (entries_of builder.sums) once stacks builds.sums.entries in
+      let named = counted_map (names_at table) (HasIds names_thread names_frame table) (NamesSample names_thread names_frame) (names_of_ids names_thread names_frame table) given builds.counted builds.are in
       record {
         counted = map (named_sample table) builds.counted;
-        are = counted_map (names_at table) (HasIds names_thread names_frame table) (NamesSample names_thread names_frame) (names_of_ids names_thread names_frame table) given builds.counted builds.are;
+        number = counted_number (NamesSample names_thread names_frame) given (map (named_sample table) builds.counted) named;
+        are = named;
         sums = subst (λ (p : Profile). Tallies (map (named_sample table) builds.counted) (map (named_entry (names_of p.names)) (entries_of p.sums))) (sym (λ i. record { names = names i; sums = sums i })) tallies;
       }

@@ -1,10 +1,10 @@
 -- A profile as it is built.
-use Rattle.std.specs.Prelude.{◌≡◌, ℕ, List, [], ◌∷◌, ◌++◌, map}
+use Rattle.std.specs.Prelude.{◌≡◌, ℕ, ◌++◌, ◌∷◌, [], List, filter, length, map}
 use Rattle.perfdata_events.specs.declared.sample.SampleRecord.{SampleRecord}
 use Rattle.perfdata_profile.specs.Names.{names_of}
 use Rattle.perfdata_profile.specs.Profiles.{named_entry}
 use Rattle.perfdata_profile.specs.Resolving.{FrameValue, IsIdOf, ThreadValue}
-use Rattle.perfdata_profile.specs.Samples.{AreCounted, AreRelated, Given, NamesFrame, NamesSample, NamesThread, applied_in, frames_in, task_of}
+use Rattle.perfdata_profile.specs.Samples.{AreCounted, AreRelated, Given, NamesFrame, NamesSample, NamesThread, applied_in, frames_in, is_selected, task_of}
 use Rattle.perfdata_profile.specs.StackSums.{TalliesStacks, entries_of}
 use Rattle.perfdata_profile.specs.Tallies.{Counted, Tallies}
 use Rattle.perfdata_profile.specs.declared.builder.Profile.{Profile}
@@ -48,3 +48,4 @@ module _ (names_thread : ThreadValue → List ℕ → Type 0) (names_frame : Fra
     pub counted : List (Counted (List (List ℕ)))
     pub are : AreCounted (NamesSample names_thread names_frame) given counted
     pub sums : Tallies counted (map (named_entry (names_of profile.names)) (entries_of profile.sums))
+    pub number : length counted ≡ length (filter is_selected given)

@@ -1,8 +1,8 @@
 //! A profile: how many samples each stack has.
 //!
-//! A [`builder::ProfileBuilder`] is given the records of a recording, and names of threads and frames by a
-//! [`resolver::Resolver`]. [`names::Names`] stores each name once, and [`sums::StackSums`] adds up the samples
-//! of each stack.
+//! A [`builder::ProfileBuilder`] is given the records of a recording in order of time. A
+//! [`resolver::Resolver`] names threads and frames. [`names::Names`] stores each name once, and
+//! [`sums::StackSums`] adds up the samples of each stack.
 #![tactic(auto)]
 
 pub mod builder;

@@ -36,7 +36,8 @@ impl Names {
     ///
     /// Fails if memory runs out. Then no name is added.
     pub fn intern(&mut self, name: &[u8]) -> Result<NameId, AllocError>
-        ensures ok { IfOk result (λ id. Interns (names_of self.old) name.now (number_of id) (names_of self.new)) }
+        ensures ok { IfOk result (λ id.
+            Interns (names_of self.old) name.now (number_of id) (names_of self.new)) }
         ensures err { OnErr result (names_of self.new ≡ names_of self.old) }
     {
         if let Some(number) = self.names.get_index_of(name) {

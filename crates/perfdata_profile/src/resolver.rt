@@ -3,7 +3,8 @@
 ghost use Rattle.std.specs.Prelude.{◌≡◌, ℕ, Bool, List, OnOk, IfOk, slice_get};
 ghost use Rattle.perfdata_profile.specs.Interning.{Grows};
 ghost use Rattle.perfdata_profile.specs.Names.{names_of};
-ghost use Rattle.perfdata_profile.specs.Resolving.{FrameValue, IsIdOf, ThreadValue, frame_value, thread_value};
+ghost use Rattle.perfdata_profile.specs.Resolving.{FrameValue, IsIdOf, ThreadValue};
+ghost use Rattle.perfdata_profile.specs.Resolving.{frame_value, thread_value};
 
 use crate::names::{NameId, Names};
 use perfdata_events::event::EventRecord;
@@ -55,7 +56,8 @@ pub trait Resolver {
         names: &mut Names,
     ) -> Result<NameId, AllocError>
         ensures grows { Grows (names_of names.old) (names_of names.new) }
-        ensures named { IfOk result (λ id. IsIdOf (names_thread (thread_value task comm.entry)) (names_of names.new) id) };
+        ensures named { IfOk result (λ id.
+            IsIdOf (names_thread (thread_value task comm.entry)) (names_of names.new) id) };
 
     /// Returns the id of the name of a frame.
     ///
@@ -66,5 +68,6 @@ pub trait Resolver {
         names: &mut Names,
     ) -> Result<NameId, AllocError>
         ensures grows { Grows (names_of names.old) (names_of names.new) }
-        ensures named { IfOk result (λ id. IsIdOf (names_frame (frame_value frame.now)) (names_of names.new) id) };
+        ensures named { IfOk result (λ id.
+            IsIdOf (names_frame (frame_value frame.now)) (names_of names.new) id) };
 }
