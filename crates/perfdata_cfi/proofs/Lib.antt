@@ -1,0 +1,3 @@
+-- Lemmas.
+pub mod NumberLemmas
+pub mod TableLemmas

@@ -1,0 +1,8 @@
+use Rattle.std.proofs.Common.{drop}
+use Rattle.perfdata_cfi.specs.Cies.{LettersAt, some_augmentation}
+use Rattle.perfdata_cfi.specs.declared.cie.Augmentation.{Augmentation}
+use Rattle.perfdata_cfi.proofs.cie.read_letters.Given as goal
+
+-- whatever the remaining letters say after the ones read, all letters say
+abbrev pub invariant-letters : goal.invariant-letters
+invariant-letters l = (a : Augmentation) → LettersAt (drop l.byte-index l.letters) l.rest l.augmentation a → LettersAt l.letters l.data some_augmentation a

@@ -1,0 +1,14 @@
+use Rattle.std.proofs.Common.{◌≤◌, length}
+use Rattle.std.specs.Prelude.{All}
+use Rattle.perfdata_cfi.specs.Tables.{Reaches, IsFdeOf}
+use Rattle.perfdata_cfi.proofs.table.read_fdes.Given as goal
+
+abbrev pub invariant-entries : goal.invariant-entries
+invariant-entries l = record {
+  within : length l.rest ≤ length l.bytes;
+  reached : Reaches l.section l.bytes l.rest;
+  all : All (IsFdeOf l.section l.address l.bytes l.cies) l.fdes.items;
+}
+
+abbrev pub decreases-entries : goal.decreases-entries
+decreases-entries l = length l.rest

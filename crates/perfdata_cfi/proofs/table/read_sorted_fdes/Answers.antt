@@ -1,0 +1,7 @@
+use Rattle.std.proofs.lemmas.List.Sorted.{All-permutation}
+use Rattle.perfdata_cfi.specs.Tables.{IsFdeOf}
+use Rattle.perfdata_cfi.proofs.table.read_sorted_fdes.Goals as goal
+
+pub returns-clause-all : goal.returns-clause-all
+returns-clause-all c =
+    All-permutation (IsFdeOf c.args.section c.args.address c.args.bytes.now c.args.cies.now) c.in_ok-fdes.fdes.items c.sort_fdes.new.fdes.items c.sort_fdes.ensures.permutation c.in_ok-fdes.ensures

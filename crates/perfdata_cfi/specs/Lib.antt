@@ -1,0 +1,10 @@
+-- The definitions that the contracts cite.
+pub mod Cies
+pub mod Entries
+pub mod Fdes
+pub mod FrameTables
+pub mod Instructions
+pub mod Numbers
+pub mod Pointers
+pub mod Rows
+pub mod Tables

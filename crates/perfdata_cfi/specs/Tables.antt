@@ -1,0 +1,60 @@
+-- The entries of a section, and the FDE at an address.
+use Rattle.std.specs.Prelude.{◌≡◌, ℕ, ◌+◌, ◌<◌, ◌≤◌, List, [], ◌∷◌, length, Option, Some, None, true, slice_index_or, All}
+use Rattle.perfdata_cfi.specs.Entries.{EntryAt, PieceAt}
+use Rattle.perfdata_cfi.specs.Cies.{CieAt}
+use Rattle.perfdata_cfi.specs.Fdes.{IsFde}
+use Rattle.perfdata_cfi.specs.declared.entry.FrameSection.{FrameSection}
+use Rattle.perfdata_cfi.specs.declared.entry.Entry.{Entry}
+use Rattle.perfdata_cfi.specs.declared.cie.Cie.{Cie}
+use Rattle.perfdata_cfi.specs.declared.fde.Fde.{Fde}
+
+-- the bytes, the end of a section of `size` bytes, start with these pieces, and `rest` follows
+abbrev pub Pieces : FrameSection → ℕ → List ℕ → List (Option Entry) → List ℕ → Type 0
+Pieces section size bytes [] rest = rest ≡ bytes
+Pieces section size bytes (p ∷ ps) rest = (mid : List ℕ) × PieceAt section size bytes p mid × Pieces section size mid ps rest
+
+-- pieces of the section lead from its start to these bytes
+abbrev pub Reaches : FrameSection → List ℕ → List ℕ → Type 0
+Reaches section bytes rest = (ps : List (Option Entry)) × Pieces section (length bytes) bytes ps rest
+
+-- an entry of the section: all pieces before it can be read
+pub record IsEntryOf (section : FrameSection) (bytes : List ℕ) (e : Entry) : Type 0 where
+  pub at : List ℕ
+  pub rest : List ℕ
+  pub reached : Reaches section bytes at
+  pub entry_at : EntryAt section (length bytes) at e rest
+
+-- a CIE of the section
+pub record IsCieOf (section : FrameSection) (bytes : List ℕ) (c : Cie) : Type 0 where
+  pub entry : Entry
+  pub is_entry : IsEntryOf section bytes entry
+  pub kind : entry.is_cie ≡ true
+  pub cie_at : CieAt entry c
+
+-- a piece is this CIE, or this FDE with a CIE of these
+abbrev pub IsCieIn : Option Entry → Cie → Type 0
+IsCieIn None c = ⊥
+IsCieIn (Some e) c = (e.is_cie ≡ true) × CieAt e c
+
+abbrev pub IsFdeIn : ℕ → List Cie → Option Entry → Fde → Type 0
+IsFdeIn address cies None f = ⊥
+IsFdeIn address cies (Some e) f = IsFde address cies e f
+
+-- an FDE of the section that can be used, with a CIE of these
+pub record IsFdeOf (section : FrameSection) (address : ℕ) (bytes : List ℕ) (cies : List Cie) (f : Fde) : Type 0 where
+  pub entry : Entry
+  pub is_entry : IsEntryOf section bytes entry
+  pub is_fde : IsFde address cies entry f
+
+-- the FDE at the index is the first of those with the greatest first address up to the address
+pub record IsNearest (fdes : List Fde) (address index : ℕ) (f : Fde) : Type 0 where
+  pub within : index < length fdes
+  pub fde_is : f ≡ slice_index_or fdes index f
+  pub starts : f.start ≤ address
+  pub greatest : All (λ g. g.start ≤ address → g.start ≤ f.start) fdes
+  pub first : (k : ℕ) → k < length fdes → (slice_index_or fdes k f).start ≡ f.start → index ≤ k
+
+-- the index of the FDE at an address: the nearest one, if it describes the address
+abbrev pub IsFdeAt : List Fde → ℕ → Option ℕ → Type 0
+IsFdeAt fdes address (Some index) = (f : Fde) × IsNearest fdes address index f × (address < f.start + f.size)
+IsFdeAt fdes address None = (index : ℕ) (f : Fde) → IsNearest fdes address index f → f.start + f.size ≤ address

@@ -1,0 +1,163 @@
+//! Numbers of fixed size and LEB128 numbers, at the start of some bytes.
+ghost use Rattle.std.specs.Prelude.{◌≡◌, ◌≤◌, ◌<◌, ◌+◌, ◌*◌, ◌%◌, ◌^◌, ◌∷◌, length, drop};
+ghost use Rattle.std.specs.Prelude.{IfOk, IfSome, SomeIff};
+ghost use Rattle.perfdata_cfi.specs.Numbers.{fixed_value, FixedAt, IsLeb128, Uleb128At, Sleb128At, BlockAt};
+ghost use Rattle.perfdata_cfi.specs.Numbers.{uleb128_value as uleb128, sleb128_value as sleb128};
+
+use crate::error::CfiError;
+
+// The largest number of bytes of a LEB128 number.
+const MAX_LEB128_SIZE: usize = 10;
+
+/// A range of the bytes of a section.
+#[derive(Clone, Copy, Debug, PartialEq, Eq)]
+pub struct Span {
+    /// The offset of the first byte.
+    pub start: usize,
+    /// The offset after the last byte.
+    pub end: usize,
+}
+
+// The number that these bytes are in little-endian order.
+fn little_endian(bytes: &[u8]) -> u64
+    requires { length bytes.now ≤ 8 }
+    ensures { result ≡ fixed_value bytes.now }
+{
+    let mut value = 0;
+    let mut left = bytes.len();
+    'bytes: while left > 0 {
+        left -= 1;
+        value = value * 256 + bytes[left] as u64;
+    }
+    value
+}
+
+// Reads a number of `size` bytes, and returns it with the rest.
+pub(crate) fn read_fixed(bytes: &[u8], size: usize) -> Result<(u64, &[u8]), CfiError>
+    requires { size ≤ 8 }
+    ensures found { IfOk result (λ x. FixedAt size bytes.now x.0 x.1.now) }
+    ensures shorter { IfOk result (λ x. length x.1.now ≤ length bytes.now) }
+{
+    if bytes.len() < size {
+        return Err(CfiError::Truncated);
+    }
+    let (number, rest) = bytes.split_at(size);
+    Ok((little_endian(number), rest))
+}
+
+// Reads a byte, and returns it with the rest.
+pub(crate) fn read_byte(bytes: &[u8]) -> Result<(u8, &[u8]), CfiError>
+    ensures found { IfOk result (λ x. bytes.now ≡ x.0 ∷ x.1.now) }
+    ensures shorter { IfOk result (λ x. length x.1.now < length bytes.now) }
+{
+    match bytes {
+        [] => Err(CfiError::Truncated),
+        [byte, rest @ ..] => Ok((*byte, rest)),
+    }
+}
+
+// Skips `size` bytes.
+pub(crate) fn skip(bytes: &[u8], size: usize) -> Result<&[u8], CfiError>
+    ensures found { IfOk result (λ rest. (size ≤ length bytes.now) × (rest.now ≡ drop size bytes.now)) }
+    ensures shorter { IfOk result (λ rest. length rest.now ≤ length bytes.now) }
+{
+    if bytes.len() < size {
+        return Err(CfiError::Truncated);
+    }
+    let (_, rest) = bytes.split_at(size);
+    Ok(rest)
+}
+
+// The number of bytes of the LEB128 number at the start.
+fn leb128_size(bytes: &[u8]) -> Result<usize, CfiError>
+    ensures { IfOk result (λ size. IsLeb128 size bytes.now) }
+{
+    'bytes: for (index, byte) in bytes.iter().enumerate() {
+        if index == MAX_LEB128_SIZE {
+            return Err(CfiError::Leb128);
+        }
+        if *byte < 128 {
+            return Ok(index + 1);
+        }
+    }
+    Err(CfiError::Truncated)
+}
+
+// The number with seven more bits below it, if it fits 64 bits.
+fn with_low_bits(high: u64, byte: u8) -> Option<u64>
+    ensures { SomeIff result (high * 128 + byte % 128 < 2 ^ 64) (high * 128 + byte % 128) }
+{
+    let low = (byte % 128) as u64;
+    if high > (u64::MAX - low) / 128 {
+        None
+    } else {
+        Some(high * 128 + low)
+    }
+}
+
+// The value of the bytes of an unsigned LEB128 number, if it fits 64 bits.
+fn uleb128_value(bytes: &[u8]) -> Option<u64>
+    ensures { SomeIff result (uleb128 bytes.now < 2 ^ 64) (uleb128 bytes.now) }
+{
+    let mut value: u64 = 0;
+    let mut left = bytes.len();
+    'bytes: while left > 0 {
+        left -= 1;
+        match with_low_bits(value, bytes[left]) {
+            Some(more) => value = more,
+            None => return None,
+        }
+    }
+    Some(value)
+}
+
+// The value of the bytes of a signed LEB128 number, if it fits 64 bits.
+fn sleb128_value(bytes: &[u8]) -> Option<i64>
+    requires { 0 < length bytes.now }
+    ensures { IfSome result (λ n. n ≡ sleb128 bytes.now) }
+{
+    let mut left = bytes.len() - 1;
+    let last = (bytes[left] % 128) as i64;
+    let mut value = if last < 64 { last } else { last - 128 };
+    'bytes: while left > 0 {
+        left -= 1;
+        value = value
+            .checked_mul(128)?
+            .checked_add((bytes[left] % 128) as i64)?;
+    }
+    Some(value)
+}
+
+// Reads an unsigned LEB128 number, and returns it with the rest.
+pub(crate) fn read_uleb128(bytes: &[u8]) -> Result<(u64, &[u8]), CfiError>
+    ensures found { IfOk result (λ x. Uleb128At bytes.now x.0 x.1.now) }
+    ensures shorter { IfOk result (λ x. length x.1.now < length bytes.now) }
+{
+    let size = leb128_size(bytes)?;
+    let (number, rest) = bytes.split_at(size);
+    let value = uleb128_value(number).ok_or(CfiError::Leb128)?;
+    Ok((value, rest))
+}
+
+// Reads a signed LEB128 number, and returns it with the rest.
+pub(crate) fn read_sleb128(bytes: &[u8]) -> Result<(i64, &[u8]), CfiError>
+    ensures found { IfOk result (λ x. Sleb128At bytes.now x.0 x.1.now) }
+    ensures shorter { IfOk result (λ x. length x.1.now < length bytes.now) }
+{
+    let size = leb128_size(bytes)?;
+    let (number, rest) = bytes.split_at(size);
+    let value = sleb128_value(number).ok_or(CfiError::Leb128)?;
+    Ok((value, rest))
+}
+
+// Reads the size of a block as an unsigned LEB128 number, and returns the block with the rest.
+pub(crate) fn read_block(bytes: &[u8]) -> Result<(&[u8], &[u8]), CfiError>
+    ensures found { IfOk result (λ x. BlockAt bytes.now x.0.now x.1.now) }
+    ensures shorter { IfOk result (λ x. length x.0.now + length x.1.now < length bytes.now) }
+{
+    let (size, rest) = read_uleb128(bytes)?;
+    if size > rest.len() as u64 {
+        return Err(CfiError::Truncated);
+    }
+    Ok(rest.split_at(size as usize))
+}
