@@ -60,9 +60,6 @@ impl CppDemangler {
                 put_clones(&mut cursor, text)?;
             }
         }
-        if name.ends_with(b"@plt") {
-            text.put(b"@plt")?;
-        }
         Ok(())
     }
 

@@ -21,7 +21,7 @@ pub(crate) struct ByteRange {
 }
 
 /// A qualifier of a type, or of the object that a function is called for.
-#[derive(Clone, Copy, PartialEq, Eq)]
+#[derive(Clone, Copy)]
 pub(crate) enum Qualifier {
     Const,
     Volatile,
@@ -30,6 +30,10 @@ pub(crate) enum Qualifier {
     RvalueReference,
     TransactionSafe,
     Noexcept,
+    /// Under a condition.
+    NoexceptIf(NodeId),
+    /// With the types of exceptions.
+    Throw(NodeList),
 }
 
 /// What precedes a type as a letter, and is written after it.
@@ -84,7 +88,16 @@ pub(crate) enum Node {
     VendorOperator(NodeId),
     LiteralOperator(NodeId),
     Conversion(NodeId),
-    Lambda(NodeList, usize),
+    /// A lambda: its template parameters, its parameters, and its number.
+    Lambda(NodeList, NodeList, usize),
+    /// A template parameter that is a type.
+    TypeParameter,
+    /// A template parameter that is a value of a type.
+    ValueParameter(NodeId),
+    /// A template parameter that is a template with these parameters.
+    TemplateParameter(NodeList),
+    /// A template parameter that is a pack of another one.
+    PackParameter(NodeId),
     Unnamed(usize),
     Binding(NodeList),
     /// A function: its name, its result if it is known, and its parameters.
@@ -141,6 +154,10 @@ pub(crate) enum Node {
     RightFold(&'static str, NodeId),
     /// A fold with an initial value.
     BinaryFold(&'static str, NodeId, NodeId),
+    /// A value for a member, for an element, or for a range of elements.
+    MemberValue(NodeId, NodeId),
+    ElementValue(NodeId, NodeId),
+    RangeValue(NodeId, NodeId, NodeId),
     /// A function of the vendor, and its arguments.
     VendorCall(NodeId, NodeList),
 }

@@ -6,6 +6,7 @@ ghost use Rattle.perfdata_mangled.specs.Text.{limit_of};
 
 mod expression;
 mod function;
+mod lambda;
 mod list;
 mod name;
 mod scopes;
@@ -102,8 +103,8 @@ enum Task {
     CloseArguments,
     /// The end of the bounds of an array.
     EndBounds,
-    /// Whether parameters are those of a lambda.
-    Lambda(bool),
+    /// The template parameters of the lambda whose parameters are written.
+    Lambda(Option<NodeList>),
     /// The index in an expansion.
     PackIndex(Option<usize>),
 }
@@ -114,7 +115,8 @@ pub(crate) struct Printer {
     tasks: Vec<Task>,
     scopes: Vec<Scope>,
     search: Vec<NodeId>,
-    is_in_lambda: bool,
+    /// The template parameters of the lambda whose parameters are written.
+    lambda: Option<NodeList>,
     pack_index: Option<usize>,
     steps: usize,
     /// The length of the text when items of a list were removed from its end.
@@ -130,7 +132,7 @@ impl Printer {
             tasks: Vec::new(alloc),
             scopes: Vec::new(alloc),
             search: Vec::new(alloc),
-            is_in_lambda: false,
+            lambda: None,
             pack_index: None,
             steps: 0,
             dropped_at: 0,
@@ -182,7 +184,7 @@ impl Printer {
     fn start(&mut self, limit: usize) -> Result<(), Failure> {
         self.tasks.clear();
         self.scopes.clear();
-        self.is_in_lambda = false;
+        self.lambda = None;
         self.pack_index = Some(0);
         self.steps = limit.saturating_mul(STEPS_PER_BYTE);
         self.dropped_at = usize::MAX;
@@ -223,8 +225,8 @@ impl Printer {
                 self.pack_index = index;
                 Ok(())
             }
-            Task::Lambda(is_in_lambda) => {
-                self.is_in_lambda = is_in_lambda;
+            Task::Lambda(declared) => {
+                self.lambda = declared;
                 Ok(())
             }
         }

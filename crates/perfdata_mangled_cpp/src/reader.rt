@@ -1,8 +1,10 @@
 //! Reading a name into a tree.
 //!
-//! Productions are tasks on a stack, and what they have read are values on a second one: no call is recursive.
+//! Productions are tasks on a stack, and what they have read are values on a second one. No call is
+//! recursive.
 
 mod expression;
+mod lambda;
 mod names;
 mod special;
 mod template;
@@ -91,10 +93,28 @@ enum Task {
     MakeMemberPointer,
     MakeExpansion,
     MakeConversion,
+    /// The template parameters of a lambda, above a mark, or its parameters.
+    LambdaParameters {
+        mark: usize,
+    },
     /// The end of a lambda, after its parameters.
     MakeLambda {
         mark: usize,
     },
+    /// A template parameter of a lambda.
+    TemplateParameter,
+    /// Template parameters of a template that is a template parameter.
+    TemplateParameters {
+        mark: usize,
+    },
+    MakeValueParameter,
+    MakePackParameter,
+    /// The end of the condition or of the types of exceptions of a function, whose type follows.
+    EndNoexcept,
+    EndThrow {
+        mark: usize,
+    },
+    MakeRangeValue,
     /// Template arguments up to the end of a list.
     Arguments {
         mark: usize,
@@ -169,6 +189,8 @@ enum Binary {
     Cast,
     NamedCast(&'static str),
     TypedBraces,
+    MemberValue,
+    ElementValue,
     Fold(&'static str),
 }
 
@@ -273,7 +295,12 @@ impl Reader {
             Task::End => self.expect(b'E', cursor),
             Task::ConstructionOffset => self.read_construction_offset(cursor),
             Task::MakeTemporary => self.make_temporary(cursor),
+            Task::LambdaParameters { mark } => self.read_lambda_parameters(mark, cursor),
             Task::MakeLambda { mark } => self.make_lambda(mark, cursor),
+            Task::TemplateParameter => self.read_template_parameter(cursor),
+            Task::TemplateParameters { mark } => self.read_template_parameters(mark, cursor),
+            Task::EndNoexcept => self.end_noexcept(cursor),
+            Task::EndThrow { mark } => self.end_throw(mark, cursor),
             _ => self.step_in_expression(task, cursor),
         }
     }
@@ -289,6 +316,7 @@ impl Reader {
             } => self.end_bounds(is_vector, is_conversion, cursor),
             Task::DropValue => self.drop_value(),
             Task::MakeCondition => self.make_condition(),
+            Task::MakeRangeValue => self.make_range_value(),
             Task::CastOperand => self.read_cast_operand(cursor),
             Task::NewInitializer => self.read_new_initializer(cursor),
             Task::MakeNew { has_value } => self.make_new(has_value),
@@ -307,6 +335,8 @@ impl Reader {
             Task::Wrap(wrapper) => self.give(Node::Wrapped(wrapper, last)),
             Task::MakeInherited => self.give(Node::Constructor(last)),
             Task::MakeExpansion => self.give(Node::Expansion(last)),
+            Task::MakeValueParameter => self.give(Node::ValueParameter(last)),
+            Task::MakePackParameter => self.give(Node::PackParameter(last)),
             Task::MakeConversion => self.give(Node::Conversion(last)),
             Task::MakeSpecial(text) => self.give(Node::Special(text, last)),
             Task::MakeArray { has_length: false } => self.give(Node::Array(None, last)),

@@ -49,8 +49,8 @@ pub(crate) fn extended_type(letter: u8) -> Option<Node> {
     Some(Node::Builtin(text, LiteralForm::Cast))
 }
 
-/// Returns the abbreviated class of a letter after `S`, written out in full if it is the scope of a constructor
-/// or destructor.
+/// Returns the abbreviated class of a letter after `S`, written out in full if it is the scope of a
+/// constructor or destructor.
 pub(crate) fn standard_class(letter: u8, is_full: bool) -> Option<Node> {
     let (text, name) = match (letter, is_full) {
         (b'a', _) => ("std::allocator", "allocator"),
@@ -233,5 +233,7 @@ pub(crate) fn qualifier_text(qualifier: Qualifier) -> &'static str {
         Qualifier::RvalueReference => " &&",
         Qualifier::TransactionSafe => " transaction_safe",
         Qualifier::Noexcept => " noexcept",
+        Qualifier::NoexceptIf(_) => " noexcept(",
+        Qualifier::Throw(_) => " throw(",
     }
 }

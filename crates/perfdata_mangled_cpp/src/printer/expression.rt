@@ -150,7 +150,51 @@ impl Printer {
                 self.then_word("(")?;
                 self.then_place(Place { node, scope })
             }
-            _ => Err(Failure::Grammar),
+            _ => self.designated(node, scope, arena, text),
+        }
+    }
+
+    // Writes a value for a member, for an element, or for a range of elements.
+    fn designated(
+        &mut self,
+        node: Node,
+        scope: ScopeId,
+        arena: &Arena,
+        text: &mut Text,
+    ) -> Result<(), Failure>
+        ensures limit { limit_of text.new ≡ limit_of text.old }
+    {
+        match node {
+            Node::MemberValue(node, value) => {
+                self.then_value(Place { node: value, scope }, arena)?;
+                self.after(".", Place { node, scope }, text)
+            }
+            Node::ElementValue(node, value) => {
+                self.then_value(Place { node: value, scope }, arena)?;
+                self.then_word("]")?;
+                self.after("[", Place { node, scope }, text)
+            }
+            Node::RangeValue(node, last, value) => {
+                self.then_value(Place { node: value, scope }, arena)?;
+                self.then_word("]")?;
+                self.then_place(Place { node: last, scope })?;
+                self.then_word(" ... ")?;
+                self.after("[", Place { node, scope }, text)
+            }
+            _ => self.declaration(node, scope, text),
+        }
+    }
+
+    // Puts the value of a member or an element on the tasks, which may be that of a part of it.
+    fn then_value(&mut self, value: Place, arena: &Arena) -> Result<(), Failure> {
+        match arena.node(value.node)? {
+            Node::MemberValue(..) | Node::ElementValue(..) | Node::RangeValue(..) => {
+                self.then_place(value)
+            }
+            _ => {
+                self.then_operand(value, arena)?;
+                self.then_word("=")
+            }
         }
     }
 

@@ -1,11 +1,9 @@
 //! Functions with their results and parameters.
-ghost use Rattle.std.specs.Prelude.{◌≡◌};
-ghost use Rattle.perfdata_mangled.specs.Text.{limit_of};
 
-use crate::node::{Arena, Node, NodeId, NodeList};
+use crate::node::{Arena, Node, NodeId, NodeList, Qualifier};
 use crate::printer::{Place, Printer, ScopeId, Task, without_function_qualifiers};
 use crate::tables::qualifier_text;
-use perfdata_mangled::{Failure, Text};
+use perfdata_mangled::Failure;
 
 impl Printer {
     // Writes a function: its result, its name, and its parameters.
@@ -22,7 +20,7 @@ impl Printer {
             let place = Place { node, scope: inner };
             self.then(Task::Right(place))?;
         }
-        self.then_qualifiers(name, arena)?;
+        self.then_qualifiers(name, inner, arena)?;
         self.then_parameters(parameters, inner, arena)?;
         let node = without_function_qualifiers(name, arena)?;
         self.then_place(Place { node, scope })?;
@@ -62,12 +60,17 @@ impl Printer {
     }
 
     // Puts the qualifiers of a function on the tasks, from a name that has them around it.
-    fn then_qualifiers(&mut self, name: NodeId, arena: &Arena) -> Result<(), Failure> {
+    fn then_qualifiers(
+        &mut self,
+        name: NodeId,
+        scope: ScopeId,
+        arena: &Arena,
+    ) -> Result<(), Failure> {
         let mut id = name;
         for _ in 0..u64::MAX {
             id = match arena.node(id)? {
                 Node::FunctionQualifier(inner, qualifier) => {
-                    self.then_word(qualifier_text(qualifier))?;
+                    self.then_qualifier(qualifier, scope)?;
                     inner
                 }
                 Node::Local(_, entity) => entity,
@@ -76,6 +79,26 @@ impl Printer {
             };
         }
         Ok(())
+    }
+
+    // Puts a qualifier of a function on the tasks.
+    pub(super) fn then_qualifier(
+        &mut self,
+        qualifier: Qualifier,
+        scope: ScopeId,
+    ) -> Result<(), Failure> {
+        match qualifier {
+            Qualifier::NoexceptIf(node) => {
+                self.then_word(")")?;
+                self.then_place(Place { node, scope })?;
+            }
+            Qualifier::Throw(list) => {
+                self.then_word(")")?;
+                self.then(Task::List(list, scope))?;
+            }
+            _ => (),
+        }
+        self.then_word(qualifier_text(qualifier))
     }
 
     // Puts the parameters of a function on the tasks.
@@ -100,28 +123,7 @@ impl Printer {
             return Ok(());
         };
         self.then(Task::Right(Place { node, scope }))?;
-        self.then_qualifiers(place.node, arena)?;
+        self.then_qualifiers(place.node, scope, arena)?;
         self.then_parameters(parameters, scope, arena)
-    }
-
-    // Writes a lambda with its parameters.
-    pub(super) fn lambda(
-        &mut self,
-        parameters: NodeList,
-        number: usize,
-        scope: ScopeId,
-        arena: &Arena,
-        text: &mut Text,
-    ) -> Result<(), Failure>
-        ensures limit { limit_of text.new ≡ limit_of text.old }
-    {
-        text.put(b"{lambda")?;
-        self.then_word("}")?;
-        self.then(Task::Number(number.saturating_add(1)))?;
-        self.then_word("#")?;
-        let was = self.is_in_lambda;
-        self.then(Task::Lambda(was))?;
-        self.then_parameters(parameters, scope, arena)?;
-        self.then(Task::Lambda(true))
     }
 }

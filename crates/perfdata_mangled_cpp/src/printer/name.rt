@@ -31,7 +31,9 @@ impl Printer {
                 text.put(b"~")?;
                 self.class_name(class, scope, arena)
             }
-            Node::Lambda(list, number) => self.lambda(list, number, scope, arena, text),
+            Node::Lambda(declared, list, number) => {
+                self.lambda(declared, list, number, scope, arena)
+            }
             Node::Encoding(name, result, list) => self.encoding(name, result, list, scope, arena),
             _ => self.other_name(node, scope, arena, text),
         }
@@ -67,12 +69,10 @@ impl Printer {
             Node::DefaultArgument(number, node) => {
                 text.put(b"{default arg#")?;
                 text.put_number(number.saturating_add(1) as u64)?;
+                let node = without_function_qualifiers(node, arena)?;
                 self.after("}::", Place { node, scope }, text)
             }
-            Node::Parameter(number) => {
-                text.put(b"auto:")?;
-                text.put_number(number.saturating_add(1) as u64)
-            }
+            Node::Parameter(number) => self.lambda_parameter(number, arena, text),
             _ => self.rare_name(node, scope, arena, text),
         }
     }

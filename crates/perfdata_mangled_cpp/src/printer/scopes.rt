@@ -62,7 +62,7 @@ impl Printer {
         for _ in 0..u64::MAX {
             let node = arena.node(place.node)?;
             match node {
-                Node::Parameter(index) if !self.is_in_lambda => {
+                Node::Parameter(index) if self.lambda.is_none() => {
                     self.count_step()?;
                     place = self.argument(index, place.scope, arena)?;
                 }
@@ -159,7 +159,7 @@ impl Printer {
         pattern: Place,
         arena: &Arena,
     ) -> Result<Option<usize>, Failure> {
-        if self.is_in_lambda {
+        if self.lambda.is_some() {
             return Ok(None);
         }
         self.search.clear();

@@ -209,7 +209,7 @@ impl Printer {
         arena: &Arena,
     ) -> Result<(), Failure> {
         if !self.has_right(place, arena)? {
-            self.then_word(qualifier_text(qualifier))?;
+            self.then_qualifier(qualifier, place.scope)?;
         }
         self.then(Task::Left(place))
     }

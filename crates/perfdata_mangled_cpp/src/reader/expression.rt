@@ -118,8 +118,34 @@ impl Reader {
                 self.then(Task::Expression)?;
                 self.then_type()
             }
+            (b'd', b'i' | b'x' | b'X') => self.read_designated(second, cursor),
             _ => self.read_operator(first, second, cursor),
         }
+    }
+
+    // Reads a value for a member, for an element, or for a range of elements.
+    fn read_designated(&mut self, letter: u8, cursor: &mut Cursor<'_>) -> Result<(), Failure> {
+        match letter {
+            b'i' => {
+                self.then(Task::MakeBinary(Binary::MemberValue))?;
+                self.then(Task::Expression)?;
+                self.read_source_name(cursor)
+            }
+            b'x' => self.then_binary(Binary::ElementValue),
+            _ => {
+                self.then(Task::MakeRangeValue)?;
+                self.then(Task::Expression)?;
+                self.then(Task::Expression)?;
+                self.then(Task::Expression)
+            }
+        }
+    }
+
+    pub(super) fn make_range_value(&mut self) -> Result<(), Failure> {
+        let value = self.take()?;
+        let end = self.take()?;
+        let start = self.take()?;
+        self.give(Node::RangeValue(start, end, value))
     }
 
     fn read_operator(
@@ -294,6 +320,8 @@ impl Reader {
             Binary::Cast => Node::Cast(first, last),
             Binary::NamedCast(text) => Node::NamedCast(text, first, last),
             Binary::TypedBraces => Node::Braces(Some(first), last),
+            Binary::MemberValue => Node::MemberValue(first, last),
+            Binary::ElementValue => Node::ElementValue(first, last),
             Binary::Fold(text) => Node::BinaryFold(text, first, last),
         })
     }

@@ -344,22 +344,10 @@ impl Reader {
             }
             b'l' => {
                 let mark = self.values.len();
-                self.then(Task::MakeLambda { mark })?;
-                self.then(Task::Types { mark })
+                self.then(Task::LambdaParameters { mark })
             }
             _ => Err(Failure::Grammar),
         }
-    }
-
-    pub(super) fn make_lambda(
-        &mut self,
-        mark: usize,
-        cursor: &mut Cursor<'_>,
-    ) -> Result<(), Failure> {
-        self.expect(b'E', cursor)?;
-        let list = self.take_list(mark)?;
-        let number = read_compact_number(cursor)?;
-        self.give(Node::Lambda(list, number))
     }
 
     pub(super) fn read_local_entity(&mut self, cursor: &mut Cursor<'_>) -> Result<(), Failure> {

@@ -151,6 +151,9 @@ impl Reader {
     pub(super) fn make_encoding(&mut self, mark: usize, has_result: bool) -> Result<(), Failure> {
         let first = mark.saturating_add(has_result as usize);
         let parameters = self.take_list(first)?;
+        if parameters.start >= parameters.end {
+            return Err(Failure::Grammar);
+        }
         let mut result = None;
         if has_result {
             result = Some(self.take()?);

@@ -29,7 +29,11 @@ fn is_function_after_qualifiers(cursor: &Cursor<'_>) -> Result<bool, Failure> {
             break;
         }
     }
-    Ok(inner.peek() == Some(b'F'))
+    Ok(match inner.peek() {
+        Some(b'F') => true,
+        Some(b'D') => matches!(peek_second(&inner), Some(b'O' | b'w')),
+        _ => false,
+    })
 }
 
 // Reads digits.
@@ -106,10 +110,11 @@ impl Reader {
                 self.then(Task::QualifyType(qualifier))?;
             }
         }
-        if is_function {
-            return self.read_function(cursor);
+        match (is_function, cursor.peek()) {
+            (false, _) => self.then(Task::Type { is_conversion }),
+            (true, Some(b'D')) => self.read_exceptions(cursor),
+            (true, _) => self.read_function(cursor),
         }
-        self.then(Task::Type { is_conversion })
     }
 
     pub(super) fn qualify_type(&mut self, qualifier: Qualifier) -> Result<(), Failure> {
@@ -131,6 +136,42 @@ impl Reader {
             }
             _ => self.give(Node::FunctionQualifier(inner, qualifier)),
         }
+    }
+
+    // Reads the condition under which a function throws nothing, or the types of its exceptions.
+    fn read_exceptions(&mut self, cursor: &mut Cursor<'_>) -> Result<(), Failure> {
+        self.expect(b'D', cursor)?;
+        match cursor.next_byte()? {
+            b'O' => {
+                self.then(Task::EndNoexcept)?;
+                self.then(Task::Expression)
+            }
+            _ => {
+                let mark = self.values.len();
+                self.then(Task::EndThrow { mark })?;
+                self.then(Task::Types { mark })
+            }
+        }
+    }
+
+    // Reads a function type after the condition under which it throws nothing.
+    pub(super) fn end_noexcept(&mut self, cursor: &mut Cursor<'_>) -> Result<(), Failure> {
+        self.expect(b'E', cursor)?;
+        let condition = self.take()?;
+        self.then(Task::QualifyFunctionType(Qualifier::NoexceptIf(condition)))?;
+        self.read_function(cursor)
+    }
+
+    // Reads a function type after the types of its exceptions.
+    pub(super) fn end_throw(
+        &mut self,
+        mark: usize,
+        cursor: &mut Cursor<'_>,
+    ) -> Result<(), Failure> {
+        self.expect(b'E', cursor)?;
+        let list = self.take_list(mark)?;
+        self.then(Task::QualifyFunctionType(Qualifier::Throw(list)))?;
+        self.read_function(cursor)
     }
 
     // Reads a function type: its result and its parameters.
@@ -246,6 +287,10 @@ impl Reader {
         let letter = peek_second(cursor).ok_or(Failure::Grammar)?;
         if function_qualifier_of(letter).is_some() {
             return self.read_qualified_type(is_conversion, cursor);
+        }
+        if matches!(letter, b'O' | b'w') {
+            self.then(Task::Substitute)?;
+            return self.read_exceptions(cursor);
         }
         cursor.take(2)?;
         match letter {
