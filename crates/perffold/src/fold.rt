@@ -99,7 +99,7 @@ impl<'a> Folder<'a> {
             options,
             selection: options.selection,
             spaces: AddressSpaces::new(alloc),
-            names: NameTable::new(alloc),
+            names: NameTable::new(alloc, options.demangling),
             frame_names: FrameNames::new(alloc, source),
             has_metadata: false,
             stacks: HashMap::new(alloc),

@@ -3,6 +3,7 @@
 use crate::selection::Selection;
 use clap::{Arg, ArgAction, ArgMatches, Command, Error};
 use perfdata_cli::command_line::{FILE, RECORDING_HELP, command};
+use perfdata_demangle::Style;
 use std::alloc::{AllocError, Global};
 
 // What the program does.
@@ -35,6 +36,12 @@ const NO_SYMBOLS: &str = "no-symbols";
 
 // The id of the flag for addresses.
 const RAW: &str = "raw";
+
+// The id of the flag for mangled names.
+const NO_DEMANGLE: &str = "no-demangle";
+
+// The id of the flag for parameters.
+const PARAMETERS: &str = "parameters";
 
 // The id of the option of the directory of mapped files.
 const SYMFS: &str = "symfs";
@@ -143,6 +150,8 @@ pub(crate) struct Options<'a> {
     pub(crate) weight: Weight,
     pub(crate) thread_ids: ThreadIds,
     pub(crate) name_kind: NameKind,
+    /// The style of the texts of mangled names, unless these stay.
+    pub(crate) demangling: Option<Style>,
     pub(crate) symbols: SymbolOptions<'a>,
 }
 
@@ -239,7 +248,18 @@ fn with_names<'a>(alloc: Global, command: Command<'a>) -> Result<Command<'a>, Al
             flag(alloc, RAW, "Name frames by their addresses")
                 .conflicts_with(NO_SYMBOLS)?
                 .conflicts_with(SYMFS)?,
+        )?
+        .arg(flag(
+            alloc,
+            NO_DEMANGLE,
+            "Leave the mangled names of symbols as they are",
+        ))?
+        .arg(flag(
+            alloc,
+            PARAMETERS,
+            "Add the parameters of C++ functions to their names",
         )
+        .conflicts_with(NO_DEMANGLE)?)
 }
 
 // Adds the options of the output.
@@ -311,6 +331,17 @@ fn name_kind_of(matches: &ArgMatches<'_>) -> NameKind {
     }
 }
 
+// Returns the style of the texts of mangled names, unless these stay.
+fn demangling_of(matches: &ArgMatches<'_>) -> Option<Style> {
+    if matches.get_flag(NO_DEMANGLE) {
+        None
+    } else if matches.get_flag(PARAMETERS) {
+        Some(Style::Signature)
+    } else {
+        Some(Style::Name)
+    }
+}
+
 // Returns which list names the kernel's functions.
 fn kernel_list_of<'a>(matches: &ArgMatches<'a>) -> KernelList<'a> {
     match (matches.get_str(KALLSYMS), matches.get_str(SYMFS)) {
@@ -351,6 +382,7 @@ fn options_of<'a>(matches: &ArgMatches<'a>) -> Options<'a> {
         weight: weight_of(matches),
         thread_ids: thread_ids_of(matches),
         name_kind: name_kind_of(matches),
+        demangling: demangling_of(matches),
         symbols: symbols_of(matches),
     }
 }

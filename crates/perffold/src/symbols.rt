@@ -166,17 +166,18 @@ impl<'a> Symbols<'a> {
         self.kernel.missing()
     }
 
-    // Adds a table. Returns its index.
-    fn add_table(&mut self, table: SymbolTable) -> Result<usize, AllocError> {
+    // Adds a table, whose names may be mangled. Returns its index.
+    fn add_table(&mut self, table: SymbolTable, are_mangled: bool) -> Result<usize, AllocError> {
         let index = self.tables.len();
-        self.tables.push(NamedTable::new(self.rt.alloc(), table))?;
+        self.tables
+            .push(NamedTable::new(self.rt.alloc(), table, are_mangled))?;
         Ok(index)
     }
 
     // Adds the symbols of a file that the recording has.
     fn add_recorded(&mut self, record: &SimpleperfFileRecord) -> Result<(), AllocError> {
         let alloc = self.rt.alloc();
-        let index = self.add_table(table_of_record(alloc, record)?)?;
+        let index = self.add_table(table_of_record(alloc, record)?, true)?;
         let table = RecordedTable {
             index,
             starts: starts_of(record),
@@ -243,7 +244,7 @@ impl<'a> Symbols<'a> {
             return Ok(None);
         }
         match self.elf_files.table(path, recorded)? {
-            Some(table) => Ok(Some(self.add_table(table)?)),
+            Some(table) => Ok(Some(self.add_table(table, true)?)),
             None => Ok(None),
         }
     }
@@ -273,7 +274,7 @@ impl<'a> Symbols<'a> {
         match found(read_all(self.rt, file))? {
             Some(text) => {
                 let table = parse_perf_map(self.rt.alloc(), text)?;
-                Ok(Some(self.add_table(table)?))
+                Ok(Some(self.add_table(table, false)?))
             }
             None => Ok(None),
         }

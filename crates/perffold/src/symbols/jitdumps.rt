@@ -62,7 +62,7 @@ impl JitDumps {
             path: path.to_vec(self.alloc)?,
             is_read: false,
             code: None,
-            numbers: SymbolNumbers::new(self.alloc),
+            numbers: SymbolNumbers::new(self.alloc, true),
         };
         self.of_processes.insert(pid, dump)?;
         Ok(())

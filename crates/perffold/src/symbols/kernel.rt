@@ -44,7 +44,7 @@ impl KernelSymbols {
     pub(crate) fn read(rt: &HostRuntime, path: &str) -> io::Result<KernelSymbols> {
         Ok(KernelSymbols {
             table: read_kallsyms(rt, path)?,
-            numbers: SymbolNumbers::new(rt.alloc()),
+            numbers: SymbolNumbers::new(rt.alloc(), false),
             shift: None,
         })
     }

@@ -9,13 +9,16 @@ use std::alloc::{AllocError, Global};
 #[derive(Drop)]
 pub(crate) struct SymbolNumbers {
     of_symbols: Vec<Option<usize>>,
+    /// Whether names may be mangled.
+    are_mangled: bool,
     text: Vec<u8>,
 }
 
 impl SymbolNumbers {
-    pub(crate) fn new(alloc: Global) -> SymbolNumbers {
+    pub(crate) fn new(alloc: Global, are_mangled: bool) -> SymbolNumbers {
         SymbolNumbers {
             of_symbols: Vec::new(alloc),
+            are_mangled,
             text: Vec::new(alloc),
         }
     }
@@ -23,7 +26,12 @@ impl SymbolNumbers {
     // Returns the number of a name.
     fn number_of(&mut self, name: &[u8], names: &mut NameTable) -> Result<usize, AllocError> {
         self.text.clear();
-        push_name(&mut self.text, name)?;
+        let text = if self.are_mangled {
+            names.text_of(name)?
+        } else {
+            name
+        };
+        push_name(&mut self.text, text)?;
         names.number(self.text.as_slice())
     }
 
@@ -82,10 +90,10 @@ pub(crate) struct NamedTable {
 }
 
 impl NamedTable {
-    pub(crate) fn new(alloc: Global, table: SymbolTable) -> NamedTable {
+    pub(crate) fn new(alloc: Global, table: SymbolTable, are_mangled: bool) -> NamedTable {
         NamedTable {
             table,
-            numbers: SymbolNumbers::new(alloc),
+            numbers: SymbolNumbers::new(alloc, are_mangled),
         }
     }
 
