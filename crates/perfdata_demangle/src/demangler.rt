@@ -47,9 +47,9 @@ impl Demangler {
     ///
     /// A name has no text unless it starts with `_R` or `_Z`, has at most 16,384 bytes and is in the grammar
     /// of Rust's names or of those of C++. A suffix, from `.` or `@` on, is not part of the text, but for
-    /// `@plt` at the end, and for suffixes of the compiler in the signature of a C++ function. Texts are those
-    /// of `c++filt -p -i` (GNU binutils 2.40), and signatures those of `c++filt -i`, of at most 128 bytes for
-    /// each byte of the name and at most 65,536.
+    /// `@plt` at the end, and for suffixes of the compiler in the signature of a C++ function. Texts are
+    /// those of `c++filt -p -i` (GNU binutils 2.40), and signatures those of `c++filt -i`, of at most 128
+    /// bytes for each byte of the name and at most 65,536.
     ///
     /// Fails if memory runs out. Then there is no text, and the next call starts anew.
     pub fn demangle(&mut self, name: &[u8], style: Style) -> Result<bool, AllocError>
