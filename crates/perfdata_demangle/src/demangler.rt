@@ -4,25 +4,18 @@ ghost use Rattle.perfdata_demangle.specs.Prefix.{IsMangled};
 
 use crate::prefix::{is_mangled, is_suffix, without_suffix};
 use perfdata_mangled::{Failure, RustNames, Text, split_legacy_name};
+use perfdata_mangled_cpp::{CppDemangler, Style};
 use std::alloc::{AllocError, Global};
 
 /// The greatest length of a name in bytes.
 pub const MAX_NAME: usize = 16384;
-
-/// What the text of a C++ function has. Texts of Rust names are the same in both styles.
-#[derive(Clone, Copy, Debug, PartialEq, Eq)]
-pub enum Style {
-    /// The name alone.
-    Name,
-    /// The name, the parameters, and the result where the name has it.
-    Signature,
-}
 
 /// Demangles names. It keeps its memory from one name to the next. Contracts describe it with `text_in`.
 #[derive(Drop)]
 pub struct Demangler {
     text: Text,
     rust: RustNames,
+    cpp: CppDemangler,
 }
 
 // The end of the name of an entry of the procedure linkage table, which texts have too.
@@ -39,6 +32,7 @@ impl Demangler {
         Demangler {
             text: Text::new(alloc),
             rust: RustNames::new(alloc),
+            cpp: CppDemangler::new(alloc),
         }
     }
 
@@ -51,10 +45,11 @@ impl Demangler {
 
     /// Demangles a name, and returns whether it has a text, which [`Demangler::text`] returns.
     ///
-    /// A name has no text unless it starts with `_R` or `_ZN`, has at most 16,384 bytes and is in the
-    /// grammar of Rust's names. A suffix, from `.` or `@` on, is not part of the text, but for `@plt` at the
-    /// end. Texts are those of `c++filt -p -i` (GNU binutils 2.40), of at most 128 bytes for each byte of
-    /// the name and at most 65,536.
+    /// A name has no text unless it starts with `_R` or `_Z`, has at most 16,384 bytes and is in the grammar
+    /// of Rust's names or of those of C++. A suffix, from `.` or `@` on, is not part of the text, but for
+    /// `@plt` at the end, and for suffixes of the compiler in the signature of a C++ function. Texts are
+    /// those of `c++filt -p -i` (GNU binutils 2.40), and signatures those of `c++filt -i`, of at most 128
+    /// bytes for each byte of the name and at most 65,536.
     ///
     /// Fails if memory runs out. Then there is no text, and the next call starts anew.
     pub fn demangle(&mut self, name: &[u8], style: Style) -> Result<bool, AllocError>
@@ -84,30 +79,33 @@ impl Demangler {
     }
 
     // Writes the text of a name.
-    fn write(&mut self, name: &[u8], _style: Style) -> Result<(), Failure>
+    fn write(&mut self, name: &[u8], style: Style) -> Result<(), Failure>
         ensures { limit_in self.new ≡ limit_in self.old }
     {
         let Some(symbol) = name.strip_suffix(PLT) else {
-            return self.write_symbol(name);
+            return self.write_symbol(name, style);
         };
-        self.write_symbol(symbol)?;
+        self.write_symbol(symbol, style)?;
         self.text.put(PLT)
     }
 
     // Writes the text of a name without `@plt`.
-    fn write_symbol(&mut self, name: &[u8]) -> Result<(), Failure>
+    fn write_symbol(&mut self, name: &[u8], style: Style) -> Result<(), Failure>
         ensures { limit_in self.new ≡ limit_in self.old }
     {
         if let Some(path) = name.strip_prefix(b"_R") {
             return self.rust.demangle(without_suffix(path), &mut self.text);
         }
-        let Some(parts) = name.strip_prefix(b"_ZN") else {
+        if let Some(parts) = name.strip_prefix(b"_ZN") {
+            if let Ok(legacy) = split_legacy_name(parts) {
+                if is_suffix(legacy.suffix) {
+                    return legacy.write(&mut self.text);
+                }
+            }
+        }
+        let Some(encoding) = name.strip_prefix(b"_Z") else {
             return Err(Failure::Grammar);
         };
-        let legacy = split_legacy_name(parts)?;
-        if !is_suffix(legacy.suffix) {
-            return Err(Failure::Grammar);
-        }
-        legacy.write(&mut self.text)
+        self.cpp.demangle(encoding, style, &mut self.text)
     }
 }

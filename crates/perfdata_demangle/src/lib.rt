@@ -1,7 +1,9 @@
-//! Texts that people can read for the mangled names of symbols: Rust's names, of today (v0) and of before.
+//! Texts that people can read for the mangled names of symbols: names of C++ (Itanium C++ ABI), and those of
+//! Rust, of today (v0) and of before.
 #![tactic(auto)]
 
 pub mod demangler;
 mod prefix;
 
-pub use demangler::{Demangler, MAX_NAME, Style};
+pub use demangler::{Demangler, MAX_NAME};
+pub use perfdata_mangled_cpp::Style;
