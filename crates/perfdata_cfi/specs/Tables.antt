@@ -1,6 +1,8 @@
 -- The entries of a section, and the FDE at an address.
-use Rattle.std.specs.Prelude.{◌≡◌, ℕ, ◌+◌, ◌<◌, ◌≤◌, List, [], ◌∷◌, length, Option, Some, None, true, slice_index_or, All}
-use Rattle.perfdata_cfi.specs.Entries.{EntryAt, PieceAt}
+use Rattle.std.specs.Prelude.{◌≡◌, ◌⊎◌, ℕ, ◌+◌, ◌<◌, ◌≤◌, List, [], ◌∷◌, length, Option, Some, None, true, slice_index_or, All}
+use Rattle.std.specs.List.Sorted.{IsStableByKey}
+use Rattle.std.specs.Ordering.{nat_cmp}
+use Rattle.perfdata_cfi.specs.Entries.{EntryAt, PieceAt, NoPiece}
 use Rattle.perfdata_cfi.specs.Cies.{CieAt}
 use Rattle.perfdata_cfi.specs.Fdes.{IsFde}
 use Rattle.perfdata_cfi.specs.declared.entry.FrameSection.{FrameSection}
@@ -45,6 +47,23 @@ pub record IsFdeOf (section : FrameSection) (address : ℕ) (bytes : List ℕ) (
   pub entry : Entry
   pub is_entry : IsEntryOf section bytes entry
   pub is_fde : IsFde address cies entry f
+
+-- the FDEs of pieces, in their order: some of the pieces are left out
+abbrev pub FdesOf : ℕ → List Cie → List (Option Entry) → List Fde → Type 0
+FdesOf address cies [] fdes = fdes ≡ []
+FdesOf address cies (p ∷ ps) fdes = FdesOf address cies ps fdes ⊎ ((f : Fde) × (fs : List Fde) × (fdes ≡ f ∷ fs) × IsFdeIn address cies p f × FdesOf address cies ps fs)
+
+-- the FDEs of a section, in its order: those of all its pieces, after which the section ends or there is no piece
+pub record FdesOfSection (section : FrameSection) (address : ℕ) (bytes : List ℕ) (cies : List Cie) (fdes : List Fde) : Type 0 where
+  pub pieces : List (Option Entry)
+  pub rest : List ℕ
+  pub are : Pieces section (length bytes) bytes pieces rest
+  pub ends : (rest ≡ []) ⊎ NoPiece section (length bytes) rest
+  pub fdes_are : FdesOf address cies pieces fdes
+
+-- the same, sorted by their first addresses; those with one first address keep their order
+abbrev pub SortedFdesOf : FrameSection → ℕ → List ℕ → List Cie → List Fde → Type 0
+SortedFdesOf section address bytes cies fdes = (fs : List Fde) × FdesOfSection section address bytes cies fs × IsStableByKey (λ (f : Fde). f.start) nat_cmp fs fdes
 
 -- the FDE at the index is the first of those with the greatest first address up to the address
 pub record IsNearest (fdes : List Fde) (address index : ℕ) (f : Fde) : Type 0 where

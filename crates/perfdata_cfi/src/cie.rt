@@ -140,15 +140,15 @@ fn read_letter<'a>(
 }
 
 // What the letters after `z` say with the augmentation data, up to the first unknown letter.
-fn read_letters(letters: &[u8], data: &[u8]) -> Result<Augmentation, CfiError>
-    ensures { IfOk result (λ a. LettersAt letters.now data.now some_augmentation a) }
+fn read_letters(letters: &[u8], block: &[u8]) -> Result<Augmentation, CfiError>
+    ensures { IfOk result (λ a. LettersAt letters.now block.now some_augmentation a) }
 {
     let mut augmentation = Augmentation {
         has_data: true,
         pointer_encoding: 0,
         is_signal: false,
     };
-    let mut rest = data;
+    let mut rest = block;
     'letters: for byte in letters {
         match letter_of(*byte) {
             Some(letter) => rest = read_letter(letter, rest, &mut augmentation)?,

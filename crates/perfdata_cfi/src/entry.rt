@@ -1,7 +1,7 @@
 //! The entries of a section: their lengths, and the identifiers that tell CIEs and FDEs apart.
-ghost use Rattle.std.specs.Prelude.{◌≡◌, ◌≤◌, ◌<◌, ◌+◌, ◌==◌, length, IfOk, IfSome};
+ghost use Rattle.std.specs.Prelude.{◌≡◌, ◌≤◌, ◌<◌, ◌+◌, ◌==◌, length, IfOk, IfSome, OnErr};
 ghost use Rattle.perfdata_cfi.specs.Entries.{LengthAt, id_size as id_size_of, cie_id, EntryAt, PieceAt};
-ghost use Rattle.perfdata_cfi.specs.Entries.{cie_offset as cie_offset_of};
+ghost use Rattle.perfdata_cfi.specs.Entries.{cie_offset as cie_offset_of, NoLength, NoEntry, NoPiece};
 
 use crate::error::CfiError;
 use crate::numbers::read_fixed;
@@ -42,6 +42,7 @@ struct Length {
 // Reads an initial length, and returns it with the rest.
 fn read_length(bytes: &[u8]) -> Result<(Length, &[u8]), CfiError>
     ensures found { IfOk result (λ x. LengthAt bytes.now x.0.is_64_bit x.0.size x.1.now) }
+    ensures none { OnErr result (NoLength bytes.now) }
     ensures shorter { IfOk result (λ x. length x.1.now < length bytes.now) }
 {
     let (size, rest) = read_fixed(bytes, 4)?;
@@ -52,9 +53,9 @@ fn read_length(bytes: &[u8]) -> Result<(Length, &[u8]), CfiError>
         };
         return Ok((length, rest));
     }
-    let (size, after) = read_fixed(rest, 8)?;
+    let (wide, after) = read_fixed(rest, 8)?;
     let length = Length {
-        size,
+        size: wide,
         is_64_bit: true,
     };
     Ok((length, after))
@@ -117,6 +118,7 @@ fn read_contents<'a>(
     requires positive { 0 < initial.size }
     requires length_at { LengthAt bytes.now initial.is_64_bit initial.size mid.now }
     ensures found { IfOk result (λ x. EntryAt section size bytes.now x.0 x.1.now) }
+    ensures none { OnErr result (NoEntry section size bytes.now) }
     ensures shorter { IfOk result (λ x. length x.1.now < length bytes.now) }
     ensures body { IfOk result (λ x. length x.0.body.now ≤ x.0.end) }
 {
@@ -149,6 +151,7 @@ pub(crate) fn read_entry(
 ) -> Result<(Option<Entry<'_>>, &[u8]), CfiError>
     requires { length bytes.now ≤ size }
     ensures found { IfOk result (λ x. PieceAt section size bytes.now x.0 x.1.now) }
+    ensures none { OnErr result (NoPiece section size bytes.now) }
     ensures shorter { IfOk result (λ x. length x.1.now < length bytes.now) }
     ensures body { IfOk result (λ x. IfSome x.0 (λ e. length e.body.now ≤ e.end)) }
 {

@@ -1,6 +1,6 @@
 //! Numbers of fixed size and LEB128 numbers, at the start of some bytes.
 ghost use Rattle.std.specs.Prelude.{◌≡◌, ◌≤◌, ◌<◌, ◌+◌, ◌*◌, ◌%◌, ◌^◌, ◌∷◌, length, drop};
-ghost use Rattle.std.specs.Prelude.{IfOk, IfSome, SomeIff};
+ghost use Rattle.std.specs.Prelude.{IfOk, IfSome, OnErr, SomeIff};
 ghost use Rattle.perfdata_cfi.specs.Numbers.{fixed_value, FixedAt, IsLeb128, Uleb128At, Sleb128At, BlockAt};
 ghost use Rattle.perfdata_cfi.specs.Numbers.{uleb128_value as uleb128, sleb128_value as sleb128};
 
@@ -36,6 +36,7 @@ fn little_endian(bytes: &[u8]) -> u64
 pub(crate) fn read_fixed(bytes: &[u8], size: usize) -> Result<(u64, &[u8]), CfiError>
     requires { size ≤ 8 }
     ensures found { IfOk result (λ x. FixedAt size bytes.now x.0 x.1.now) }
+    ensures none { OnErr result (length bytes.now < size) }
     ensures shorter { IfOk result (λ x. length x.1.now ≤ length bytes.now) }
 {
     if bytes.len() < size {

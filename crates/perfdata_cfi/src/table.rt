@@ -1,8 +1,10 @@
 //! The entries of a section, in the order of the addresses that they describe.
 ghost use Rattle.std.specs.Prelude.{◌≡◌, ◌≤◌, ◌<◌, ◌^◌, ℕ, length, slice_range, slice_index_or, true, IfOk};
 ghost use Rattle.std.specs.Prelude.{IfSome, OnOk, All, false, nat_le, nat_lt};
-ghost use Rattle.std.specs.List.Sorted.{IsNonDecreasingBy, IsPartitionPoint, IsPermutation};
-ghost use Rattle.perfdata_cfi.specs.Tables.{IsCieIn, IsCieOf, IsFdeIn, IsFdeOf, IsFdeAt};
+ghost use Rattle.std.specs.List.Sorted.{IsNonDecreasingBy, IsPartitionPoint, IsPermutation, IsStableByKey};
+ghost use Rattle.std.specs.Ordering.{nat_cmp};
+ghost use Rattle.perfdata_cfi.specs.Tables.{IsCieIn, IsCieOf, IsFdeIn, IsFdeOf, IsFdeAt, FdesOfSection};
+ghost use Rattle.perfdata_cfi.specs.Tables.{SortedFdesOf};
 
 use crate::cie::{Cie, read_cie};
 use crate::entry::{Entry, FrameSection, read_entry};
@@ -58,6 +60,7 @@ impl FrameTable {
     ) -> Result<FrameTable, AllocError>
         ensures cies { IfOk result (λ t. All (IsCieOf section bytes.items) (cies_of t)) }
         ensures fdes { IfOk result (λ t. All (IsFdeOf section address bytes.items (cies_of t)) (fdes_of t)) }
+        ensures in_order { IfOk result (λ t. SortedFdesOf section address bytes.items (cies_of t) (fdes_of t)) }
         ensures bytes { IfOk result (λ t. bytes_of t ≡ bytes.items) }
     {
         let cies = read_cies(alloc, section, &bytes)?;
@@ -227,7 +230,8 @@ fn read_fdes(
     bytes: &[u8],
     cies: &[Cie],
 ) -> Result<Vec<Fde>, AllocError>
-    ensures { IfOk result (λ fdes. All (IsFdeOf section address bytes.now cies.now) fdes.items) }
+    ensures all { IfOk result (λ fdes. All (IsFdeOf section address bytes.now cies.now) fdes.items) }
+    ensures in_order { IfOk result (λ fdes. FdesOfSection section address bytes.now cies.now fdes.items) }
 {
     let mut fdes = Vec::new(alloc);
     let mut rest = bytes;
@@ -248,6 +252,7 @@ fn read_fdes(
 // Sorts FDEs by their first addresses. Those with one first address keep their order.
 fn sort_fdes(fdes: &mut Vec<Fde>) -> Result<(), AllocError>
     ensures sorted { OnOk result (IsNonDecreasingBy (λ f. f.start) fdes.new.items) }
+    ensures stable { IsStableByKey (λ f. f.start) nat_cmp fdes.old.items fdes.new.items }
     ensures permutation { IsPermutation fdes.old.items fdes.new.items }
 {
     fdes.sort_by_key(|fde| fde.start)
@@ -310,6 +315,7 @@ fn read_sorted_fdes(
     cies: &[Cie],
 ) -> Result<Vec<Fde>, AllocError>
     ensures all { IfOk result (λ fdes. All (IsFdeOf section address bytes.now cies.now) fdes.items) }
+    ensures in_order { IfOk result (λ fdes. SortedFdesOf section address bytes.now cies.now fdes.items) }
     ensures sorted { IfOk result (λ fdes. IsNonDecreasingBy (λ f. f.start) fdes.items) }
 {
     let mut fdes = read_fdes(alloc, section, address, bytes, cies)?;

@@ -5,4 +5,4 @@ use Rattle.perfdata_cfi.proofs.cie.read_letters.Given as goal
 
 -- whatever the remaining letters say after the ones read, all letters say
 abbrev pub invariant-letters : goal.invariant-letters
-invariant-letters l = (a : Augmentation) → LettersAt (drop l.byte-index l.letters) l.rest l.augmentation a → LettersAt l.letters l.data some_augmentation a
+invariant-letters l = (a : Augmentation) → LettersAt (drop l.byte-index l.letters) l.rest l.augmentation a → LettersAt l.letters l.block some_augmentation a

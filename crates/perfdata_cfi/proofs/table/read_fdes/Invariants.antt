@@ -1,12 +1,13 @@
-use Rattle.std.proofs.Common.{◌≤◌, length}
+use Rattle.std.proofs.Common.{◌≤◌, List, Option, length}
 use Rattle.std.specs.Prelude.{All}
-use Rattle.perfdata_cfi.specs.Tables.{Reaches, IsFdeOf}
+use Rattle.perfdata_cfi.specs.Tables.{Pieces, FdesOf, IsFdeOf}
+use Rattle.perfdata_cfi.specs.declared.entry.Entry.{Entry}
 use Rattle.perfdata_cfi.proofs.table.read_fdes.Given as goal
 
 abbrev pub invariant-entries : goal.invariant-entries
 invariant-entries l = record {
   within : length l.rest ≤ length l.bytes;
-  reached : Reaches l.section l.bytes l.rest;
+  run : (ps : List (Option Entry)) × Pieces l.section (length l.bytes) l.bytes ps l.rest × FdesOf l.address l.cies ps l.fdes.items;
   all : All (IsFdeOf l.section l.address l.bytes l.cies) l.fdes.items;
 }
 

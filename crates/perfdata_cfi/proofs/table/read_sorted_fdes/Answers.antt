@@ -4,4 +4,7 @@ use Rattle.perfdata_cfi.proofs.table.read_sorted_fdes.Goals as goal
 
 pub returns-clause-all : goal.returns-clause-all
 returns-clause-all c =
-    All-permutation (IsFdeOf c.args.section c.args.address c.args.bytes.now c.args.cies.now) c.in_ok-fdes.fdes.items c.sort_fdes.new.fdes.items c.sort_fdes.ensures.permutation c.in_ok-fdes.ensures
+    All-permutation (IsFdeOf c.args.section c.args.address c.args.bytes.now c.args.cies.now) c.in_ok-fdes.fdes.items c.sort_fdes.new.fdes.items c.sort_fdes.ensures.permutation c.in_ok-fdes.ensures.all
+
+pub returns-clause-in_order : goal.returns-clause-in_order
+returns-clause-in_order c = (c.in_ok-fdes.fdes.items, c.in_ok-fdes.ensures.in_order, c.sort_fdes.ensures.stable)
