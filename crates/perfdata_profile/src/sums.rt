@@ -1,7 +1,9 @@
 //! The sums of the samples of each stack.
 
 ghost use Rattle.std.specs.Prelude.{◌≡◌, ◌<◌, ◌^◌, ◌∷◌, [], ◌++◌, None, Some, List, Vec, slice_get};
-ghost use Rattle.std.specs.Prelude.{IfErr, IfSome, IfNone, OnErr, OnOk};
+ghost use Rattle.std.specs.Borrow.{Bor};
+ghost use Rattle.std.specs.Option.{option_map};
+ghost use Rattle.std.specs.Prelude.{length, IfErr, IfSome, IfNone, OnErr, OnOk};
 ghost use Rattle.std.specs.declared.alloc.Global.{Global};
 ghost use Rattle.indexmap.specs.IndexMap.{set_value_at};
 ghost use Rattle.indexmap.specs.IndexMap.{get_by, index_map_len};
@@ -126,5 +128,31 @@ impl StackSums {
         }
         self.total = total;
         Ok(())
+    }
+
+    /// Returns the number of stacks that were counted.
+    pub fn len(&self) -> usize
+        ensures { result ≡ length (entries_of self.now) }
+    {
+        self.entries.len()
+    }
+
+    /// Returns the stack with an index, and its sums, or `None` from [`StackSums::len`] on. Stacks are in the
+    /// order in which they were first counted.
+    pub fn get(&self, index: usize) -> Option<(&[NameId], Sums)>
+        ensures { option_map (λ (entry : Bor (List NameId) × Sums). (entry.0.now, entry.1)) result
+            ≡ slice_get (entries_of self.now) index }
+    {
+        match self.entries.get_index(index) {
+            Some((stack, sums)) => Some((stack.as_slice(), *sums)),
+            None => None,
+        }
+    }
+
+    /// Returns the sums of all samples.
+    pub fn total(&self) -> Sums
+        ensures { result ≡ total_of self.now }
+    {
+        self.total
     }
 }
