@@ -60,7 +60,8 @@ impl FrameTable {
     ) -> Result<FrameTable, AllocError>
         ensures cies { IfOk result (λ t. All (IsCieOf section bytes.items) (cies_of t)) }
         ensures fdes { IfOk result (λ t. All (IsFdeOf section address bytes.items (cies_of t)) (fdes_of t)) }
-        ensures in_order { IfOk result (λ t. SortedFdesOf section address bytes.items (cies_of t) (fdes_of t)) }
+        ensures in_order { IfOk result (λ t. SortedFdesOf section address bytes.items (cies_of t)
+            (fdes_of t)) }
         ensures bytes { IfOk result (λ t. bytes_of t ≡ bytes.items) }
     {
         let cies = read_cies(alloc, section, &bytes)?;

@@ -9,6 +9,6 @@ instructions-preserved c =
       within = omega (arith, shorter, c.instructions.invariant.within);
       leads = λ n runs. c.instructions.invariant.leads n (
         c.in_ok-instruction.instruction ∷ runs.0,
-        (c.if-state-address.true, (c.in_ok-instruction.after.now, moment_of c.step.new.state, c.in_ok-instruction.ensures.found, c.in_ok-step.ensures, runs.1)),
+        (omega (arith, c.if-state-address.true), (c.in_ok-instruction.after.now, moment_of c.step.new.state, c.in_ok-instruction.ensures.found, c.in_ok-step.ensures, runs.1)),
       );
     }
