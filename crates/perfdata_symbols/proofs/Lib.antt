@@ -9,5 +9,6 @@ pub mod MapLineLemmas
 pub mod NameLemmas
 pub mod OverlayLemmas
 pub mod PltLemmas
+pub mod StringLemmas
 pub mod SymbolLemmas
 pub mod TextLemmas

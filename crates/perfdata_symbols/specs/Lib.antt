@@ -6,6 +6,8 @@ pub mod Lines
 pub mod Overlay
 pub mod Plt
 pub mod PltRelocations
+pub mod Strings
+pub mod StringTable
 pub mod Symbols
 pub mod SymbolTable
 pub mod Text

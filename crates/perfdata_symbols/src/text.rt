@@ -41,6 +41,20 @@ pub(crate) fn prefixed_hex_number(text: &[u8]) -> Option<u64>
     hex_number(hex_digits(text))
 }
 
+// The offset of the first byte `separator` from an offset on, or the end of the bytes.
+pub(crate) fn part_end(bytes: &[u8], start: usize, separator: u8) -> usize
+    requires { start ≤ length bytes.now }
+    ensures start { start ≤ result }
+    ensures within { result ≤ length bytes.now }
+    ensures one { (k : ℕ) → start ≤ k → k < result → slice_index bytes.now k ≢ separator }
+    ensures ends { (result ≡ length bytes.now) ⊎ (slice_index bytes.now result ≡ separator) }
+{
+    match memchr(separator, &bytes[start..]) {
+        Some(len) => start + len,
+        None => bytes.len(),
+    }
+}
+
 // The offset of the end of the line that starts at this offset: its newline, or the end of the text.
 pub(crate) fn line_end(text: &[u8], start: usize) -> usize
     requires { start ≤ length text.now }
@@ -49,10 +63,7 @@ pub(crate) fn line_end(text: &[u8], start: usize) -> usize
     ensures one { (k : ℕ) → start ≤ k → k < result → slice_index text.now k ≢ 10 }
     ensures ends { (result ≡ length text.now) ⊎ (slice_index text.now result ≡ 10) }
 {
-    match memchr(b'\n', &text[start..]) {
-        Some(len) => start + len,
-        None => text.len(),
-    }
+    part_end(text, start, b'\n')
 }
 
 // The bytes before the first byte `separator`, and the number of bytes up to it, with it. `None` if there is

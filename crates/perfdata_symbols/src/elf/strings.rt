@@ -1,6 +1,9 @@
 //! String tables.
+ghost use Rattle.std.specs.Prelude.{◌≡◌, ◌≤◌, IfOk, length};
+ghost use Rattle.std.proofs.Props.{props};
+ghost use Rattle.perfdata_symbols.specs.Strings.{AreNuls, IsStringAt, IsStringEnd};
 
-use memchr::memchr_iter;
+use crate::text::part_end;
 use std::alloc::{AllocError, Global};
 
 // The bytes of a string table, and the offsets of its NULs, so that the end of a name is found in logarithmic
@@ -9,14 +12,29 @@ use std::alloc::{AllocError, Global};
 pub(crate) struct Strings {
     bytes: Vec<u8>,
     nuls: Vec<usize>,
+    ghost listed: { AreNuls bytes.items nuls.items (length bytes.items) } by { Prim.hlevel props },
+}
+
+// The offsets of the NULs.
+fn nuls_of(alloc: Global, bytes: &[u8]) -> Result<Vec<usize>, AllocError>
+    ensures { IfOk result (λ nuls. AreNuls bytes.now nuls.items (length bytes.now)) }
+{
+    let mut nuls = Vec::new(alloc);
+    let mut at = part_end(bytes, 0, 0);
+    'nuls: while at < bytes.len() {
+        nuls.push(at)?;
+        at = part_end(bytes, at + 1, 0);
+    }
+    Ok(nuls)
 }
 
 impl Strings {
-    pub(crate) fn new(alloc: Global, bytes: Vec<u8>) -> Result<Strings, AllocError> {
-        let mut nuls = Vec::new(alloc);
-        'nuls: for at in memchr_iter(0, &bytes) {
-            nuls.push(at)?;
-        }
+    ghost use Rattle.perfdata_symbols.specs.StringTable.{bytes_of};
+
+    pub(crate) fn new(alloc: Global, bytes: Vec<u8>) -> Result<Strings, AllocError>
+        ensures { IfOk result (λ s. bytes_of s ≡ bytes.items) }
+    {
+        let nuls = nuls_of(alloc, &bytes)?;
         Ok(Strings { bytes, nuls })
     }
 
@@ -25,7 +43,10 @@ impl Strings {
     }
 
     // The end of the string that starts at an offset: its NUL, or the end of the table.
-    pub(crate) fn end_of(&self, start: usize) -> usize {
+    pub(crate) fn end_of(&self, start: usize) -> usize
+        ensures within { result ≤ length (bytes_of self.now) }
+        ensures end { start ≤ length (bytes_of self.now) → IsStringEnd (bytes_of self.now) start result }
+    {
         let index = self.nuls.partition_point(|nul| *nul < start);
         if index < self.nuls.len() {
             self.nuls[index]
@@ -35,16 +56,19 @@ impl Strings {
     }
 
     // The string that starts at an offset. It is empty if the offset is not in the table.
-    pub(crate) fn at(&self, start: usize) -> &[u8] {
-        let end = self.end_of(start);
-        if start <= end && end <= self.bytes.len() {
-            &self.bytes[start..end]
-        } else {
-            &self.bytes[..0]
+    pub(crate) fn at(&self, start: usize) -> &[u8]
+        ensures { IsStringAt (bytes_of self.now) start result.now }
+    {
+        if start > self.bytes.len() {
+            return &self.bytes[..0];
         }
+        let end = self.end_of(start);
+        &self.bytes[start..end]
     }
 
-    pub(crate) fn into_bytes(self) -> Vec<u8> {
+    pub(crate) fn into_bytes(self) -> Vec<u8>
+        ensures { result.items ≡ bytes_of self }
+    {
         let Strings { bytes, nuls: _ } = self;
         bytes
     }
