@@ -1,6 +1,6 @@
 //! What template parameters stand for, and the shapes of types.
 
-use crate::node::{Arena, Node, NodeId, NodeList, Wrapper};
+use crate::node::{Arena, Node, NodeList, Wrapper};
 use crate::printer::{Found, Place, Printer, Scope, ScopeId, Shape};
 use perfdata_mangled::Failure;
 

@@ -3,7 +3,7 @@ ghost use Rattle.std.specs.Prelude.{◌≡◌};
 ghost use Rattle.perfdata_mangled.specs.Text.{limit_of};
 
 use crate::node::{Arena, ByteRange, LiteralForm, Node, NodeId, Qualifier, Wrapper};
-use crate::printer::{Place, Printer, ScopeId, Shape, Task};
+use crate::printer::{Place, Printer, Shape, Task};
 use crate::tables::{qualifier_text, wrapper_text};
 use perfdata_mangled::{Failure, Text};
 

@@ -1,6 +1,6 @@
 //! Types.
 
-use crate::node::{ByteRange, LiteralForm, Node, NodeId, Qualifier};
+use crate::node::{ByteRange, LiteralForm, Node, Qualifier};
 use crate::reader::{Reader, Task, Unary, is_list_end, peek_second, read_sequence};
 use crate::tables::{builtin_type, extended_type, function_qualifier_of, qualifier_of, wrapper_of};
 use perfdata_mangled::{Cursor, Failure};
