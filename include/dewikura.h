@@ -609,6 +609,13 @@ enum dewikura_kind {
     DEWIKURA_KIND_JITDUMP = 3 // a jitdump: its magic
 };
 
+// ---- styles of texts (dewikura_demangle)
+
+enum dewikura_style {
+    DEWIKURA_STYLE_NAME = 0,     // the name of a function or an object
+    DEWIKURA_STYLE_SIGNATURE = 1 // for C++ also the result and the parameters, and suffixes of the compiler
+};
+
 // ---- DSO kinds (dewikura_build_id.dso_kind)
 
 enum dewikura_dso_kind {
@@ -741,6 +748,8 @@ DEWIKURA_NONNULL dewikura_status dewikura_read_jit_unwinding_raw(const void *dat
     struct dewikura_jit_unwinding *unwinding);
 DEWIKURA_NONNULL dewikura_status dewikura_read_jit_debug_info_raw(const void *data, size_t size, uint64_t offset,
     uint64_t *code_address, struct dewikura_jit_debug_entry *entries, size_t capacity, uint64_t *total);
+DEWIKURA_NONNULL dewikura_status dewikura_demangle_raw(const char *name, size_t size, uint32_t style, char *text,
+    size_t capacity, uint64_t *text_size);
 
 // ---- calls
 
@@ -1165,6 +1174,25 @@ DEWIKURA_NODISCARD static inline dewikura_status dewikura_read_jit_debug_info(co
     return dewikura_read_jit_debug_info_raw(data ? data : &no_data, size, offset,
         code_address ? code_address : &unused_address, entries ? entries : &no_entry, capacity,
         total ? total : &unused_total);
+}
+
+// Writes the text of a mangled name of C++ (Itanium C++ ABI) or of Rust, up to `capacity`, without a NUL. `style` is
+// DEWIKURA_STYLE_NAME or another number, which is as DEWIKURA_STYLE_SIGNATURE. *text_size is the size of the whole text
+// in bytes, and 0 for a name without a text, which isn't mangled or isn't in these grammars. `text_size` may be NULL.
+//
+// A name has no text unless it starts with `_Z` or `_R` and has at most 16,384 bytes. A text has at most 128 bytes for
+// each byte of the name, and at most 65,536. It is that of `c++filt -p -i` for DEWIKURA_STYLE_NAME, and that of
+// `c++filt -i` for DEWIKURA_STYLE_SIGNATURE (GNU binutils 2.40).
+//
+// Returns DEWIKURA_OK, or DEWIKURA_OUT_OF_MEMORY: then *text_size is 0, and the array is unchanged.
+DEWIKURA_NODISCARD static inline dewikura_status dewikura_demangle(const char *name, size_t size, uint32_t style,
+    char *text, size_t capacity, uint64_t *text_size)
+{
+    const char no_name = 0;
+    char no_text;
+    uint64_t unused;
+    return dewikura_demangle_raw(name ? name : &no_name, size, style, text ? text : &no_text, capacity,
+        text_size ? text_size : &unused);
 }
 
 #ifdef __cplusplus

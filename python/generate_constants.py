@@ -8,6 +8,7 @@ TOP = pathlib.Path(__file__).resolve().parent
 ENUMS = [
     ("Status", "dewikura_status_code", "DEWIKURA_", "The status of a call."),
     ("InputKind", "dewikura_kind", "DEWIKURA_KIND_", "The kind of an input by its first bytes."),
+    ("Style", "dewikura_style", "DEWIKURA_STYLE_", "What the text of a mangled name contains."),
     ("RecordType", "dewikura_record_type", "DEWIKURA_RECORD_", "The type of a record."),
     ("Feature", "dewikura_feature", "DEWIKURA_FEATURE_", "The number of a feature."),
     ("EventType", "dewikura_event_type", "DEWIKURA_TYPE_", "The type of an event attribute."),

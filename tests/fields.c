@@ -1033,6 +1033,44 @@ static void check_kinds(void)
     CHECK(dewikura_input_kind("DTij", 4), DEWIKURA_KIND_NONE);
 }
 
+// A name whose text has 22 bytes, and its signature six more.
+static void check_names(void)
+{
+    static const char name[] = "_ZNK9LoadBNode11memory_typeEv", wanted[] = "LoadBNode::memory_type() const";
+    char text[64];
+    uint64_t text_size = 1;
+    memset(text, 'x', sizeof text);
+    CHECK(dewikura_demangle(name, strlen(name), DEWIKURA_STYLE_NAME, text, sizeof text, &text_size), DEWIKURA_OK);
+    CHECK(text_size, 22);
+    CHECK(memcmp(text, wanted, 22), 0);
+    CHECK(text[22], 'x');
+    CHECK(dewikura_demangle(name, strlen(name), DEWIKURA_STYLE_SIGNATURE, text, 24, &text_size), DEWIKURA_OK);
+    CHECK(text_size, 30);
+    CHECK(memcmp(text, wanted, 24), 0);
+    CHECK(text[24], 'x');
+    CHECK(dewikura_demangle(name, strlen(name), DEWIKURA_STYLE_SIGNATURE, NULL, 0, &text_size), DEWIKURA_OK);
+    CHECK(text_size, 30);
+    CHECK(dewikura_demangle(name, strlen(name), DEWIKURA_STYLE_NAME, text, sizeof text, NULL), DEWIKURA_OK);
+    // Rust, of today and of before
+    CHECK(dewikura_demangle("_RNvC3foo3bar", 13, DEWIKURA_STYLE_NAME, text, sizeof text, &text_size), DEWIKURA_OK);
+    CHECK(text_size, 8);
+    CHECK(memcmp(text, "foo::bar", 8), 0);
+    CHECK(dewikura_demangle("_ZN3foo3bar17h70f7ef1d485fa773E", 31, DEWIKURA_STYLE_NAME, text, sizeof text, &text_size), DEWIKURA_OK);
+    CHECK(text_size, 8);
+    CHECK(memcmp(text, "foo::bar", 8), 0);
+    // No names
+    memset(text, 'x', sizeof text);
+    CHECK(dewikura_demangle("main", 4, DEWIKURA_STYLE_NAME, text, sizeof text, &text_size), DEWIKURA_OK);
+    CHECK(text_size, 0);
+    text_size = 1;
+    CHECK(dewikura_demangle(name, 10, DEWIKURA_STYLE_NAME, text, sizeof text, &text_size), DEWIKURA_OK);
+    CHECK(text_size, 0);
+    text_size = 1;
+    CHECK(dewikura_demangle(name, 0, DEWIKURA_STYLE_SIGNATURE, text, sizeof text, &text_size), DEWIKURA_OK);
+    CHECK(text_size, 0);
+    CHECK(text[0], 'x');
+}
+
 static void check_empty(void)
 {
     struct dewikura_feature_set set;
@@ -1061,6 +1099,7 @@ static void check_empty(void)
     CHECK(dewikura_read_jit_records(NULL, 0, 0, NULL, 0, NULL, NULL), DEWIKURA_JIT_TRUNCATED_HEADER);
     CHECK(dewikura_read_jit_load(NULL, 0, 0, &load), DEWIKURA_JIT_TRUNCATED_HEADER);
     CHECK(dewikura_read_jit_debug_info(NULL, 0, 0, NULL, NULL, 0, NULL), DEWIKURA_JIT_TRUNCATED_HEADER);
+    CHECK(dewikura_demangle(NULL, 0, DEWIKURA_STYLE_NAME, NULL, 0, NULL), DEWIKURA_OK);
 }
 
 // Sorts records with random times, of which some are none: all are there once, ascending, and those with one time in their old order.
@@ -1148,6 +1187,7 @@ int main(void)
     check_file2_section();
     check_jitdump();
     check_kinds();
+    check_names();
     check_empty();
     check_sort();
     check_texts();

@@ -78,6 +78,20 @@ class RecordingTest(unittest.TestCase):
         for data in (b"", b"DTi", header(16, "little")[:15], b"PERFILE3" + bytes(8)):
             self.assertEqual(dewikura.input_kind(data), dewikura.InputKind.NONE)
 
+    def test_demangle(self):
+        # The texts are those of c++filt -p -i and c++filt -i.
+        for name, text, signature in (
+                ("_ZNK9LoadBNode11memory_typeEv", "LoadBNode::memory_type", "LoadBNode::memory_type() const"),
+                ("_Z3asgIidEDTaSfp_fp0_ET_T0_", "asg<int, double>", "decltype ({parm#1}={parm#2}) asg<int, double>(int, double)"),
+                ("_ZN3std3net3tcp9TcpStream13write_timeout17h70f7ef1d485fa773E", *2 * ("std::net::tcp::TcpStream::write_timeout",)),
+                ("_RNvMsm_NtCsdadwybgsbvk_12rustc_middle2tyNtB5_4Term8is_infer", *2 * ("<rustc_middle::ty::Term>::is_infer",))):
+            self.assertEqual((dewikura.demangle(name), dewikura.demangle(name, parameters=True)), (text, signature))
+            self.assertEqual(dewikura.demangle(name.encode()), text)
+        for name in ("", b"", "main", "_Z", "_R", "_ZN", "\udcff", b"_Z\xff", "_ZNK9LoadBNode", "_Z9" + 16384 * "a"):
+            self.assertIsNone(dewikura.demangle(name))
+        # The text doesn't fit into the array of the first call.
+        self.assertEqual(dewikura.demangle("_Z9000" + 9000 * "a"), 9000 * "a")
+
     def test_build_ids(self):
         with dewikura.open(CALLS) as recording:
             found = sorted((entry.path, entry.build_id.hex(), entry.kind.name) for entry in recording.build_ids)

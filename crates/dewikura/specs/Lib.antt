@@ -1,2 +1,3 @@
 -- The modules that contracts use.
 pub mod Numbers
+pub mod Demangling

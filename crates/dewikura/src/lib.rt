@@ -1,10 +1,11 @@
-//! C exports of the calls of `perfdata_arrays` and `perfdata_samples`; `include/dewikura.h` declares them.
+//! C exports of the calls of `perfdata_arrays`, `perfdata_samples` and `perfdata_demangle`;
+//! `include/dewikura.h` declares them.
 //!
 //! The names end in `_raw` where a call takes pointers: no pointer may be NULL. The functions of the header
 //! that have the names without `_raw` accept NULL.
 #![tactic(auto)]
 
-ghost use Rattle.std.specs.Prelude.{◌≡◌, ◌-◌, ◌++◌, ◌∷◌, [], length, take};
+ghost use Rattle.std.specs.Prelude.{◌≡◌, ◌<◌, ◌-◌, ◌++◌, ◌∷◌, [], length, take};
 ghost use Rattle.std.specs.Bool.{nat_eq};
 ghost use Rattle.std.specs.List.{starts_with};
 ghost use Rattle.perfdata_base.specs.declared.raw.Endianness.TheVariants.{BigEndian};
@@ -24,6 +25,7 @@ ghost use Rattle.perfdata_arrays.specs.Sorting.{SortsByTime};
 ghost use Rattle.perfdata_arrays.specs.Status.{IsCodeOf};
 ghost use Rattle.perfdata_arrays.specs.Strings.{ReadsString};
 ghost use Rattle.perfdata_arrays.specs.SymbolTables.{ReadsSymbolTables};
+ghost use Rattle.perfdata_demangle.specs.Prefix.{IsMangled};
 ghost use Rattle.perfdata_samples.specs.CounterPages.{ReadsCounterPage, ReadsPipeCounters};
 ghost use Rattle.perfdata_samples.specs.Details.{ReadsDetails, format_of_attr};
 ghost use Rattle.perfdata_samples.specs.MappingPages.{ReadsMappingPage, ReadsPipeMappings};
@@ -31,7 +33,10 @@ ghost use Rattle.perfdata_samples.specs.Pages.{ReadsSamplePage};
 ghost use Rattle.perfdata_samples.specs.Pipes.{ReadsPipeSamples};
 ghost use Rattle.perfdata_samples.specs.Status.{IsSamplesCodeOf, all_code_text};
 ghost use Rattle.perfdata_samples.specs.TaskPages.{ReadsPipeTasks, ReadsTaskPage};
+ghost use Rattle.dewikura.specs.Demangling.{Demangles};
 ghost use Rattle.dewikura.specs.Numbers.{endian_from, number_of_bool, IsNumberOfKind};
+
+mod demangling;
 
 use linux_perf_data::Endianness;
 use linux_perf_data::in_memory::entries::RecordEntry;
@@ -50,6 +55,7 @@ use perfdata_arrays::{
     attrs, build_ids, byte_order, feature_set, features, jit, jit_bodies, jit_debug, meta_info,
     records, sort, strings, symbol_tables,
 };
+use perfdata_demangle::Style;
 use perfdata_samples::counters::CounterEntry;
 use perfdata_samples::details::SampleDetails;
 use perfdata_samples::frame::FrameEntry;
@@ -71,6 +77,15 @@ fn endian_of(is_big_endian: u32) -> Endianness
         Endianness::LittleEndian
     } else {
         Endianness::BigEndian
+    }
+}
+
+// The style of texts is that of names for 0, and that of signatures for all other values.
+fn style_of(style: u32) -> Style {
+    if style == 0 {
+        Style::Name
+    } else {
+        Style::Signature
     }
 }
 
@@ -552,5 +567,24 @@ pub extern "C" fn dewikura_read_jit_debug_info_raw(
     let outcome = jit_debug::jit_debug_info(alloc, input, offset, entries);
     *code_address = outcome.code_address;
     *count = outcome.count;
+    outcome.status.code()
+}
+
+/// Writes the text of a mangled name, as `Demangler::demangle` makes it: without parameters for style 0, with
+/// them for all other numbers. `size` is that of the whole text, and 0 for a name without a text.
+#[unsafe(no_mangle)]
+pub extern "C" fn dewikura_demangle_raw(
+    alloc: Global,
+    name: &[u8],
+    style: u32,
+    text: &mut [u8],
+    size: &mut u64,
+) -> u32
+    ensures written { IsCodeOf result (λ s. Demangles name.now text.old size.new s text.new) }
+    ensures mangled { (¬ IsMangled name.now) → (size.new ≡ 0) × (result ≡ 0) }
+    ensures long { 16384 < length name.now → (size.new ≡ 0) × (result ≡ 0) }
+{
+    let outcome = demangling::demangle(alloc, name, style_of(style), text);
+    *size = outcome.size;
     outcome.status.code()
 }

@@ -455,4 +455,5 @@ extern "C" {
     pub fn dewikura_read_jit_unwinding_raw(data: *const u8, size: usize, offset: u64, unwinding: *mut JitUnwinding) -> u32;
     pub fn dewikura_read_jit_debug_info_raw(data: *const u8, size: usize, offset: u64, code_address: *mut u64, entries: *mut JitDebugEntry,
         capacity: usize, total: *mut u64) -> u32;
+    pub fn dewikura_demangle_raw(name: *const u8, size: usize, style: u32, text: *mut u8, capacity: usize, text_size: *mut u64) -> u32;
 }

@@ -1,5 +1,5 @@
 //! A safe wrapper of the calls that list the records of perf.data files, perf pipes and jitdumps, and the samples, tasks, mappings and
-//! counter values of recordings.
+//! counter values of recordings, and of the call that demangles names.
 //!
 //! A slice of Rust is never NULL and never changes while it is borrowed, so each call meets the obligations of `include/dewikura.h`.
 pub mod declarations;
@@ -271,6 +271,31 @@ pub fn jit_records(input: &[u8], start_offset: u64) -> (Vec<JitRecord>, u64, Res
         records.extend_from_slice(&array[..count as usize]);
         if status != 0 || (count as usize) < array.len() {
             return (records, next_offset, result_of(status));
+        }
+    }
+}
+
+/// What the text of a mangled name contains.
+#[derive(Clone, Copy, Debug, PartialEq, Eq)]
+pub enum Style {
+    /// The name (`DEWIKURA_STYLE_NAME`).
+    Name = 0,
+    /// For C++ also the result and the parameters, and suffixes of the compiler (`DEWIKURA_STYLE_SIGNATURE`).
+    Signature = 1,
+}
+
+/// Returns the text of a mangled name of C++ or of Rust, or `None` for a name that has none. Fails if memory runs out.
+pub fn demangle(name: &[u8], style: Style) -> Result<Option<Vec<u8>>, Error> {
+    let mut text = vec![0; 4096];
+    loop {
+        let mut size = 0;
+        // SAFETY: the pointers are those of slices, with their lengths; the array is initialized.
+        let status = unsafe { dewikura_demangle_raw(name.as_ptr(), name.len(), style as u32, text.as_mut_ptr(), text.len(), &mut size) };
+        result_of(status)?;
+        let is_complete = size as usize <= text.len();
+        text.resize(size as usize, 0);
+        if is_complete {
+            return Ok((size != 0).then_some(text));
         }
     }
 }

@@ -8,6 +8,7 @@ from .constants import (AttrFlag, BodyError, CpuMode, DsoKind, EventType, Featur
 from .errors import FormatError, PerfDataError, TruncatedError, UnsupportedError
 from .jitdump import (JitDebugEntry, JitDebugInfo, JitDump, JitHeader, JitLoad, JitMove, JitRecords, JitUnwinding, jitdump_from_buffer,
                       open_jitdump)
+from .names import demangle
 from .recording import (Attribute, BuildId, Counters, Frames, Kind, Mappings, Recording, Records, Samples, Symbol, SymbolFile, Tasks,
                         from_buffer, input_kind, open)
 
@@ -18,6 +19,6 @@ __all__ = [
     "Frame", "FrameContext", "Frames", "InputKind", "JitDebugEntry", "JitDebugInfo", "JitDump", "JitHeader", "JitLoad", "JitMove",
     "JitRecord", "JitRecordType", "JitRecords", "JitUnwinding", "Kind", "Mapping", "Mappings", "PerfDataError", "ReadFormat", "Record",
     "RecordType", "Recording", "Records", "Sample", "SampleDetails", "SampleType", "Samples", "Status", "Symbol", "SymbolFile",
-    "SymbolFileType", "Task", "Tasks", "TruncatedError", "UnsupportedError", "from_buffer", "input_kind", "jitdump_from_buffer",
-    "library_version", "open", "open_jitdump",
+    "SymbolFileType", "Task", "Tasks", "TruncatedError", "UnsupportedError", "demangle", "from_buffer", "input_kind",
+    "jitdump_from_buffer", "library_version", "open", "open_jitdump",
 ]

@@ -414,6 +414,7 @@ _EXPORTS = {
     "dewikura_read_jit_move_raw": (u32, [c_void_p, c_size_t, u64, POINTER(JitMove)]),
     "dewikura_read_jit_unwinding_raw": (u32, [c_void_p, c_size_t, u64, POINTER(JitUnwinding)]),
     "dewikura_read_jit_debug_info_raw": (u32, [c_void_p, c_size_t, u64, POINTER(u64), POINTER(JitDebugEntry), c_size_t, POINTER(u64)]),
+    "dewikura_demangle_raw": (u32, [c_void_p, c_size_t, u32, c_void_p, c_size_t, POINTER(u64)]),
 }
 
 

@@ -53,6 +53,7 @@ read_jit_load = _library.dewikura_read_jit_load_raw
 read_jit_move = _library.dewikura_read_jit_move_raw
 read_jit_unwinding = _library.dewikura_read_jit_unwinding_raw
 read_jit_debug_info = _library.dewikura_read_jit_debug_info_raw
+demangle = _library.dewikura_demangle_raw
 
 
 def library_version() -> "tuple[int, int, int]":

@@ -43,6 +43,13 @@ class InputKind(enum.IntEnum):
     JITDUMP = 3
 
 
+class Style(enum.IntEnum):
+    """What the text of a mangled name contains."""
+
+    NAME = 0
+    SIGNATURE = 1
+
+
 class RecordType(enum.IntEnum):
     """The type of a record."""
 
