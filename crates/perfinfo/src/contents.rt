@@ -2,6 +2,7 @@
 //! records, switches.
 use crate::counting::{count_one, to_vec};
 use crate::escape::{Escaped, Hex};
+use crate::name_records::NameRecords;
 use crate::report::{Report, Spaced};
 use linux_perf_data::Error;
 use linux_perf_data::event::RawEventRecord;
@@ -9,14 +10,16 @@ use linux_perf_data::raw::RawData;
 use perfdata_events::call_chain::CallChain;
 use perfdata_events::context_switch::ContextSwitchRecord;
 use perfdata_events::event::EventRecord;
+use perfdata_events::fields::task::Task;
 use perfdata_events::format::EventFormat;
 use perfdata_events::mmap2::{Mmap2FileId, Mmap2Record};
 use perfdata_events::read_values::ReadValues;
 use perfdata_events::sample::SampleRecord;
-use perfdata_events::task::{CommOrExecRecord, ForkOrExitRecord};
+use perfdata_spaces::address_spaces::AddressSpaces;
 use std::alloc::{AllocError, Global};
 use std::cmp::Reverse;
 use std::collections::BTreeMap;
+use std::mem;
 
 // Maximum number of mapped files in the report.
 const MAX_FILES: usize = 20;
@@ -24,7 +27,7 @@ const MAX_FILES: usize = 20;
 // A thread of a process.
 #[derive(Drop)]
 struct Thread {
-    /// The last name, which a FORK copies from the parent and a COMM changes; empty if neither was read.
+    /// The name after the last COMM or FORK of the thread; empty if there is none.
     name: Vec<u8>,
     samples: u64,
 }
@@ -76,6 +79,8 @@ struct SwitchCounts {
 #[derive(Drop)]
 pub struct Contents {
     processes: BTreeMap<i32, Process>,
+    /// The records that name threads, which `name_threads` applies.
+    name_records: NameRecords,
     samples_by_cpu: BTreeMap<u32, u64>,
     frames: u64,
     /// Number of counter values in samples.
@@ -99,6 +104,7 @@ impl Contents {
     pub(crate) fn new(alloc: Global) -> Contents {
         Contents {
             processes: BTreeMap::new(alloc),
+            name_records: NameRecords::new(alloc),
             samples_by_cpu: BTreeMap::new(alloc),
             frames: 0,
             counter_values: 0,
@@ -122,10 +128,11 @@ impl Contents {
         &mut self,
         alloc: Global,
         format: &EventFormat,
+        time: Option<u64>,
         record: &RawEventRecord<'_>,
     ) -> Result<(), AllocError> {
         match format.parse(record) {
-            Ok(event) => self.add_event(alloc, &event),
+            Ok(event) => self.add_event(alloc, time, record.misc, &event),
             Err(_) => {
                 self.unparsed = self.unparsed.saturating_add(1);
                 Ok(())
@@ -134,11 +141,17 @@ impl Contents {
     }
 
     // Adds a record by its type.
-    fn add_event(&mut self, alloc: Global, event: &EventRecord<'_>) -> Result<(), AllocError> {
+    fn add_event(
+        &mut self,
+        alloc: Global,
+        time: Option<u64>,
+        misc: u16,
+        event: &EventRecord<'_>,
+    ) -> Result<(), AllocError> {
         match event {
             EventRecord::Sample(sample) => self.add_sample(alloc, sample),
-            EventRecord::Comm(comm) => self.set_name(alloc, comm),
-            EventRecord::Fork(fork) => self.copy_name(alloc, fork),
+            EventRecord::Comm(comm) => self.name_records.add_comm(alloc, time, misc, comm),
+            EventRecord::Fork(fork) => self.name_records.add_fork(time, misc, fork),
             EventRecord::Mmap(mapping) => self.add_mapping(alloc, mapping.path),
             EventRecord::Mmap2(mapping) => self.add_mapping2(alloc, mapping),
             EventRecord::Lost(lost) => {
@@ -198,38 +211,24 @@ impl Contents {
     }
 
     // Names a thread.
-    fn name_thread(
-        &mut self,
-        alloc: Global,
-        pid: i32,
-        tid: i32,
-        name: Vec<u8>,
-    ) -> Result<(), AllocError> {
-        self.process(alloc, pid)?.thread(alloc, tid)?.name = name;
+    fn name_thread(&mut self, alloc: Global, task: Task, name: &[u8]) -> Result<(), AllocError> {
+        let name = Vec::from_slice(alloc, name)?;
+        self.process(alloc, task.pid)?.thread(alloc, task.tid)?.name = name;
         Ok(())
     }
 
-    // Names a thread as a COMM record does.
-    fn set_name(&mut self, alloc: Global, comm: &CommOrExecRecord<'_>) -> Result<(), AllocError> {
-        let name = to_vec(alloc, comm.name)?;
-        self.name_thread(alloc, comm.pid, comm.tid, name)
-    }
-
-    // Returns the name of a thread, or an empty one.
-    fn name_of(&self, pid: i32, tid: i32) -> &[u8] {
-        match self.processes.get(&pid) {
-            Some(process) => process.name_of(tid),
-            None => &[],
+    /// Names the threads by the COMM and FORK records, in order of time. Nothing is mapped in the address
+    /// spaces, since no other record is applied.
+    pub(crate) fn name_threads(&mut self, alloc: Global) -> Result<(), AllocError> {
+        let records = mem::replace(&mut self.name_records, NameRecords::new(alloc));
+        let records = records.into_order()?;
+        let mut spaces = AddressSpaces::new(alloc);
+        for record in records.iter() {
+            spaces.apply(record.misc, &record.event())?;
+            let name = spaces.comm(record.task.tid).unwrap_or(&[]);
+            self.name_thread(alloc, record.task, name)?;
         }
-    }
-
-    // Names a new thread as its parent, unless it has a name.
-    fn copy_name(&mut self, alloc: Global, fork: &ForkOrExitRecord) -> Result<(), AllocError> {
-        if !self.name_of(fork.pid, fork.tid).is_empty() {
-            return Ok(());
-        }
-        let name = Vec::from_slice(alloc, self.name_of(fork.ppid, fork.ptid))?;
-        self.name_thread(alloc, fork.pid, fork.tid, name)
+        Ok(())
     }
 
     // Adds a mapping of a file.

@@ -9,6 +9,7 @@ mod escape;
 mod events;
 mod header_info;
 mod jit;
+mod name_records;
 mod names;
 mod records;
 mod report;

@@ -114,7 +114,7 @@ impl RecordCounts {
         record: &RawEventRecord<'_>,
     ) -> Result<(), AllocError> {
         if let Some(format) = format {
-            self.contents.add(alloc, &format, record)?;
+            self.contents.add(alloc, &format, timestamp, record)?;
         }
         self.count_for_event(index, record.record_type, timestamp)
     }
@@ -173,14 +173,26 @@ impl RecordCounts {
         Ok(())
     }
 
-    /// Adds the remaining records until the end or the first error.
+    // Adds the remaining records until the end or the first error, and names the threads.
+    fn add_all_and_names<R: Source>(
+        &mut self,
+        alloc: Global,
+        reader: &mut PerfFileReader<R>,
+        progress: &mut Progress<'_>,
+    ) -> Result<(), Error> {
+        let added = self.add_all(alloc, reader, progress);
+        self.contents.name_threads(alloc)?;
+        added
+    }
+
+    /// Adds the remaining records until the end or the first error, and names the threads.
     pub(crate) fn read<R: Source>(
         &mut self,
         alloc: Global,
         reader: &mut PerfFileReader<R>,
         progress: &mut Progress<'_>,
     ) -> Result<(), InputError> {
-        let read = self.add_all(alloc, reader, progress);
+        let read = self.add_all_and_names(alloc, reader, progress);
         let position = Position {
             records: self.records,
             offset: Some(self.end),
