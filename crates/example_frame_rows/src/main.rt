@@ -2,7 +2,7 @@
 //! input.
 //!
 //! A line `section eh_frame x86-64 ADDRESS` begins a section, whose bytes are in the lines after it. Then
-//! `fdes` prints the FDEs, and `row ADDRESS` the row at an address. Lines that begin with `#` are comments.
+//! `fdes` prints the FDEs, and `at ADDRESS` the row at an address. Lines that begin with `#` are comments.
 //! `debug_frame` is the other section, `aarch64` the other machine. Numbers are hexadecimal.
 #![tactic(auto)]
 
@@ -158,7 +158,7 @@ fn main(rt: HostRuntime) -> anyhow::Result<()> {
         if word == "section" {
             section = section_of(rt.alloc(), line);
             is_read = false;
-        } else if word == "row" || word == "fdes" {
+        } else if word == "at" || word == "fdes" {
             if !is_read {
                 table = table_of(rt.alloc(), &section)?;
                 is_read = true;

@@ -31,7 +31,7 @@ abbrev pub cie_offset : FrameSection → ℕ → ℕ → Option ℕ
 cie_offset sections.EhFrame id_offset id = (if nat_le id id_offset then Some (id_offset - id) else None)
 cie_offset sections.DebugFrame id_offset id = Some id
 
--- the bytes, the end of a section of `size` bytes, start with the entry: a length that is not 0, and so many bytes, the first of
+-- the bytes, the end of a section of `size` bytes, start with the entry: a length that is not 0, and that number of bytes, the first of
 -- which are the identifier
 pub record EntryAt (section : FrameSection) (size : ℕ) (bytes : List ℕ) (e : Entry) (rest : List ℕ) : Type 0 where
   pub is_64 : Bool

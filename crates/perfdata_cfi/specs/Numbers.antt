@@ -46,7 +46,7 @@ pub record Sleb128At (bytes : List ℕ) (n : ℤ) (rest : List ℕ) : Type 0 whe
   pub value : n ≡ sleb128_value (take size bytes)
   pub after : rest ≡ drop size bytes
 
--- the bytes start with an unsigned LEB128 number and a block of so many bytes
+-- the bytes start with an unsigned LEB128 number and a block of that number of bytes
 pub record BlockAt (bytes block rest : List ℕ) : Type 0 where
   pub size : ℕ
   pub mid : List ℕ
