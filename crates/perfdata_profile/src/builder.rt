@@ -99,7 +99,7 @@ fn push_frames<R: Resolver>(
     ensures grows { Grows (names_of names.old) (names_of names.new) }
     ensures ok { OnOk result ((before : List Applied) → Follows before spaces.now →
         PushesIds
-            (NamesFrame R.names_thread R.names_frame before (task_of sample.now).pid sample.now.timestamp)
+        (NamesFrame R.names_thread R.names_frame before (task_of sample.now).pid sample.now.timestamp)
         (names_of names.new) (frames_in misc sample.now) stack.old.items stack.new.items) }
 {
     let pid = task_of(sample).pid;
