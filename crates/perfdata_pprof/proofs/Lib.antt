@@ -1,0 +1,5 @@
+mod Decoding
+mod Numbers
+mod Reading
+mod Selecting
+mod Writing
