@@ -1,3 +1,4 @@
+pub mod CrcLemmas
 pub mod CutLemmas
 pub mod EntryLemmas
 pub mod KernelLineLemmas

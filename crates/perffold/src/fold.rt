@@ -8,19 +8,20 @@ use crate::records::Records;
 use crate::selection::Selection;
 use crate::symbols::FileCounts;
 use crate::symbols::kernel_list::NoList;
+use crate::unwinding::{EndCounts, Unwinding, set_own_frames};
 use bitflags::Flags;
 use linux_perf_data::attr::PerfEventAttr;
 use linux_perf_data::event::{RawEventRecord, RecordType};
-use linux_perf_data::{Error, PerfFile, PerfFileRecord, UserRecordType};
+use linux_perf_data::{Error, PerfFile, PerfFileRecord, RawUserRecord, UserRecordType};
 use perfdata_cli::error::InputError;
 use perfdata_cli::position::Position;
 use perfdata_events::bits::EventFlags;
 use perfdata_events::event::EventRecord;
 use perfdata_events::fields::task::Task;
 use perfdata_events::sample::SampleRecord;
-use perfdata_spaces::address_spaces::{AddressSpaces, context_of_mode};
+use perfdata_spaces::address_spaces::AddressSpaces;
 use perfdata_stacks::counts::{CountError, StackCounts};
-use perfdata_stacks::frames::SampleFrames;
+use perfdata_stacks::frames::SampleFrame;
 use perfdata_stacks::line::push_comm;
 use std::alloc::{AllocError, Global};
 use std::collections::HashMap;
@@ -39,6 +40,8 @@ pub(crate) struct Folder<'a> {
     spaces: AddressSpaces,
     names: NameTable,
     frame_names: FrameNames<'a>,
+    /// What unwinds samples, unless an option says that none is unwound.
+    unwinding: Option<Unwinding<'a>>,
     /// Whether the metadata of the recording was read for its symbols.
     has_metadata: bool,
     /// The sum of the weights of each stack: the numbers of its names.
@@ -46,6 +49,7 @@ pub(crate) struct Folder<'a> {
     /// The sum of all weights.
     total: u64,
     stack: Vec<usize>,
+    frames: Vec<SampleFrame>,
     comm: Vec<u8>,
     records: u64,
     other_events: u64,
@@ -93,7 +97,12 @@ fn push_number(text: &mut Vec<u8>, before: u8, number: i32) -> Result<(), Error>
 }
 
 impl<'a> Folder<'a> {
-    pub(crate) fn new(alloc: Global, options: Options<'a>, source: NameSource<'a>) -> Folder<'a> {
+    pub(crate) fn new(
+        alloc: Global,
+        options: Options<'a>,
+        source: NameSource<'a>,
+        unwinding: Option<Unwinding<'a>>,
+    ) -> Folder<'a> {
         Folder {
             alloc,
             options,
@@ -101,10 +110,12 @@ impl<'a> Folder<'a> {
             spaces: AddressSpaces::new(alloc),
             names: NameTable::new(alloc, options.demangling),
             frame_names: FrameNames::new(alloc, source),
+            unwinding,
             has_metadata: false,
             stacks: HashMap::new(alloc),
             total: 0,
             stack: Vec::new(alloc),
+            frames: Vec::new(alloc),
             comm: Vec::new(alloc),
             records: 0,
             other_events: 0,
@@ -132,9 +143,17 @@ impl<'a> Folder<'a> {
         self.stacks.is_empty() && self.selection.is_named()
     }
 
-    /// Returns how many files with symbols there are of which kind, if files are read.
+    /// Returns how many files there are of which kind, if files are read.
     pub(crate) fn file_counts(&self) -> Option<FileCounts> {
-        self.frame_names.file_counts()
+        match self.frame_names.file_counts() {
+            Some(counts) => Some(counts),
+            None => Some(self.unwinding.as_ref()?.file_counts()),
+        }
+    }
+
+    /// Returns how the chains of samples end, if samples are unwound.
+    pub(crate) fn end_counts(&self) -> Option<EndCounts> {
+        Some(self.unwinding.as_ref()?.counts())
     }
 
     /// Returns why frames of the kernel have no names of symbols, if there are such frames and no option asks
@@ -165,18 +184,23 @@ impl<'a> Folder<'a> {
         }
     }
 
-    // Sets the stack to the numbers of the names of a sample's frames, that of the leaf first.
-    fn set_frames(
-        &mut self,
-        origin: SampleOrigin,
-        misc: u16,
-        sample: &SampleRecord<'_>,
-    ) -> Result<(), Error> {
+    // Sets the frames to those of a sample, the leaf first.
+    fn set_frames(&mut self, misc: u16, sample: &SampleRecord<'_>) -> Result<(), AllocError> {
+        match &mut self.unwinding {
+            Some(unwinding) => {
+                unwinding.set_frames(&self.spaces, misc, sample, &mut self.frames)
+            }
+            None => set_own_frames(misc, sample, &mut self.frames),
+        }
+    }
+
+    // Sets the stack to the numbers of the names of the frames.
+    fn set_names(&mut self, origin: SampleOrigin) -> Result<(), AllocError> {
         self.stack.clear();
-        for frame in SampleFrames::new(sample, context_of_mode(misc)) {
+        for frame in self.frames.iter() {
             let number = self
                 .frame_names
-                .number(origin, frame, &self.spaces, &mut self.names)?;
+                .number(origin, *frame, &self.spaces, &mut self.names)?;
             self.stack.push(number)?;
         }
         Ok(())
@@ -185,7 +209,8 @@ impl<'a> Folder<'a> {
     // Sets the stack to the numbers of the names of a sample: the thread's, then the root's to the leaf's.
     fn set_stack(&mut self, misc: u16, sample: &SampleRecord<'_>) -> Result<(), Error> {
         let task = task_of(sample);
-        self.set_frames(origin_of(task, sample), misc, sample)?;
+        self.set_frames(misc, sample)?;
+        self.set_names(origin_of(task, sample))?;
         self.set_comm(task.tid)?;
         self.push_ids(task)?;
         let comm = self.names.number(self.comm.as_slice())?;
@@ -216,6 +241,9 @@ impl<'a> Folder<'a> {
             return Ok(());
         }
         self.has_metadata = true;
+        if let Some(unwinding) = &mut self.unwinding {
+            unwinding.read_metadata(perf_file)?;
+        }
         self.frame_names.read_metadata(perf_file)
     }
 
@@ -227,6 +255,9 @@ impl<'a> Folder<'a> {
         misc: u16,
         sample: &SampleRecord<'_>,
     ) -> Result<(), Error> {
+        if let Some(unwinding) = &mut self.unwinding {
+            unwinding.set_event(attr);
+        }
         self.set_stack(misc, sample)?;
         self.count_stack(weight_of(self.options.weight, perf_file, attr, sample))
     }
@@ -270,6 +301,14 @@ impl<'a> Folder<'a> {
         }
     }
 
+    // Adds the build id that a HEADER_BUILD_ID record has.
+    fn add_build_id(&mut self, record: &RawUserRecord<'_>) -> Result<(), Error> {
+        if let Some(unwinding) = &mut self.unwinding {
+            unwinding.add_build_id(record)?;
+        }
+        self.frame_names.add_build_id(record)
+    }
+
     // Adds a record.
     fn add_record(
         &mut self,
@@ -282,7 +321,7 @@ impl<'a> Folder<'a> {
             }
             PerfFileRecord::UserRecord(user)
                 if user.record_type == UserRecordType::PERF_HEADER_BUILD_ID => {
-                self.frame_names.add_build_id(user)
+                self.add_build_id(user)
             }
             PerfFileRecord::UserRecord(_) => Ok(()),
         }

@@ -79,8 +79,8 @@ fn base_name(path: &[u8]) -> &[u8] {
     }
 }
 
-// Returns whether a mapping is memory without a file.
-fn is_anonymous(mapping: &Mapping) -> bool {
+/// Returns whether a mapping is memory without a file.
+pub(crate) fn is_anonymous(mapping: &Mapping) -> bool {
     if mapping.flags & MAP_HUGETLB != 0 {
         return true;
     }

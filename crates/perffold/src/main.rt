@@ -13,6 +13,7 @@ mod selection;
 mod symbols;
 mod title;
 mod top;
+mod unwinding;
 
 use fold::Folder;
 use frame_names::NameSource;
@@ -24,6 +25,7 @@ use perfdata_cli::input::{display_name, path_of};
 use std::process::ExitCode;
 use symbols::Symbols;
 use symbols::directories::PathError;
+use unwinding::Unwinding;
 
 // The program's name.
 const NAME: &str = "perffold";
@@ -43,12 +45,6 @@ fn fold_named(rt: &HostRuntime, arguments: &Arguments<'_>, folder: &mut Folder<'
     }
 }
 
-// Folds the input that the options name, with these names of frames. Returns the exit status.
-fn fold_with(rt: &HostRuntime, arguments: &Arguments<'_>, source: NameSource<'_>) -> u8 {
-    let mut folder = Folder::new(rt.alloc(), arguments.options, source);
-    fold_named(rt, arguments, &mut folder)
-}
-
 // Returns which names frames have.
 fn name_source<'a>(
     rt: &'a HostRuntime,
@@ -61,10 +57,32 @@ fn name_source<'a>(
     }
 }
 
+// Returns what unwinds samples, unless the options say that none is unwound.
+fn open_unwinding<'a>(
+    rt: &'a HostRuntime,
+    options: &Options<'a>,
+) -> Result<Option<Unwinding<'a>>, PathError<'a>> {
+    if options.unwinds {
+        Ok(Some(Unwinding::open(rt, options)?))
+    } else {
+        Ok(None)
+    }
+}
+
+// Opens what the options name.
+fn open_folder<'a>(
+    rt: &'a HostRuntime,
+    options: &Options<'a>,
+) -> Result<Folder<'a>, PathError<'a>> {
+    let source = name_source(rt, options)?;
+    let unwinding = open_unwinding(rt, options)?;
+    Ok(Folder::new(rt.alloc(), *options, source, unwinding))
+}
+
 // Opens the files that the options name, and folds the input. Returns the exit status.
 fn run(rt: &HostRuntime, arguments: &Arguments<'_>) -> u8 {
-    match name_source(rt, &arguments.options) {
-        Ok(source) => fold_with(rt, arguments, source),
+    match open_folder(rt, &arguments.options) {
+        Ok(mut folder) => fold_named(rt, arguments, &mut folder),
         Err(error) => print_path_error(rt, error),
     }
 }

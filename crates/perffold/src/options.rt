@@ -58,6 +58,12 @@ const NO_LIST: &str = "none";
 // The id of the option of the directory of perf-PID.map files.
 const MAPS: &str = "maps";
 
+// The id of the option of the copy of the code that the kernel maps.
+const VDSO: &str = "vdso";
+
+// The id of the flag for stacks that aren't unwound.
+const NO_UNWIND: &str = "no-unwind";
+
 // The id of the flag for a flame graph.
 const SVG: &str = "svg";
 
@@ -139,6 +145,8 @@ pub(crate) struct SymbolOptions<'a> {
     pub(crate) kernel_list: KernelList<'a>,
     /// The directory of perf-PID.map files.
     pub(crate) maps: Option<&'a str>,
+    /// The file of the code that the kernel gives to each process.
+    pub(crate) vdso: Option<&'a str>,
 }
 
 /// What the arguments select.
@@ -153,6 +161,8 @@ pub(crate) struct Options<'a> {
     /// The style of the texts of mangled names, unless these stay.
     pub(crate) demangling: Option<Style>,
     pub(crate) symbols: SymbolOptions<'a>,
+    /// Whether samples with a copy of their stack are unwound.
+    pub(crate) unwinds: bool,
 }
 
 /// The arguments.
@@ -234,6 +244,22 @@ fn with_symbols<'a>(alloc: Global, command: Command<'a>) -> Result<Command<'a>, 
         ))
 }
 
+// Adds the options of unwinding.
+fn with_unwinding<'a>(alloc: Global, command: Command<'a>) -> Result<Command<'a>, AllocError> {
+    command
+        .arg(option(
+            alloc,
+            VDSO,
+            "FILE",
+            "Unwind the code that the kernel maps as [vdso] by FILE, a copy of it",
+        ))?
+        .arg(flag(
+            alloc,
+            NO_UNWIND,
+            "Don't unwind the stacks that samples have a copy of",
+        ))
+}
+
 // Adds the flags for the names in lines.
 fn with_names<'a>(alloc: Global, command: Command<'a>) -> Result<Command<'a>, AllocError> {
     command
@@ -287,7 +313,8 @@ fn with_output<'a>(alloc: Global, command: Command<'a>) -> Result<Command<'a>, A
 fn command_with_options<'a>(alloc: Global, name: &'a str) -> Result<Command<'a>, AllocError> {
     let command = with_output(alloc, command(alloc, name, ABOUT, RECORDING_HELP)?)?;
     let command = with_selection(alloc, command)?;
-    with_names(alloc, with_symbols(alloc, command)?)
+    let command = with_unwinding(alloc, with_symbols(alloc, command)?)?;
+    with_names(alloc, command)
 }
 
 // Returns which samples are counted.
@@ -359,6 +386,7 @@ fn symbols_of<'a>(matches: &ArgMatches<'a>) -> SymbolOptions<'a> {
         debug_dir: matches.get_str(DEBUG_DIR),
         kernel_list: kernel_list_of(matches),
         maps: matches.get_str(MAPS),
+        vdso: matches.get_str(VDSO),
     }
 }
 
@@ -384,6 +412,7 @@ fn options_of<'a>(matches: &ArgMatches<'a>) -> Options<'a> {
         name_kind: name_kind_of(matches),
         demangling: demangling_of(matches),
         symbols: symbols_of(matches),
+        unwinds: !matches.get_flag(NO_UNWIND),
     }
 }
 

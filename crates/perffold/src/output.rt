@@ -8,6 +8,7 @@ use crate::symbols::directories::PathError;
 use crate::symbols::kernel_list::NoList;
 use crate::title::title_of;
 use crate::top::write_top;
+use crate::unwinding::EndCounts;
 use linux_perf_data::PerfFile;
 use linux_perf_data::in_memory::InMemoryReader;
 use perfdata_cli::error::{InputError, ProgramError};
@@ -189,6 +190,29 @@ fn print_unreadable(rt: &HostRuntime, name: &str, files: u64) {
     }
 }
 
+// Writes on standard error how the chains of samples end, if samples were unwound.
+fn print_end_counts(rt: &HostRuntime, name: &str, counts: EndCounts) {
+    let EndCounts {
+        complete,
+        truncated,
+        lacking,
+    } = counts;
+    let total = counts.total();
+    if total == 0 {
+        return;
+    }
+    let _ = eprint!(rt; "{name}: Unwound {total} samples: {complete} to their first function");
+    if truncated != 0 {
+        let _ = eprint!(rt;
+            "; {truncated} end with the copy (record with a larger --call-graph dwarf,SIZE)"
+        );
+    }
+    if lacking != 0 {
+        let _ = eprint!(rt; "; {lacking} for lack of call frame information");
+    }
+    let _ = eprintln!(rt; ".");
+}
+
 // Writes what was counted.
 fn write_result<'a>(
     rt: &HostRuntime,
@@ -232,6 +256,9 @@ fn finish<'a>(
     write_result(rt, arguments, folder, perf_file)?;
     print_other_events(rt, name, folder.other_events());
     print_undecoded(rt, name, folder.undecoded());
+    if let Some(counts) = folder.end_counts() {
+        print_end_counts(rt, name, counts);
+    }
     print_missing_list(rt, name, folder.missing_kernel_list());
     if let Some(counts) = folder.file_counts() {
         print_file_counts(rt, name, counts);

@@ -15,10 +15,10 @@ use std::fs::File;
 use std::io;
 use std::io::{BufReader, Read};
 
-mod build_ids;
+pub(crate) mod build_ids;
 mod debug_paths;
 pub(crate) mod directories;
-mod elf_files;
+pub(crate) mod elf_files;
 mod jitdumps;
 pub(crate) mod kernel;
 pub(crate) mod kernel_list;

@@ -14,8 +14,8 @@ use std::io::{BufReader, ErrorKind, Read};
 // The number of bytes of a file that are read at once for its CRC-32.
 const PIECE_SIZE: usize = 4096;
 
-// An ELF file whose headers are read.
-type Elf = ElfFile<CountedBuffer<File>>;
+/// An ELF file whose headers are read.
+pub(crate) type Elf = ElfFile<CountedBuffer<File>>;
 
 /// Numbers of files.
 #[derive(Clone, Copy)]
@@ -118,8 +118,11 @@ impl<'a> ElfFiles<'a> {
         }
     }
 
-    // Returns what was read, or `None` if it can't be.
-    fn readable<T: Drop>(&mut self, read: Result<T, ElfError>) -> Result<Option<T>, AllocError> {
+    /// Returns what was read, or `None` if it can't be.
+    pub(crate) fn readable<T: Drop>(
+        &mut self,
+        read: Result<T, ElfError>,
+    ) -> Result<Option<T>, AllocError> {
         match read {
             Ok(value) => Ok(Some(value)),
             Err(error) => {
@@ -147,8 +150,12 @@ impl<'a> ElfFiles<'a> {
         }
     }
 
-    // Opens a file whose build id is the recorded one, if that is known.
-    fn open_recorded(&mut self, file: File, recorded: &[u8]) -> Result<Option<Elf>, AllocError> {
+    /// Opens a file whose build id is the recorded one, if that is known.
+    pub(crate) fn open_recorded(
+        &mut self,
+        file: File,
+        recorded: &[u8],
+    ) -> Result<Option<Elf>, AllocError> {
         let Some(mut elf) = self.open(file)? else {
             return Ok(None);
         };
