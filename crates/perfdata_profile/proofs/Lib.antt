@@ -1,8 +1,11 @@
 mod Adding
 mod Building
+mod Caching
 mod Counting
-mod Lists
-mod Naming
-mod Resolving
-mod Stacks
-mod Tables
+mod Deciding
+mod Elements
+mod Growing
+mod Looking
+mod Searching
+mod Summing
+mod Valuing
