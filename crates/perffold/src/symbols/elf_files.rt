@@ -4,7 +4,8 @@ use crate::symbols::debug_paths::{DebugPath, DebugPlace, debug_paths};
 use crate::symbols::directories::Directories;
 use perfdata_base::source::CountedBuffer;
 use perfdata_symbols::{
-    Crc32, DebugLink, ElfError, ElfFile, RankedSymbols, SymbolSection, SymbolTable,
+    Crc32, DebugLink, ElfError, ElfFile, JitSymbols, JitSymbolsError, RankedSymbols, SymbolSection,
+    SymbolTable,
 };
 use std::alloc::{AllocError, Global};
 use std::fs::File;
@@ -100,8 +101,8 @@ impl<'a> ElfFiles<'a> {
         }
     }
 
-    /// Counts a file that can't be read.
-    pub(crate) fn count_unreadable(&mut self) {
+    // Counts a file that can't be read.
+    fn count_unreadable(&mut self) {
         self.counts.unreadable = self.counts.unreadable.saturating_add(1);
     }
 
@@ -136,6 +137,25 @@ impl<'a> ElfFiles<'a> {
             return Err(AllocError);
         };
         self.readable(ElfFile::open(alloc, CountedBuffer::new(reader)))
+    }
+
+    /// Reads the jitdump at a path, if there is one.
+    pub(crate) fn jitdump(&mut self, path: &str) -> Result<Option<JitSymbols>, AllocError> {
+        let alloc = self.rt.alloc();
+        let Some(file) = self.directories.files.open(self.rt, path)? else {
+            return Ok(None);
+        };
+        let Ok(reader) = BufReader::new(alloc, file) else {
+            return Err(AllocError);
+        };
+        match JitSymbols::read(alloc, CountedBuffer::new(reader)) {
+            Ok(code) => Ok(Some(code)),
+            Err(JitSymbolsError::Memory) => Err(AllocError),
+            Err(_) => {
+                self.count_unreadable();
+                Ok(None)
+            }
+        }
     }
 
     // Returns the build id of a file, which is empty if it has none or if it can't be read.

@@ -1,0 +1,9 @@
+-- The specifications that contracts use.
+pub mod Builders
+pub mod Decoding
+pub mod Messages
+pub mod Pages
+pub mod Strings
+pub mod Tables
+pub mod Texts
+pub mod Wire
