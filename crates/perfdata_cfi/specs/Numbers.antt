@@ -1,6 +1,7 @@
 -- Numbers at the start of some bytes: of a fixed size, and LEB128 (DWARF 5, section 7.6).
 use Rattle.std.specs.Prelude.{◌≡◌, ℕ, ◌+◌, ◌-◌, ◌*◌, ◌%◌, ◌<◌, ◌≤◌, List, [], ◌∷◌, length, take, drop, slice_index}
-use Rattle.std.specs.Prelude.{ℤ, pos, ◌+ℤ◌, ◌-ℤ◌, ◌*ℤ◌, if◌then◌else◌, nat_lt}
+use Rattle.std.specs.Prelude.{ℤ, pos, ◌+ℤ◌, ◌-ℤ◌, ◌*ℤ◌, if◌then◌else◌, nat_lt, ◌^◌, FitsSigned}
+use Rattle.std.specs.Int.{w64}
 
 -- the number that the bytes are, the lowest first
 abbrev pub fixed_value : List ℕ → ℕ
@@ -45,6 +46,16 @@ pub record Sleb128At (bytes : List ℕ) (n : ℤ) (rest : List ℕ) : Type 0 whe
   pub encoded : IsLeb128 size bytes
   pub value : n ≡ sleb128_value (take size bytes)
   pub after : rest ≡ drop size bytes
+
+-- the bytes start with no LEB128 number, or with none that fits 64 bits
+abbrev pub NoLeb128 : List ℕ → Type 0
+NoLeb128 bytes = (size : ℕ) → IsLeb128 size bytes → ⊥
+
+abbrev pub NoUleb128 : List ℕ → Type 0
+NoUleb128 bytes = (n : ℕ) (rest : List ℕ) → Uleb128At bytes n rest → n < 2 ^ 64 → ⊥
+
+abbrev pub NoSleb128 : List ℕ → Type 0
+NoSleb128 bytes = (n : ℤ) (rest : List ℕ) → Sleb128At bytes n rest → FitsSigned w64 n → ⊥
 
 -- the bytes start with an unsigned LEB128 number and a block of that number of bytes
 pub record BlockAt (bytes block rest : List ℕ) : Type 0 where

@@ -22,6 +22,6 @@ pub use entry::FrameSection;
 pub use error::CfiError;
 pub use fde::Fde;
 pub use instruction::{Instruction, Machine};
-pub use numbers::Span;
+pub use numbers::{Span, read_fixed, read_sleb128, read_uleb128};
 pub use row::{Cfa, REGISTER_COUNT, Row, Rule};
 pub use table::{FoundRow, FrameTable};

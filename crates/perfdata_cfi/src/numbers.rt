@@ -1,7 +1,9 @@
 //! Numbers of fixed size and LEB128 numbers, at the start of some bytes.
 ghost use Rattle.std.specs.Prelude.{◌≡◌, ◌≤◌, ◌<◌, ◌+◌, ◌*◌, ◌%◌, ◌^◌, ◌∷◌, length, drop};
-ghost use Rattle.std.specs.Prelude.{IfOk, IfSome, OnErr, SomeIff};
+ghost use Rattle.std.specs.Prelude.{pos, ◌+ℤ◌, ◌*ℤ◌, IfOk, IfSome, OnErr, IfNone, SomeIff, FitsSigned};
+ghost use Rattle.std.specs.Int.{w64};
 ghost use Rattle.perfdata_cfi.specs.Numbers.{fixed_value, FixedAt, IsLeb128, Uleb128At, Sleb128At, BlockAt};
+ghost use Rattle.perfdata_cfi.specs.Numbers.{NoLeb128, NoUleb128, NoSleb128};
 ghost use Rattle.perfdata_cfi.specs.Numbers.{uleb128_value as uleb128, sleb128_value as sleb128};
 
 use crate::error::CfiError;
@@ -32,8 +34,12 @@ fn little_endian(bytes: &[u8]) -> u64
     value
 }
 
-// Reads a number of `size` bytes, and returns it with the rest.
-pub(crate) fn read_fixed(bytes: &[u8], size: usize) -> Result<(u64, &[u8]), CfiError>
+/// Reads a number of `size` bytes in little-endian order, and returns it with the rest.
+///
+/// # Errors
+///
+/// Returns `Truncated` if there are fewer bytes.
+pub fn read_fixed(bytes: &[u8], size: usize) -> Result<(u64, &[u8]), CfiError>
     requires { size ≤ 8 }
     ensures found { IfOk result (λ x. FixedAt size bytes.now x.0 x.1.now) }
     ensures none { OnErr result (length bytes.now < size) }
@@ -71,7 +77,8 @@ pub(crate) fn skip(bytes: &[u8], size: usize) -> Result<&[u8], CfiError>
 
 // The number of bytes of the LEB128 number at the start.
 fn leb128_size(bytes: &[u8]) -> Result<usize, CfiError>
-    ensures { IfOk result (λ size. IsLeb128 size bytes.now) }
+    ensures found { IfOk result (λ size. IsLeb128 size bytes.now) }
+    ensures none { OnErr result (NoLeb128 bytes.now) }
 {
     'bytes: for (index, byte) in bytes.iter().enumerate() {
         if index == MAX_LEB128_SIZE {
@@ -112,26 +119,46 @@ fn uleb128_value(bytes: &[u8]) -> Option<u64>
     Some(value)
 }
 
+// The number with seven more bits below it, if it fits 64 bits.
+fn with_low_signed_bits(high: i64, byte: u8) -> Option<i64>
+    ensures { SomeIff result (FitsSigned w64 (high *ℤ pos 128 +ℤ pos (byte % 128)))
+        (high *ℤ pos 128 +ℤ pos (byte % 128)) }
+{
+    let low = (byte % 128) as i64;
+    match high.checked_mul(128) {
+        Some(product) => product.checked_add(low),
+        None => None,
+    }
+}
+
 // The value of the bytes of a signed LEB128 number, if it fits 64 bits.
 fn sleb128_value(bytes: &[u8]) -> Option<i64>
     requires { 0 < length bytes.now }
-    ensures { IfSome result (λ n. n ≡ sleb128 bytes.now) }
+    ensures found { IfSome result (λ n. n ≡ sleb128 bytes.now) }
+    ensures none { IfNone result (FitsSigned w64 (sleb128 bytes.now) → ⊥) }
 {
     let mut left = bytes.len() - 1;
     let last = (bytes[left] % 128) as i64;
     let mut value = if last < 64 { last } else { last - 128 };
     'bytes: while left > 0 {
         left -= 1;
-        value = value
-            .checked_mul(128)?
-            .checked_add((bytes[left] % 128) as i64)?;
+        match with_low_signed_bits(value, bytes[left]) {
+            Some(more) => value = more,
+            None => return None,
+        }
     }
     Some(value)
 }
 
-// Reads an unsigned LEB128 number, and returns it with the rest.
-pub(crate) fn read_uleb128(bytes: &[u8]) -> Result<(u64, &[u8]), CfiError>
+/// Reads an unsigned LEB128 number (DWARF 5, section 7.6), and returns it with the rest.
+///
+/// # Errors
+///
+/// Returns `Truncated` if the bytes end in the number, and `Leb128` if it has more than 10 bytes or does not
+/// fit 64 bits.
+pub fn read_uleb128(bytes: &[u8]) -> Result<(u64, &[u8]), CfiError>
     ensures found { IfOk result (λ x. Uleb128At bytes.now x.0 x.1.now) }
+    ensures none { OnErr result (NoUleb128 bytes.now) }
     ensures shorter { IfOk result (λ x. length x.1.now < length bytes.now) }
 {
     let size = leb128_size(bytes)?;
@@ -140,9 +167,15 @@ pub(crate) fn read_uleb128(bytes: &[u8]) -> Result<(u64, &[u8]), CfiError>
     Ok((value, rest))
 }
 
-// Reads a signed LEB128 number, and returns it with the rest.
-pub(crate) fn read_sleb128(bytes: &[u8]) -> Result<(i64, &[u8]), CfiError>
+/// Reads a signed LEB128 number (DWARF 5, section 7.6), and returns it with the rest.
+///
+/// # Errors
+///
+/// Returns `Truncated` if the bytes end in the number, and `Leb128` if it has more than 10 bytes or does not
+/// fit 64 bits.
+pub fn read_sleb128(bytes: &[u8]) -> Result<(i64, &[u8]), CfiError>
     ensures found { IfOk result (λ x. Sleb128At bytes.now x.0 x.1.now) }
+    ensures none { OnErr result (NoSleb128 bytes.now) }
     ensures shorter { IfOk result (λ x. length x.1.now < length bytes.now) }
 {
     let size = leb128_size(bytes)?;

@@ -89,6 +89,13 @@ impl FrameTable {
         &self.cies[..]
     }
 
+    /// Returns the bytes of the section.
+    pub fn bytes(&self) -> &[u8]
+        ensures { result.now ≡ bytes_of self.now }
+    {
+        &self.bytes[..]
+    }
+
     /// Returns the bytes at a span, or `None` if they aren't within the section.
     pub fn bytes_at(&self, span: Span) -> Option<&[u8]>
         ensures bytes { IfSome result (λ bytes. bytes.now

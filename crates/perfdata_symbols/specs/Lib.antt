@@ -1,3 +1,5 @@
+pub mod ArmPlt
+pub mod Crc
 pub mod Cuts
 pub mod Elf
 pub mod Kernel

@@ -1,0 +1,4 @@
+-- Lemmas.
+pub mod ChainLemmas
+pub mod ExpressionLemmas
+pub mod RegisterLemmas

@@ -1,0 +1,44 @@
+//! The registers of a frame.
+ghost use Rattle.std.specs.Prelude.{◌≡◌};
+
+use perfdata_cfi::REGISTER_COUNT;
+
+/// The registers of a frame by their DWARF numbers, as far as they are known.
+#[derive(Clone, Copy, Debug, PartialEq, Eq)]
+pub struct Registers {
+    values: [Option<u64>; REGISTER_COUNT],
+}
+
+impl Registers {
+    ghost use Rattle.perfdata_unwind.specs.Stacks.{register_of};
+    ghost use Rattle.perfdata_unwind.specs.Registers.{no_registers, with_register};
+
+    /// Returns registers of which none is known.
+    pub const fn new() -> Registers
+        ensures { result ≡ no_registers }
+    {
+        Registers {
+            values: [None; REGISTER_COUNT],
+        }
+    }
+
+    /// Returns the value of a register by its DWARF number, or `None` if it isn't known.
+    pub fn get(&self, number: u64) -> Option<u64>
+        ensures { result ≡ register_of self.now number }
+    {
+        if number < REGISTER_COUNT as u64 {
+            self.values[number as usize]
+        } else {
+            None
+        }
+    }
+
+    /// Sets the value of a register, or that it isn't known. Registers from 33 on stay unknown.
+    pub fn set(&mut self, number: u64, value: Option<u64>)
+        ensures { self.new ≡ with_register self.old number value }
+    {
+        if number < REGISTER_COUNT as u64 {
+            self.values[number as usize] = value;
+        }
+    }
+}

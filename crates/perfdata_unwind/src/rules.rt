@@ -1,0 +1,249 @@
+//! The registers of a caller, by the rules of a row.
+ghost use Rattle.std.specs.Prelude.{◌≡◌};
+ghost use Rattle.perfdata_unwind.specs.Expressions.{remaining_of};
+ghost use Rattle.perfdata_unwind.specs.Machines.{stack_pointer as stack_pointer_of};
+ghost use Rattle.perfdata_unwind.specs.Rules.{end_of as end_by, ExpressionIs, CfaIs, ValueIs, ValuesAre};
+ghost use Rattle.perfdata_unwind.specs.Rules.{ByRow};
+ghost use Rattle.perfdata_unwind.specs.Rules.{stored_value as stored, same_value as same};
+ghost use Rattle.perfdata_unwind.specs.Rules.{is_needed as needed};
+ghost use Rattle.perfdata_unwind.specs.Rules.{RegisterIs, rule_of as rule_in};
+ghost use Rattle.perfdata_unwind.specs.Rules.{return_address_of as return_address};
+ghost use Rattle.perfdata_unwind.specs.Rules.{link_register as link, is_popped as popped};
+ghost use Rattle.perfdata_unwind.specs.Stacks.{register_of};
+
+use crate::copy::StackCopy;
+use crate::expression::{Evaluator, ExpressionError};
+use crate::frame::ChainEnd;
+use crate::machine::{LINK_REGISTER, pc_number, register_count, stack_pointer};
+use crate::registers::Registers;
+use perfdata_cfi::{Cfa, FoundRow, FrameTable, Machine, Row, Rule, Span};
+
+// A frame whose caller is looked for, and what rules read.
+#[derive(Clone, Copy)]
+pub(crate) struct Callee<'a> {
+    pub(crate) machine: Machine,
+    pub(crate) registers: &'a Registers,
+    pub(crate) is_exact: bool,
+    pub(crate) copy: StackCopy<'a>,
+    // The table that the row is of.
+    pub(crate) table: &'a FrameTable,
+}
+
+// How a chain ends at an expression that has no value.
+fn end_of(error: ExpressionError) -> ChainEnd
+    ensures { result ≡ end_by error }
+{
+    match error {
+        ExpressionError::Bad => ChainEnd::BadCfi,
+        ExpressionError::Truncated => ChainEnd::Truncated,
+    }
+}
+
+// The value of an expression, before which `first` is pushed.
+fn expression_value(
+    callee: &Callee<'_>,
+    span: Span,
+    first: Option<u64>,
+    evaluator: &mut Evaluator,
+) -> Result<u64, ChainEnd>
+    ensures { ExpressionIs callee.now span first (remaining_of evaluator.old) result
+        (remaining_of evaluator.new) }
+{
+    let section = callee.table.bytes();
+    if span.start > span.end || span.end > section.len() {
+        return Err(ChainEnd::BadCfi);
+    }
+    let bytes = &section[span.start..span.end];
+    match evaluator.evaluate(bytes, callee.registers, &callee.copy, first) {
+        Ok(value) => Ok(value),
+        Err(error) => Err(end_of(error)),
+    }
+}
+
+// The canonical frame address.
+fn cfa_of(callee: &Callee<'_>, cfa: Cfa, evaluator: &mut Evaluator) -> Result<u64, ChainEnd>
+    ensures { CfaIs callee.now cfa (remaining_of evaluator.old) result (remaining_of evaluator.new) }
+{
+    match cfa {
+        Cfa::Undefined => Err(ChainEnd::BadCfi),
+        Cfa::Register(register, offset) => match callee.registers.get(register) {
+            Some(value) => Ok(value.wrapping_add(offset)),
+            None => Err(ChainEnd::BadCfi),
+        },
+        Cfa::Expression(span) => expression_value(callee, span, None, evaluator),
+    }
+}
+
+// Whether an address is below the stack pointer.
+fn is_popped(callee: &Callee<'_>, address: u64) -> bool
+    ensures { result ≡ popped (register_of callee.now.registers.now (stack_pointer_of callee.now.machine))
+        address }
+{
+    match callee.registers.get(stack_pointer(callee.machine)) {
+        Some(top) => address < top,
+        None => false,
+    }
+}
+
+// The value of a register that is stored at an address. A word below the stack pointer is popped already, or
+// not stored yet: the register has its value. `is_needed` says that the chain ends without the value.
+fn stored_value(
+    callee: &Callee<'_>,
+    register: u64,
+    is_needed: bool,
+    address: u64,
+) -> Result<Option<u64>, ChainEnd>
+    ensures { result ≡ stored callee.now register is_needed address }
+{
+    if is_popped(callee, address) {
+        return Ok(callee.registers.get(register));
+    }
+    match callee.copy.word(address, 8) {
+        Some(word) => Ok(Some(word)),
+        None => if is_needed {
+            Err(ChainEnd::Truncated)
+        } else {
+            Ok(None)
+        },
+    }
+}
+
+// The caller's value of a register that has the same value, which the stack pointer can't.
+fn same_value(callee: &Callee<'_>, register: u64, cfa: u64) -> Option<u64>
+    ensures { result ≡ same callee.now register cfa }
+{
+    if register == stack_pointer(callee.machine) {
+        Some(cfa)
+    } else {
+        callee.registers.get(register)
+    }
+}
+
+// The caller's value of a register by a rule.
+fn value_of(
+    callee: &Callee<'_>,
+    register: u64,
+    is_needed: bool,
+    rule: Rule,
+    cfa: u64,
+    evaluator: &mut Evaluator,
+) -> Result<Option<u64>, ChainEnd>
+    ensures { ValueIs callee.now register is_needed cfa rule (remaining_of evaluator.old) result
+        (remaining_of evaluator.new) }
+{
+    match rule {
+        Rule::SameValue => Ok(same_value(callee, register, cfa)),
+        Rule::Undefined => Ok(None),
+        Rule::Offset(offset) => {
+            stored_value(callee, register, is_needed, cfa.wrapping_add(offset))
+        }
+        Rule::ValueOffset(offset) => Ok(Some(cfa.wrapping_add(offset))),
+        Rule::Register(other) => Ok(callee.registers.get(other)),
+        Rule::Expression(span) => {
+            let address = expression_value(callee, span, Some(cfa), evaluator)?;
+            stored_value(callee, register, is_needed, address)
+        }
+        Rule::ValueExpression(span) => {
+            let value = expression_value(callee, span, Some(cfa), evaluator)?;
+            Ok(Some(value))
+        }
+    }
+}
+
+// Whether there is no caller without a register.
+fn is_needed(callee: &Callee<'_>, found: &FoundRow, register: u64) -> bool
+    ensures { result ≡ needed callee.now found.now register }
+{
+    register == found.return_address || register == stack_pointer(callee.machine)
+}
+
+// The caller's value of a register by a row.
+fn value_by_row(
+    callee: &Callee<'_>,
+    found: &FoundRow,
+    register: u64,
+    cfa: u64,
+    evaluator: &mut Evaluator,
+) -> Result<Option<u64>, ChainEnd>
+    ensures { RegisterIs callee.now found.now cfa register (remaining_of evaluator.old) result
+        (remaining_of evaluator.new) }
+{
+    let is_needed = is_needed(callee, found, register);
+    let rule = found.row.rule(register);
+    value_of(callee, register, is_needed, rule, cfa, evaluator)
+}
+
+// The caller's registers by the rules of a row, but for the program counter.
+fn values_of(
+    callee: &Callee<'_>,
+    found: &FoundRow,
+    cfa: u64,
+    evaluator: &mut Evaluator,
+) -> Result<Registers, ChainEnd>
+    ensures { ValuesAre callee.now found.now cfa (remaining_of evaluator.old) result
+        (remaining_of evaluator.new) }
+{
+    let mut caller = Registers::new();
+    'registers: for register in 0..register_count(callee.machine) {
+        let value = value_by_row(callee, found, register, cfa, evaluator)?;
+        caller.set(register, value);
+    }
+    Ok(caller)
+}
+
+// The rule of a register. Other registers than those of the machine have none.
+fn rule_of(machine: Machine, row: &Row, register: u64) -> Rule
+    ensures { result ≡ rule_in machine row.now register }
+{
+    if register < register_count(machine) {
+        row.rule(register)
+    } else {
+        Rule::SameValue
+    }
+}
+
+// The return address of a frame whose row has no rule for it.
+fn link_register(callee: &Callee<'_>) -> Result<Option<u64>, ChainEnd>
+    ensures { result ≡ link callee.now.machine callee.now.is_exact callee.now.registers.now }
+{
+    match callee.machine {
+        Machine::X86_64 => Err(ChainEnd::BadCfi),
+        Machine::AArch64 => {
+            if callee.is_exact {
+                Ok(callee.registers.get(LINK_REGISTER))
+            } else {
+                Err(ChainEnd::BadCfi)
+            }
+        }
+    }
+}
+
+// The return address, where `caller` has the other registers.
+fn return_address_of(
+    callee: &Callee<'_>,
+    found: &FoundRow,
+    caller: &Registers,
+) -> Result<Option<u64>, ChainEnd>
+    ensures { result ≡ return_address callee.now found.now caller.now }
+{
+    match rule_of(callee.machine, &found.row, found.return_address) {
+        Rule::Undefined => Err(ChainEnd::Root),
+        Rule::SameValue => link_register(callee),
+        _ => Ok(caller.get(found.return_address)),
+    }
+}
+
+// The caller's registers by a row.
+pub(crate) fn registers_by_row(
+    callee: &Callee<'_>,
+    found: &FoundRow,
+    evaluator: &mut Evaluator,
+) -> Result<Registers, ChainEnd>
+    ensures { ByRow callee.now found.now (remaining_of evaluator.old) result (remaining_of evaluator.new) }
+{
+    let cfa = cfa_of(callee, found.row.cfa(), evaluator)?;
+    let mut caller = values_of(callee, found, cfa, evaluator)?;
+    let pc = return_address_of(callee, found, &caller)?;
+    caller.set(pc_number(callee.machine), pc);
+    Ok(caller)
+}

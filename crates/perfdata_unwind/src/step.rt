@@ -1,0 +1,312 @@
+//! From a frame to its caller.
+ghost use Rattle.std.specs.Prelude.{◌≡◌, ℕ, Bool, IfOk, MatchOption};
+ghost use Rattle.perfdata_unwind.specs.Expressions.{remaining_of};
+ghost use Rattle.perfdata_unwind.specs.Steps.{Finds, FoundByFde, by_code, by_bytes, by_place, IsStep};
+ghost use Rattle.perfdata_unwind.specs.Steps.{PlaceHasFde, PlaceHasNoFde, IsCallee, origin_by_row};
+ghost use Rattle.perfdata_unwind.specs.declared.code.CodePlace.{CodePlace as Place};
+ghost use Rattle.perfdata_unwind.specs.Callers.{Calls, Makes, address_of as address_in, may_follow};
+ghost use Rattle.perfdata_unwind.specs.Callers.{caller_frame as frame_of_caller};
+
+use crate::code::{CodeMap, CodePlace, Plt};
+use crate::copy::StackCopy;
+use crate::expression::Evaluator;
+use crate::frame::{ChainEnd, Frame, FrameOrigin};
+use crate::known::{
+    is_sigreturn, registers_at_plt, registers_at_signal, registers_by_frame_pointer,
+};
+use crate::machine::{pc_number, stack_pointer};
+use crate::registers::Registers;
+use crate::rules::{Callee, registers_by_row};
+use perfdata_cfi::{CfiError, FrameTable, Machine};
+use std::alloc::{AllocError, Global};
+
+// The number of addresses of AArch64. Higher bits of a program counter may have a signature.
+const ADDRESSES_AARCH64: u64 = 0x1_0000_0000_0000;
+
+// What the samples' frames have in common.
+#[derive(Clone, Copy)]
+pub(crate) struct Sample<'a> {
+    pub(crate) alloc: Global,
+    pub(crate) machine: Machine,
+    pub(crate) copy: StackCopy<'a>,
+}
+
+// The registers of a frame's caller, before they are examined.
+#[derive(Clone, Copy)]
+pub(crate) struct Found {
+    // Whether the frame is a signal frame.
+    is_signal: bool,
+    // How the caller was found.
+    origin: FrameOrigin,
+    registers: Result<Registers, ChainEnd>,
+}
+
+// What a step finds: whether the frame is a signal frame, and its caller.
+#[derive(Clone, Copy)]
+pub(crate) struct Step {
+    pub(crate) is_signal: bool,
+    pub(crate) caller: Result<Frame, ChainEnd>,
+}
+
+// The frame as rules of a table see it.
+fn callee_of<'a>(sample: &Sample<'a>, frame: &'a Frame, table: &'a FrameTable) -> Callee<'a>
+    ensures { IsCallee sample.now.machine sample.now.copy frame.now table.now result }
+{
+    Callee {
+        machine: sample.machine,
+        registers: &frame.registers,
+        is_exact: frame.is_exact,
+        copy: sample.copy,
+        table,
+    }
+}
+
+// How a caller was found by a row.
+fn origin_of(is_signal: bool) -> FrameOrigin
+    ensures { result ≡ origin_by_row is_signal }
+{
+    if is_signal {
+        FrameOrigin::SignalFrame
+    } else {
+        FrameOrigin::Cfi
+    }
+}
+
+// The registers of the caller by an FDE of a table.
+fn find_by_table(
+    sample: &Sample<'_>,
+    frame: &Frame,
+    table: &FrameTable,
+    index: usize,
+    address: u64,
+    evaluator: &mut Evaluator,
+) -> Result<Found, AllocError>
+    ensures { IfOk result (λ found. FoundByFde sample.now.machine sample.now.copy frame.now table.now index
+        address (remaining_of evaluator.old) found (remaining_of evaluator.new)) }
+{
+    let row = match table.row(sample.alloc, index, address) {
+        Ok(row) => row,
+        Err(CfiError::Memory) => return Err(AllocError),
+        Err(_) => {
+            return Ok(Found {
+                is_signal: false,
+                origin: FrameOrigin::Cfi,
+                registers: Err(ChainEnd::BadCfi),
+            });
+        }
+    };
+    let callee = callee_of(sample, frame, table);
+    let registers = registers_by_row(&callee, &row, evaluator);
+    Ok(Found {
+        is_signal: row.is_signal,
+        origin: origin_of(row.is_signal),
+        registers,
+    })
+}
+
+// The registers of the caller of code that isn't in a procedure linkage table.
+fn find_by_bytes(sample: &Sample<'_>, frame: &Frame, code: &[u8]) -> Found
+    ensures { result ≡ by_bytes sample.now.machine sample.now.copy frame.now code.now }
+{
+    if is_sigreturn(sample.machine, code) {
+        Found {
+            is_signal: true,
+            origin: FrameOrigin::SignalFrame,
+            registers: registers_at_signal(sample.machine, &frame.registers, &sample.copy),
+        }
+    } else {
+        Found {
+            is_signal: false,
+            origin: FrameOrigin::FramePointer,
+            registers: registers_by_frame_pointer(sample.machine, &frame.registers, &sample.copy),
+        }
+    }
+}
+
+// The registers of the caller of code without call frame information.
+fn find_by_code(sample: &Sample<'_>, frame: &Frame, plt: Option<Plt>, code: &[u8]) -> Found
+    ensures { result ≡ by_code sample.now.machine sample.now.copy frame.now plt code.now }
+{
+    match plt {
+        Some(plt) if frame.is_exact => Found {
+            is_signal: false,
+            origin: FrameOrigin::Plt,
+            registers: registers_at_plt(sample.machine, plt, &frame.registers, &sample.copy),
+        },
+        _ => find_by_bytes(sample, frame, code),
+    }
+}
+
+// The registers of the caller of code without call frame information, by what is mapped there.
+fn find_by_place(sample: &Sample<'_>, frame: &Frame, place: &CodePlace<'_>) -> Found
+    ensures { result ≡ by_place sample.now.machine sample.now.copy frame.now place.now }
+{
+    match *place {
+        CodePlace::File { plt, code, .. } => find_by_code(sample, frame, plt, code),
+        CodePlace::Nothing => find_by_code(sample, frame, None, &[]),
+    }
+}
+
+// An FDE at an address in a file.
+#[derive(Clone, Copy)]
+struct FdePlace<'a> {
+    table: &'a FrameTable,
+    index: usize,
+    address: u64,
+}
+
+// The FDE at a place.
+fn find_fde<'a>(place: &CodePlace<'a>) -> Option<FdePlace<'a>>
+    ensures { MatchOption result (PlaceHasNoFde place.now)
+        (λ fde. PlaceHasFde place.now fde.table.now fde.index fde.address) }
+{
+    match *place {
+        CodePlace::File {
+            tables,
+            address,
+            ..
+        } => match tables.find(address) {
+            Some((table, index)) => Some(FdePlace {
+                table,
+                index,
+                address,
+            }),
+            None => None,
+        },
+        CodePlace::Nothing => None,
+    }
+}
+
+// The registers of a frame's caller.
+fn find_caller<C: CodeMap>(
+    sample: &Sample<'_>,
+    code: &mut C,
+    frame: &Frame,
+    evaluator: &mut Evaluator,
+) -> Result<Found, AllocError>
+    ensures executable { (a : ℕ) → (b : Bool) → C.executable code.new a b → C.executable code.old a b }
+    ensures places { (a : ℕ) → (p : Place) → C.places code.new a p → C.places code.old a p }
+    ensures found { IfOk result (λ found. Finds (C.places code.old) sample.now.machine sample.now.copy
+        frame.now (remaining_of evaluator.old) found (remaining_of evaluator.new)) }
+{
+    let look_up = frame.look_up_address();
+    code.load(look_up)?;
+    let place = code.place(look_up);
+    match find_fde(&place) {
+        Some(fde) => {
+            let found = find_by_table(sample, frame, fde.table, fde.index, fde.address, evaluator)?;
+            Ok(found)
+        }
+        None => {
+            code.load(frame.pc)?;
+            let code_place = code.place(frame.pc);
+            Ok(find_by_place(sample, frame, &code_place))
+        }
+    }
+}
+
+// The address that a program counter has.
+fn address_of(machine: Machine, pc: u64) -> u64
+    ensures { result ≡ address_in machine pc }
+{
+    match machine {
+        Machine::X86_64 => pc,
+        Machine::AArch64 => pc % ADDRESSES_AARCH64,
+    }
+}
+
+// Whether a caller's stack pointer may follow that of a frame.
+fn rises(machine: Machine, frame: &Frame, is_signal: bool, caller_top: u64) -> bool
+    ensures { result ≡ may_follow machine frame.now is_signal caller_top }
+{
+    if is_signal {
+        return true;
+    }
+    match frame.registers.get(stack_pointer(machine)) {
+        Some(top) => if frame.is_exact {
+            top <= caller_top
+        } else {
+            top < caller_top
+        },
+        None => false,
+    }
+}
+
+// The caller with these registers, if it can be one.
+fn caller_with<C: CodeMap>(
+    sample: &Sample<'_>,
+    code: &C,
+    frame: &Frame,
+    found: &Found,
+    registers: &Registers,
+) -> Result<Frame, ChainEnd>
+    ensures { Makes (C.executable code.now) sample.now.machine frame.now found.now registers.now result }
+{
+    let Some(stored) = registers.get(pc_number(sample.machine)) else {
+        return Err(ChainEnd::BadCfi);
+    };
+    let Some(caller_top) = registers.get(stack_pointer(sample.machine)) else {
+        return Err(ChainEnd::BadCfi);
+    };
+    let pc = address_of(sample.machine, stored);
+    if pc == 0 {
+        return Err(ChainEnd::Root);
+    }
+    if !rises(sample.machine, frame, found.is_signal, caller_top) {
+        return Err(ChainEnd::Stuck);
+    }
+    let caller = caller_frame(sample.machine, found, registers, pc);
+    if code.is_executable(caller.look_up_address()) {
+        Ok(caller)
+    } else {
+        Err(ChainEnd::Outside)
+    }
+}
+
+// The frame that registers are of, with this program counter.
+fn caller_frame(machine: Machine, found: &Found, registers: &Registers, pc: u64) -> Frame
+    ensures { result ≡ frame_of_caller machine found.now registers.now pc }
+{
+    let mut known = *registers;
+    known.set(pc_number(machine), Some(pc));
+    Frame {
+        registers: known,
+        pc,
+        is_exact: found.is_signal,
+        origin: found.origin,
+    }
+}
+
+// The caller with the registers that were found, if it can be one.
+fn caller_of<C: CodeMap>(
+    sample: &Sample<'_>,
+    code: &C,
+    frame: &Frame,
+    found: &Found,
+) -> Result<Frame, ChainEnd>
+    ensures { Calls (C.executable code.now) sample.now.machine frame.now found.now result }
+{
+    let registers = found.registers?;
+    caller_with(sample, code, frame, found, &registers)
+}
+
+// Finds the caller of a frame.
+pub(crate) fn find_step<C: CodeMap>(
+    sample: &Sample<'_>,
+    code: &mut C,
+    frame: &Frame,
+    evaluator: &mut Evaluator,
+) -> Result<Step, AllocError>
+    ensures executable { (a : ℕ) → (b : Bool) → C.executable code.new a b → C.executable code.old a b }
+    ensures places { (a : ℕ) → (p : Place) → C.places code.new a p → C.places code.old a p }
+    ensures step { IfOk result (λ step. IsStep (C.executable code.old) (C.places code.old)
+        sample.now.machine sample.now.copy frame.now (remaining_of evaluator.old) step
+        (remaining_of evaluator.new)) }
+{
+    let found = find_caller(sample, code, frame, evaluator)?;
+    let caller = caller_of(sample, code, frame, &found);
+    Ok(Step {
+        is_signal: found.is_signal,
+        caller,
+    })
+}
