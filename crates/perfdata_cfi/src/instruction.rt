@@ -196,6 +196,40 @@ fn read_cfa<'a>(
     }
 }
 
+// Reads the operands of an instruction that sets the rule of a register to an offset.
+fn read_offset_rule<'a>(
+    opcode: u8,
+    bytes: &'a [u8],
+    encoding: &Encoding,
+) -> Result<(Instruction, &'a [u8]), CfiError>
+    ensures found { IfOk result (λ x. OperandsAt encoding.now opcode bytes.now x.0 x.1.now) }
+    ensures shorter { IfOk result (λ x. length x.1.now ≤ length bytes.now) }
+{
+    match opcode {
+        0x05 => {
+            let (register, offset, rest) = read_pair(bytes)?;
+            Ok((Instruction::Offset(register, offset), rest))
+        }
+        0x11 => {
+            let (register, offset, rest) = read_signed_pair(bytes)?;
+            Ok((Instruction::OffsetSigned(register, offset), rest))
+        }
+        0x14 => {
+            let (register, offset, rest) = read_pair(bytes)?;
+            Ok((Instruction::ValueOffset(register, offset), rest))
+        }
+        0x15 => {
+            let (register, offset, rest) = read_signed_pair(bytes)?;
+            Ok((Instruction::ValueOffsetSigned(register, offset), rest))
+        }
+        0x2f => {
+            let (register, offset, rest) = read_pair(bytes)?;
+            Ok((Instruction::OffsetNegative(register, offset), rest))
+        }
+        _ => Err(CfiError::Opcode(opcode)),
+    }
+}
+
 // Reads the operands of an instruction that sets the rule of a register.
 fn read_rule<'a>(
     opcode: u8,
@@ -207,10 +241,6 @@ fn read_rule<'a>(
     ensures shorter { IfOk result (λ x. length x.1.now ≤ length bytes.now) }
 {
     match opcode {
-        0x05 => {
-            let (register, offset, rest) = read_pair(bytes)?;
-            Ok((Instruction::Offset(register, offset), rest))
-        }
         0x07 => {
             let (register, rest) = read_uleb128(bytes)?;
             Ok((Instruction::Undefined(register), rest))
@@ -227,27 +257,11 @@ fn read_rule<'a>(
             let (register, expression, rest) = read_register_expression(bytes, encoding.end)?;
             Ok((Instruction::Expression(register, expression), rest))
         }
-        0x11 => {
-            let (register, offset, rest) = read_signed_pair(bytes)?;
-            Ok((Instruction::OffsetSigned(register, offset), rest))
-        }
-        0x14 => {
-            let (register, offset, rest) = read_pair(bytes)?;
-            Ok((Instruction::ValueOffset(register, offset), rest))
-        }
-        0x15 => {
-            let (register, offset, rest) = read_signed_pair(bytes)?;
-            Ok((Instruction::ValueOffsetSigned(register, offset), rest))
-        }
         0x16 => {
             let (register, expression, rest) = read_register_expression(bytes, encoding.end)?;
             Ok((Instruction::ValueExpression(register, expression), rest))
         }
-        0x2f => {
-            let (register, offset, rest) = read_pair(bytes)?;
-            Ok((Instruction::OffsetNegative(register, offset), rest))
-        }
-        _ => Err(CfiError::Opcode(opcode)),
+        _ => read_offset_rule(opcode, bytes, encoding),
     }
 }
 
