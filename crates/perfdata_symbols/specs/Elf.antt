@@ -9,7 +9,7 @@ use Rattle.perfdata_symbols.specs.declared.elf.symbols.ElfSymbol.{ElfSymbol}
 use Rattle.perfdata_symbols.specs.declared.elf.symbols.SymbolContext.{SymbolContext}
 use Rattle.perfdata_symbols.specs.declared.ranked.RankedSymbol.{RankedSymbol}
 
--- the number of so many bytes at an offset of an entry, or 0 if they aren't completely in it
+-- the number of `size` bytes at an offset of an entry, or 0 if they aren't completely in it
 abbrev pub number_at : Encoding → List ℕ → ℕ → ℕ → ℕ
 number_at e bytes at size = if nat_le (at + size) (length bytes) then number_in e.endian size (drop at bytes) else 0
 
@@ -81,7 +81,7 @@ pub record IsRanked (c : SymbolContext) (s : ElfSymbol) (i : ℕ) (r : RankedSym
   pub name : r.symbol.name_start ≡ s.name
   pub of_file : r.is_made ≡ false
 
--- the symbol is that of one of the entries of a table, each of so many bytes
+-- the symbol is that of one of the entries of a table, each of `entry_size` bytes
 pub record IsOfEntry (c : SymbolContext) (entries : List ℕ) (entry_size : ℕ) (r : RankedSymbol) : Type 0 where
   pub index : ℕ
   pub within : index * entry_size + entry_size ≤ length entries
