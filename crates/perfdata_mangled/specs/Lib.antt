@@ -1,3 +1,5 @@
 pub mod Cursor
+pub mod Digits
 pub mod Legacy
+pub mod RustNames
 pub mod Text

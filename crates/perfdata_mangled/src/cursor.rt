@@ -1,6 +1,8 @@
 //! A position in the bytes of a name.
 ghost use Rattle.std.specs.Prelude.{◌≡◌, ◌+◌, ◌<◌, ◌≤◌, IfOk, IsNone, IsTrue, OnErr, OnOk, if◌then◌else◌};
-ghost use Rattle.std.specs.Prelude.{◌↔◌, length, slice_range};
+ghost use Rattle.std.specs.Prelude.{◌↔◌, ◌*◌, ◌^◌, [], IfNone, IfSome, IsOkUnless, SomeIff, length};
+ghost use Rattle.std.specs.Prelude.{slice_range};
+ghost use Rattle.perfdata_mangled.specs.declared.failure.Failure.TheVariants.{Grammar};
 
 use crate::failure::Failure;
 
@@ -12,7 +14,9 @@ pub struct Cursor<'a> {
 }
 
 impl<'a> Cursor<'a> {
-    ghost use Rattle.perfdata_mangled.specs.Cursor.{bytes_of, position_of, byte_at};
+    ghost use Rattle.perfdata_mangled.specs.Cursor.{IsDigitAt, ReadsNumber};
+    ghost use Rattle.perfdata_mangled.specs.Cursor.{bytes_of, byte_at, position_of, unread};
+    ghost use Rattle.perfdata_mangled.specs.Digits.{leading_digits};
 
     /// Creates a cursor at the first byte.
     pub fn new(bytes: &'a [u8]) -> Cursor<'a>
@@ -51,6 +55,21 @@ impl<'a> Cursor<'a> {
         self.bytes.get(self.position).copied()
     }
 
+    // Returns the number of all bytes.
+    pub(crate) fn len(&self) -> usize
+        ensures count { result ≡ length (bytes_of self.now) }
+        ensures memory { length (bytes_of self.now) < 2 ^ 64 }
+    {
+        self.bytes.len()
+    }
+
+    // Returns whether the next byte is this one. The position stays.
+    pub(crate) fn is_next(&self, byte: u8) -> bool
+        ensures { IsTrue result ↔ (byte_at self.now ≡ Some byte) }
+    {
+        self.peek() == Some(byte)
+    }
+
     /// Returns the next byte and moves after it.
     ///
     /// Fails with [`Failure::Grammar`] if no byte is left. Then the position stays.
@@ -60,6 +79,7 @@ impl<'a> Cursor<'a> {
         ensures position { OnOk result (position_of self.new ≡ position_of self.old + 1) }
         ensures none { OnErr result (IsNone (byte_at self.old)) }
         ensures stays { OnErr result (position_of self.new ≡ position_of self.old) }
+        ensures why { IsOkUnless result Grammar }
     {
         let Some(byte) = self.peek() else {
             return Err(Failure::Grammar);
@@ -74,7 +94,7 @@ impl<'a> Cursor<'a> {
         ensures is { IsTrue result ↔ (byte_at self.old ≡ Some byte) }
         ensures position { position_of self.new ≡ position_of self.old + (if result then 1 else 0) }
     {
-        if self.peek() == Some(byte) {
+        if self.is_next(byte) {
             self.position += 1;
             true
         } else {
@@ -93,6 +113,7 @@ impl<'a> Cursor<'a> {
             taken.now ≡ slice_range (bytes_of self.old) (position_of self.old) (position_of self.new)) }
         ensures few { OnErr result (length (bytes_of self.old) < position_of self.old + count) }
         ensures stays { OnErr result (position_of self.new ≡ position_of self.old) }
+        ensures why { IsOkUnless result Grammar }
     {
         let start = self.position;
         if self.bytes.len() < start || self.bytes.len() - start < count {
@@ -110,22 +131,42 @@ impl<'a> Cursor<'a> {
         ensures bytes { bytes_of self.new ≡ bytes_of self.old }
         ensures position { position_of self.old ≤ position_of self.new }
         ensures digit { OnOk result (position_of self.old < position_of self.new) }
+        ensures number { ReadsNumber self.old result self.new }
     {
-        let mut number = digit_of(self.next_byte()?).ok_or(Failure::Grammar)?;
-        'digits: while let Some(digit) = self.peek().and_then(digit_of) {
+        let start = self.position;
+        // For the prover.
+        let _count = self.len();
+        let mut number = 0usize;
+        'digits: while let Some(digit) = self.peek_digit() {
+            let Some(next) = push_digit(number, digit) else {
+                return Err(Failure::Limit);
+            };
+            number = next;
             self.position += 1;
-            number = number.checked_mul(10).ok_or(Failure::Limit)?;
-            number = number.checked_add(digit).ok_or(Failure::Limit)?;
+        }
+        if self.position == start {
+            return Err(Failure::Grammar);
         }
         Ok(number)
     }
+
+    // Returns the value of the next byte if that is a decimal digit. The position stays.
+    fn peek_digit(&self) -> Option<usize>
+        ensures some { IfSome result (λ digit. IsDigitAt self.now digit) }
+        ensures none { IfNone result (leading_digits (unread self.now) ≡ []) }
+    {
+        let byte = self.peek()?;
+        if byte.is_ascii_digit() {
+            Some((byte - b'0') as usize)
+        } else {
+            None
+        }
+    }
 }
 
-// Returns the value of a decimal digit.
-fn digit_of(byte: u8) -> Option<usize> {
-    if byte.is_ascii_digit() {
-        Some((byte - b'0') as usize)
-    } else {
-        None
-    }
+// Returns the number with one more decimal digit, or `None` if it is 2^64 or more.
+fn push_digit(number: usize, digit: usize) -> Option<usize>
+    ensures { SomeIff result (number * 10 + digit < 2 ^ 64) (number * 10 + digit) }
+{
+    number.checked_mul(10)?.checked_add(digit)
 }

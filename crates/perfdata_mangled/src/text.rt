@@ -1,6 +1,6 @@
 //! Texts of limited length.
 ghost use Rattle.std.specs.Prelude.{◌≡◌, ◌↔◌, ◌≤◌, ◌++◌, [], IfErr, OnOk, OnErr, IsTrue};
-ghost use Rattle.std.specs.Prelude.{length, take, vec_len, decimal, encode_utf8};
+ghost use Rattle.std.specs.Prelude.{◌-◌, length, slice_get, take, vec_len, decimal, encode_utf8};
 
 use crate::failure::Failure;
 use itoa::Buffer;
@@ -80,7 +80,9 @@ impl Text {
     }
 
     /// Returns the last byte.
-    pub fn last(&self) -> Option<u8> {
+    pub fn last(&self) -> Option<u8>
+        ensures { result ≡ slice_get (text_of self.now) (length (text_of self.now) - 1) }
+    {
         self.bytes.last().copied()
     }
 
@@ -114,6 +116,7 @@ impl Text {
         ensures limit { limit_of self.new ≡ limit_of self.old }
         ensures ok { OnOk result (text_of self.new ≡ text_of self.old ++ encode_utf8 character) }
         ensures err { OnErr result (text_of self.new ≡ text_of self.old) }
+        ensures why { IfErr result (λ why. IsWhy self.old (length (encode_utf8 character)) why) }
     {
         let mut buffer = [0u8; 4];
         self.put(character.encode_utf8(&mut buffer).as_bytes())
@@ -124,6 +127,7 @@ impl Text {
         ensures limit { limit_of self.new ≡ limit_of self.old }
         ensures ok { OnOk result (text_of self.new ≡ text_of self.old ++ decimal number) }
         ensures err { OnErr result (text_of self.new ≡ text_of self.old) }
+        ensures why { IfErr result (λ why. IsWhy self.old (length (decimal number)) why) }
     {
         let mut digits = Buffer::new();
         self.put(digits.format(number).as_bytes())

@@ -45,8 +45,12 @@ pub struct RustNames {
 }
 
 impl RustNames {
+    ghost use Rattle.perfdata_mangled.specs.RustNames.{IsUnused};
+
     /// Creates a demangler of Rust's names.
-    pub fn new(alloc: Global) -> RustNames {
+    pub fn new(alloc: Global) -> RustNames
+        ensures { IsUnused result }
+    {
         RustNames {
             tasks: Vec::new(alloc),
             characters: Vec::new(alloc),

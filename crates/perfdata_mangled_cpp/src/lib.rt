@@ -36,8 +36,12 @@ pub struct CppDemangler {
 }
 
 impl CppDemangler {
+    ghost use Rattle.perfdata_mangled_cpp.specs.Unused.{IsUnused};
+
     /// Creates a demangler.
-    pub fn new(alloc: Global) -> CppDemangler {
+    pub fn new(alloc: Global) -> CppDemangler
+        ensures { IsUnused result }
+    {
         CppDemangler {
             reader: Reader::new(alloc),
             printer: Printer::new(alloc),

@@ -171,8 +171,12 @@ pub(crate) struct Arena {
 }
 
 impl Arena {
+    ghost use Rattle.perfdata_mangled_cpp.specs.Unused.{IsEmptyArena};
+
     /// Creates an empty arena.
-    pub(crate) fn new(alloc: Global) -> Arena {
+    pub(crate) fn new(alloc: Global) -> Arena
+        ensures { IsEmptyArena result }
+    {
         Arena {
             name: Vec::new(alloc),
             nodes: Vec::new(alloc),

@@ -126,8 +126,12 @@ pub(crate) struct Printer {
 }
 
 impl Printer {
+    ghost use Rattle.perfdata_mangled_cpp.specs.Unused.{IsUnusedPrinter};
+
     /// Creates a printer.
-    pub(crate) fn new(alloc: Global) -> Printer {
+    pub(crate) fn new(alloc: Global) -> Printer
+        ensures { IsUnusedPrinter result }
+    {
         Printer {
             tasks: Vec::new(alloc),
             scopes: Vec::new(alloc),

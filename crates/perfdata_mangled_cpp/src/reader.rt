@@ -214,8 +214,12 @@ pub(crate) struct Reader {
 }
 
 impl Reader {
+    ghost use Rattle.perfdata_mangled_cpp.specs.Unused.{IsUnusedReader};
+
     /// Creates a reader.
-    pub(crate) fn new(alloc: Global) -> Reader {
+    pub(crate) fn new(alloc: Global) -> Reader
+        ensures { IsUnusedReader result }
+    {
         Reader {
             arena: Arena::new(alloc),
             tasks: Vec::new(alloc),

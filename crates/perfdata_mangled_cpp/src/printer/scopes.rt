@@ -193,27 +193,6 @@ impl Printer {
     // Adds what a node consists of to what is searched for parameter packs.
     fn search_in(&mut self, node: Node, arena: &Arena) -> Result<(), Failure> {
         match node {
-            Node::Qualified(first, second)
-            | Node::Local(first, second)
-            | Node::Binary(_, first, second)
-            | Node::Call(first, second)
-            | Node::Index(first, second)
-            | Node::Cast(first, second)
-            | Node::NamedCast(_, first, second)
-            | Node::Braces(Some(first), second)
-            | Node::BinaryFold(_, first, second)
-            | Node::MemberPointer(first, second)
-            | Node::Vector(first, second)
-            | Node::VendorQualifier(first, second)
-            | Node::Array(Some(first), second) => {
-                self.search.push(second)?;
-                self.search.push(first)?;
-            }
-            Node::Condition(first, second, third) => {
-                self.search.push(third)?;
-                self.search.push(second)?;
-                self.search.push(first)?;
-            }
             Node::FunctionQualifier(inner, _)
             | Node::TypeQualifier(inner, _)
             | Node::Wrapped(_, inner)
@@ -236,11 +215,41 @@ impl Printer {
                 self.search.push(inner)?;
             }
             Node::Pack(list) | Node::Expressions(list) => self.search_in_list(list, arena)?,
+            _ => self.search_in_each(node)?,
+        }
+        Ok(())
+    }
+
+    // Adds the two or three nodes that a node consists of.
+    fn search_in_each(&mut self, node: Node) -> Result<(), Failure> {
+        match node {
+            Node::Qualified(first, second)
+            | Node::Local(first, second)
+            | Node::Binary(_, first, second)
+            | Node::Call(first, second)
+            | Node::Index(first, second)
+            | Node::Cast(first, second)
+            | Node::NamedCast(_, first, second)
+            | Node::Braces(Some(first), second)
+            | Node::BinaryFold(_, first, second)
+            | Node::MemberPointer(first, second)
+            | Node::Vector(first, second)
+            | Node::VendorQualifier(first, second)
+            | Node::Array(Some(first), second) => {
+                self.search.push(second)?;
+                self.search.push(first)?;
+            }
+            Node::Condition(first, second, third) => {
+                self.search.push(third)?;
+                self.search.push(second)?;
+                self.search.push(first)?;
+            }
             _ => (),
         }
         Ok(())
     }
 
+    // Adds the items of a list.
     fn search_in_list(&mut self, list: NodeList, arena: &Arena) -> Result<(), Failure> {
         let count = list.end.saturating_sub(list.start);
         for index in 0..count {

@@ -1,6 +1,12 @@
-use Rattle.std.proofs.Common.{◌≡◌}
-use Rattle.perfdata_mangled.specs.Text.{limit_of}
+use Rattle.std.proofs.Common.{◌≡◌, ◌++◌, length}
+use Rattle.perfdata_mangled.specs.Legacy.{text_of_escapes, text_of_part}
+use Rattle.perfdata_mangled.specs.Text.{limit_of, text_of}
 use Rattle.perfdata_mangled.proofs.legacy.write_part.Given as goal
 
-abbrev pub invariant-bytes : goal.invariant-bytes
-invariant-bytes l = limit_of l.text ≡ limit_of l.fn.text
+abbrev pub invariant-escapes : goal.invariant-escapes
+invariant-escapes l =
+    (limit_of l.text ≡ limit_of l.fn.text)
+    × (text_of l.text ++ text_of_escapes l.rest ≡ text_of l.fn.text ++ text_of_part l.part)
+
+abbrev pub decreases-escapes : goal.decreases-escapes
+decreases-escapes l = length l.rest
