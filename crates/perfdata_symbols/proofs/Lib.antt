@@ -1,3 +1,5 @@
+pub mod ArmPltLemmas
+pub mod CrcLemmas
 pub mod CutLemmas
 pub mod EntryLemmas
 pub mod KernelLineLemmas

@@ -9,7 +9,7 @@ use Rattle.perfdata_symbols.specs.declared.elf.symbols.ElfSymbol.{ElfSymbol}
 use Rattle.perfdata_symbols.specs.declared.elf.symbols.SymbolContext.{SymbolContext}
 use Rattle.perfdata_symbols.specs.declared.ranked.RankedSymbol.{RankedSymbol}
 
--- the number of so many bytes at an offset of an entry, or 0 if they aren't completely in it
+-- the number of `size` bytes at an offset of an entry, or 0 if they aren't completely in it
 abbrev pub number_at : Encoding → List ℕ → ℕ → ℕ → ℕ
 number_at e bytes at size = if nat_le (at + size) (length bytes) then number_in e.endian size (drop at bytes) else 0
 
@@ -74,14 +74,21 @@ pub record IsSymbolOffset (c : SymbolContext) (s : ElfSymbol) (section : Option 
   pub by_section : ((c.header.file_type ≡ 1) ⊎ (length c.segments.now ≡ 0)) → result ≡ option_map (section_offset (symbol_address c.header.machine s)) section
   pub by_segment : c.header.file_type ≢ 1 → length c.segments.now ≢ 0 → IsOffsetOfAddress c.segments.now (symbol_address c.header.machine s) result
 
+-- the symbol has a name, and is in a section of this file: neither in another file (`SHN_UNDEF`) nor without an address (`SHN_ABS`)
+pub record IsDefined (s : ElfSymbol) : Type 0 where
+  pub named : s.name ≢ 0
+  pub here : s.section ≢ 0
+  pub relative : s.section ≢ 0xfff1
+
 -- the symbol has the offset, the size and the name of the entry with this index
 pub record IsRanked (c : SymbolContext) (s : ElfSymbol) (i : ℕ) (r : RankedSymbol) : Type 0 where
+  pub defined : IsDefined s
   pub offset : IsSymbolOffset c s (section_of_symbol c s i) (Some r.symbol.start)
   pub size : r.symbol.size ≡ s.size
   pub name : r.symbol.name_start ≡ s.name
   pub of_file : r.is_made ≡ false
 
--- the symbol is that of one of the entries of a table, each of so many bytes
+-- the symbol is that of one of the entries of a table, each of `entry_size` bytes
 pub record IsOfEntry (c : SymbolContext) (entries : List ℕ) (entry_size : ℕ) (r : RankedSymbol) : Type 0 where
   pub index : ℕ
   pub within : index * entry_size + entry_size ≤ length entries

@@ -1,11 +1,15 @@
+pub mod ArmPlt
+pub mod Crc
 pub mod Cuts
 pub mod Elf
+pub mod ElfFiles
 pub mod Kernel
 pub mod Layer
 pub mod Lines
 pub mod Overlay
 pub mod Plt
 pub mod PltRelocations
+pub mod RankedLists
 pub mod Strings
 pub mod StringTable
 pub mod Symbols

@@ -1,10 +1,13 @@
 -- The entries of procedure linkage tables.
-use Rattle.std.specs.Prelude.{◌≡◌, ℕ, ◌+◌, ◌*◌, ◌/◌, ◌%◌, ◌^◌, ◌≤◌, Bool, true, false, List, ◌++◌, All, Some, if◌then◌else◌, length, slice_get, slice_range}
+use Rattle.std.specs.Prelude.{◌≡◌, ◌⊎◌, ℕ, zero, suc, ◌+◌, ◌*◌, ◌/◌, ◌%◌, ◌^◌, ◌≤◌, Bool, true, false, List, [], ◌∷◌, ◌++◌, All, Some, if◌then◌else◌, length, slice_get, slice_range}
 use Rattle.std.specs.List.Sorted.{IsNonDecreasingBy}
+use Rattle.perfdata_symbols.specs.ArmPlt.{AreEntries}
 use Rattle.perfdata_symbols.specs.Elf.{word_at}
+use Rattle.perfdata_symbols.specs.declared.elf.arm_plt.CodedEntries.{CodedEntries}
 use Rattle.perfdata_symbols.specs.declared.elf.header.Section.{Section}
 use Rattle.perfdata_symbols.specs.declared.elf.input.Encoding.{Encoding}
 use Rattle.perfdata_symbols.specs.declared.elf.plt.PltContext.{PltContext}
+use Rattle.perfdata_symbols.specs.declared.elf.plt.PltEntry.{PltEntry}
 use Rattle.perfdata_symbols.specs.declared.elf.plt.PltLayout.{PltLayout}
 use Rattle.perfdata_symbols.specs.declared.elf.plt.Relocation.{Relocation}
 use Rattle.perfdata_symbols.specs.declared.elf.plt.RelocationKind.{RelocationKind}
@@ -34,30 +37,46 @@ pub record IsOfFile (c : PltContext) (r : Relocation) : Type 0 where
 abbrev pub IsInPointerOrder : List Relocation → Type 0
 IsInPointerOrder relocations = IsNonDecreasingBy (λ r. r.offset) relocations
 
+-- the entry with this index of a layout, whose offset is modulo 2^64
+abbrev pub fixed_entry : PltLayout → ℕ → PltEntry
+fixed_entry layout i = record { offset = ((i * layout.entry_size) % 2 ^ 64 + layout.header_size) % 2 ^ 64; size = layout.entry_size }
+
+-- the first `n` entries of a layout
+abbrev pub fixed_entries : PltLayout → ℕ → List PltEntry
+fixed_entries layout zero = []
+fixed_entries layout (suc n) = fixed_entries layout n ++ fixed_entry layout n ∷ []
+
+-- the entries of a table: the first ones of a layout, or those that the code of the table says
+abbrev pub AreOfTable : PltContext → List PltEntry → Type 0
+AreOfTable c entries = ((layout : PltLayout) × (count : ℕ) × (entries ≡ fixed_entries layout count)) ⊎ ((coded : CodedEntries) × AreEntries c.code_encoding c.code.now coded × (entries ≡ coded.entries.items))
+
 -- the symbol was made with this start and this size
 pub record IsMade (start size : ℕ) (r : RankedSymbol) : Type 0 where
   pub start_is : r.symbol.start ≡ start
   pub size_is : r.symbol.size ≡ size
   pub made : r.is_made ≡ true
 
--- the symbol is that of an entry: the one with the index of one of the relocations
-pub record IsOfPlt (section : Section) (layout : PltLayout) (relocations : List Relocation) (r : RankedSymbol) : Type 0 where
+-- the symbol is that of an entry, which has the index of one of the relocations
+pub record IsOfPlt (section : Section) (entries : List PltEntry) (relocations : List Relocation) (r : RankedSymbol) : Type 0 where
   pub index : ℕ
   pub relocation : Relocation
+  pub entry : PltEntry
   pub is : slice_get relocations index ≡ Some relocation
-  pub made : IsMade ((section.offset + ((index * layout.entry_size) % 2 ^ 64 + layout.header_size) % 2 ^ 64) % 2 ^ 64) layout.entry_size r
+  pub entry_is : slice_get entries index ≡ Some entry
+  pub made : IsMade ((section.offset + entry.offset) % 2 ^ 64) entry.size r
 
 -- symbols of entries are appended, and names
-pub record AddsPlt (section : Section) (layout : PltLayout) (relocations : List Relocation) (old new : RankedSymbols) : Type 0 where
+pub record AddsPlt (section : Section) (entries : List PltEntry) (relocations : List Relocation) (old new : RankedSymbols) : Type 0 where
   pub added : List RankedSymbol
   pub names : List ℕ
   pub appended : new.symbols.items ≡ old.symbols.items ++ added
   pub appended_names : new.names.items ≡ old.names.items ++ names
-  pub each : All (IsOfPlt section layout relocations) added
+  pub each : All (IsOfPlt section entries relocations) added
 
--- symbols of entries are appended, each that of a relocation in the order of the addresses of their pointers
-pub record AddsInOrder (section : Section) (old new : RankedSymbols) : Type 0 where
-  pub layout : PltLayout
+-- symbols of the entries of a table are appended, each that of a relocation in the order of the addresses of their pointers
+pub record AddsInOrder (c : PltContext) (section : Section) (old new : RankedSymbols) : Type 0 where
+  pub entries : List PltEntry
   pub relocations : List Relocation
+  pub of_table : AreOfTable c entries
   pub in_order : IsInPointerOrder relocations
-  pub adds : AddsPlt section layout relocations old new
+  pub adds : AddsPlt section entries relocations old new

@@ -1,5 +1,8 @@
 //! The CRC-32 of debug files, which debug links contain.
 
+ghost use Rattle.std.specs.Prelude.{◌≡◌, ◌%◌, ◌++◌, [], ℕ, List, bit_xor};
+ghost use Rattle.perfdata_symbols.specs.Crc.{IsCrcOf, crc_32, crc_bits};
+
 // What four bits more make of the lowest four bits of a CRC, for the polynomial 0xedb88320.
 const NIBBLES: [u32; 16] = [
     0x0000_0000,
@@ -27,26 +30,41 @@ pub struct Crc32 {
 }
 
 // The state after four bits, the lowest ones of `bits`.
-fn next_state(state: u32, bits: u32) -> u32 {
+fn next_state(state: u32, bits: u32) -> u32
+    ensures { result ≡ crc_bits 4 (bit_xor state (bits % 16)) }
+{
     NIBBLES[((state ^ bits) % 16) as usize] ^ (state >> 4)
+}
+
+// The state after a byte.
+fn state_after(state: u32, byte: u8) -> u32
+    ensures { result ≡ crc_bits 8 (bit_xor state byte) }
+{
+    let bits = byte as u32;
+    next_state(next_state(state, bits), bits >> 4)
 }
 
 impl Crc32 {
     /// Returns the CRC of no bytes.
-    pub fn new() -> Crc32 {
+    pub fn new() -> Crc32
+        ensures { IsCrcOf result [] }
+    {
         Crc32 { state: u32::MAX }
     }
 
     /// Adds bytes.
-    pub fn update(&mut self, bytes: &[u8]) {
+    pub fn update(&mut self, bytes: &[u8])
+        ensures { (before : List ℕ) → IsCrcOf self.old before → IsCrcOf self.new (before ++ bytes.now) }
+    {
         'bytes: for byte in bytes.iter() {
-            let bits = *byte as u32;
-            self.state = next_state(next_state(self.state, bits), bits >> 4);
+            self.state = state_after(self.state, *byte);
         }
     }
 
     /// Returns the CRC of the bytes so far.
-    pub fn value(&self) -> u32 {
+    pub fn value(&self) -> u32
+        ensures { (bytes : List ℕ) → IsCrcOf self.now bytes → result ≡ crc_32 bytes }
+    {
         !self.state
     }
 }

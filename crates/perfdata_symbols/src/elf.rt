@@ -1,5 +1,7 @@
 //! ELF files: their segments, symbols, build id and debug link (System V ABI, chapter "Object files").
 
+ghost use Rattle.std.specs.Prelude.{◌≡◌};
+
 use crate::error::{ElfError, ElfTable};
 use crate::ranked::RankedSymbols;
 use bstr::ByteSlice;
@@ -7,18 +9,26 @@ use memchr::memchr;
 use perfdata_base::source::PlacedSource;
 use std::alloc::{AllocError, Global};
 
+mod arm_plt;
+mod code;
+mod frame_header;
 mod header;
 mod input;
 mod notes;
 mod plt;
+mod plt_ranges;
+mod sections;
 mod strings;
 mod symbols;
 
 pub use header::Segment;
-use header::{FileHeader, Section};
+use header::{FileHeader, Section, Segments};
 use input::{Encoding, Entry, read_table};
 pub use notes::build_id_of_notes;
 use notes::{NoteRange, build_id_in};
+pub use plt_ranges::PltRange;
+pub use sections::SectionBytes;
+use sections::{contents_of, section_at};
 use strings::Strings;
 use symbols::{SymbolContext, add_symbols};
 
@@ -54,10 +64,14 @@ pub struct ElfFile<R> {
     sections: Vec<Section>,
     section_names: Strings,
     segments: Vec<Segment>,
+    // The segment of `.eh_frame_hdr`.
+    frame_header: Option<Segment>,
     notes: Vec<NoteRange>,
 }
 
 impl<R: PlacedSource + Drop> ElfFile<R> {
+    ghost use Rattle.perfdata_symbols.specs.ElfFiles.{machine_of, segments_of};
+
     /// Reads the file header, the section headers with their names, and the program headers.
     ///
     /// The errors are those of [`ElfError`]. No count of the file reserves memory: tables are read in pieces
@@ -67,26 +81,39 @@ impl<R: PlacedSource + Drop> ElfFile<R> {
         let sections = header::read_sections(alloc, &mut source, &mut header)?;
         let section_names = match section_at(&sections, header.names_index as usize) {
             Some(section) => {
-                let bytes = read_section(alloc, &mut source, &section, ElfTable::Strings)?;
+                let bytes = contents_of(alloc, &mut source, &section, ElfTable::Strings)?;
                 Strings::new(alloc, bytes)?
             }
             None => Strings::new(alloc, Vec::new(alloc))?,
         };
-        let mut notes = Vec::new(alloc);
-        let segments = header::read_segments(alloc, &mut source, &header, &mut notes)?;
+        let Segments {
+            loaded,
+            frame_header,
+            mut notes,
+        } = header::read_segments(alloc, &mut source, &header)?;
         notes::add_note_sections(&sections, &mut notes)?;
         Ok(ElfFile {
             source,
             header,
             sections,
             section_names,
-            segments,
+            segments: loaded,
+            frame_header,
             notes,
         })
     }
 
+    /// Returns the number of the machine (`e_machine`): 62 for x86-64, 183 for AArch64.
+    pub fn machine(&self) -> u16
+        ensures { result ≡ machine_of self.now }
+    {
+        self.header.machine
+    }
+
     /// Returns the segments that are loaded into memory.
-    pub fn segments(&self) -> &[Segment] {
+    pub fn segments(&self) -> &[Segment]
+        ensures { result.now ≡ segments_of self.now }
+    {
         &self.segments[..]
     }
 
@@ -121,7 +148,7 @@ impl<R: PlacedSource + Drop> ElfFile<R> {
             return Ok(None);
         };
         section.size = section.size.min(MAX_DEBUG_LINK_SIZE);
-        let bytes = read_section(alloc, &mut self.source, &section, ElfTable::DebugLink)?;
+        let bytes = contents_of(alloc, &mut self.source, &section, ElfTable::DebugLink)?;
         debug_link_of(alloc, self.header.encoding, &bytes)
     }
 
@@ -142,7 +169,7 @@ impl<R: PlacedSource + Drop> ElfFile<R> {
         let Some(section) = section_at(&self.sections, index) else {
             return Ok(RankedSymbols::new(alloc));
         };
-        let entries = read_section(alloc, &mut self.source, &section, ElfTable::Symbols)?;
+        let entries = contents_of(alloc, &mut self.source, &section, ElfTable::Symbols)?;
         let section_indices = self.large_indices(alloc, index)?;
         let names = self.linked_strings(alloc, &section)?;
         let text_sections = are_text(alloc, &self.sections, &self.section_names)?;
@@ -167,9 +194,11 @@ impl<R: PlacedSource + Drop> ElfFile<R> {
     ///
     /// The entries are in the order of the addresses of their pointers, `r_offset` of the relocations
     /// `.rela.plt` or `.rel.plt`. How many bytes are before the first one follows from the size of the
-    /// section and the number of entries. A table that isn't what linkers write for the machine has no
-    /// symbols. A relocation of a TLS descriptor has no entry, so the code after the entries, which all
-    /// descriptors share, has no symbol. A symbol of the file at the start of an entry is preferred to these.
+    /// section and the number of entries. For 32-bit Arm the sizes of the entries follow from their code if
+    /// GNU ld or gold wrote it: an entry begins with a stub where Thumb code calls it. A table that isn't
+    /// what linkers write for the machine has no symbols. A relocation of a TLS descriptor has no entry, so
+    /// the code after the entries, which all descriptors share, has no symbol. A symbol of the file at the
+    /// start of an entry is preferred to these.
     ///
     /// If it fails, the symbols may have those of some entries.
     pub fn add_plt_symbols(
@@ -184,9 +213,10 @@ impl<R: PlacedSource + Drop> ElfFile<R> {
         let Some(dynamic) = self.symbol_table_at(relocations.link as usize) else {
             return Ok(());
         };
-        let entries = read_section(alloc, &mut self.source, &relocations, ElfTable::Relocations)?;
-        let dynamic_entries = read_section(alloc, &mut self.source, &dynamic, ElfTable::Symbols)?;
+        let entries = contents_of(alloc, &mut self.source, &relocations, ElfTable::Relocations)?;
+        let dynamic_entries = contents_of(alloc, &mut self.source, &dynamic, ElfTable::Symbols)?;
         let names = self.linked_strings(alloc, &dynamic)?;
+        let code = self.arm_code(alloc)?;
         let context = plt::PltContext {
             encoding: self.header.encoding,
             machine: self.header.machine,
@@ -195,15 +225,28 @@ impl<R: PlacedSource + Drop> ElfFile<R> {
             symbols: &dynamic_entries,
             symbol_size: dynamic.entry_size,
             names: &names,
+            code: &code,
+            code_encoding: arm_plt::code_encoding(&self.header),
         };
         let plt_relocations = plt::PltRelocations::read(alloc, &context)?;
         if let Some(section) = self.code_of_name(b".plt") {
-            plt_relocations.add_plt(&context, &section, symbols)?;
+            plt_relocations.add_plt(alloc, &context, &section, symbols)?;
         }
         if let Some(section) = self.code_of_name(b".plt.sec") {
-            plt_relocations.add_second_plt(&context, &section, symbols)?;
+            plt_relocations.add_second_plt(alloc, &context, &section, symbols)?;
         }
         Ok(())
+    }
+
+    // The code of `.plt` for 32-bit Arm, or none.
+    fn arm_code(&mut self, alloc: Global) -> Result<Vec<u8>, ElfError> {
+        if self.header.machine != plt::ARM {
+            return Ok(Vec::new(alloc));
+        }
+        match self.code_of_name(b".plt") {
+            Some(section) => contents_of(alloc, &mut self.source, &section, ElfTable::Section),
+            None => Ok(Vec::new(alloc)),
+        }
     }
 
     // The section with this index, if it is a symbol table.
@@ -238,7 +281,7 @@ impl<R: PlacedSource + Drop> ElfFile<R> {
             return Ok(Vec::new(alloc));
         };
         match section_at(&self.sections, at) {
-            Some(section) => read_section(alloc, &mut self.source, &section, ElfTable::Symbols),
+            Some(section) => contents_of(alloc, &mut self.source, &section, ElfTable::Symbols),
             None => Ok(Vec::new(alloc)),
         }
     }
@@ -258,33 +301,11 @@ impl<R: PlacedSource + Drop> ElfFile<R> {
     // The strings of the section that another one is linked to.
     fn linked_strings(&mut self, alloc: Global, section: &Section) -> Result<Strings, ElfError> {
         let bytes = match section_at(&self.sections, section.link as usize) {
-            Some(strings) => read_section(alloc, &mut self.source, &strings, ElfTable::Strings)?,
+            Some(strings) => contents_of(alloc, &mut self.source, &strings, ElfTable::Strings)?,
             None => Vec::new(alloc),
         };
         Ok(Strings::new(alloc, bytes)?)
     }
-}
-
-// The section with this index.
-fn section_at(sections: &[Section], index: usize) -> Option<Section> {
-    if index < sections.len() {
-        Some(sections[index])
-    } else {
-        None
-    }
-}
-
-// The bytes of a section in the file.
-fn read_section<R: PlacedSource>(
-    alloc: Global,
-    source: &mut R,
-    section: &Section,
-    table: ElfTable,
-) -> Result<Vec<u8>, ElfError> {
-    if section.section_type == header::NOBITS {
-        return Ok(Vec::new(alloc));
-    }
-    read_table(alloc, source, section.offset, section.size, table)
 }
 
 // Whether the names of the sections contain `text`.

@@ -64,6 +64,15 @@ pub enum ElfTable {
     /// The debug link.
     #[error("debug link")]
     DebugLink,
+    /// The contents of a section.
+    #[error("section")]
+    Section,
+    /// The header of the call frame information (`.eh_frame_hdr`).
+    #[error("header of the call frame information")]
+    FrameHeader,
+    /// The bytes of a segment.
+    #[error("segment")]
+    Segment,
 }
 
 impl From<io::Error> for ElfError {

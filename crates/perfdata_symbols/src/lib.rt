@@ -18,7 +18,9 @@ pub mod table;
 mod text;
 
 pub use crc::Crc32;
-pub use elf::{DebugLink, ElfFile, Segment, SymbolSection, build_id_of_notes};
+pub use elf::{
+    DebugLink, ElfFile, PltRange, SectionBytes, Segment, SymbolSection, build_id_of_notes,
+};
 pub use error::{ElfError, ElfTable, JitSymbolsError};
 pub use jit::JitSymbols;
 pub use kallsyms::{address_of, module_of, parse_kallsyms};

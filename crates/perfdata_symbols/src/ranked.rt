@@ -1,5 +1,8 @@
 //! Symbols with what decides which of several symbols at an address is preferred, as ELF files have them.
 
+ghost use Rattle.std.specs.Prelude.{◌≡◌, ◌≤◌, [], IfOk};
+ghost use Rattle.perfdata_symbols.specs.SymbolTable.{names_of, part_count};
+
 use crate::symbol::Symbol;
 use crate::table::SymbolTable;
 use std::alloc::{AllocError, Global};
@@ -111,8 +114,13 @@ fn extend_to_next(candidates: &mut [Candidate]) {
 }
 
 impl RankedSymbols {
+    ghost use Rattle.perfdata_symbols.specs.RankedLists.{ranked_names_of, ranked_symbols_of};
+
     /// Makes an empty list.
-    pub fn new(alloc: Global) -> RankedSymbols {
+    pub fn new(alloc: Global) -> RankedSymbols
+        ensures symbols { ranked_symbols_of result ≡ [] }
+        ensures names { ranked_names_of result ≡ [] }
+    {
         RankedSymbols {
             names: Vec::new(alloc),
             symbols: Vec::new(alloc),
@@ -120,7 +128,9 @@ impl RankedSymbols {
     }
 
     /// Returns the symbols.
-    pub fn symbols(&self) -> &[RankedSymbol] {
+    pub fn symbols(&self) -> &[RankedSymbol]
+        ensures { result.now ≡ ranked_symbols_of self.now }
+    {
         &self.symbols[..]
     }
 
@@ -138,7 +148,10 @@ impl RankedSymbols {
     }
 
     /// Makes a table whose symbol at an address is that of the list.
-    pub fn into_table(self, alloc: Global) -> Result<SymbolTable, AllocError> {
+    pub fn into_table(self, alloc: Global) -> Result<SymbolTable, AllocError>
+        ensures names { IfOk result (λ table. names_of table ≡ ranked_names_of self) }
+        ensures compacted { IfOk result (λ table. part_count table ≤ 1) }
+    {
         let candidates = self.preferences(alloc)?;
         let mut table = SymbolTable::new(alloc, self.names);
         'candidates: for candidate in candidates.iter() {

@@ -7,7 +7,7 @@ use crate::elf::notes::NoteRange;
 use crate::error::{ElfError, ElfTable};
 use perfdata_base::raw::Endianness;
 use perfdata_base::source::{PlacedSource, fill};
-use std::alloc::Global;
+use std::alloc::{AllocError, Global};
 use std::io::SeekFrom;
 
 // The magic of an ELF file.
@@ -31,6 +31,12 @@ const LOAD: u32 = 1;
 // A segment of notes (`PT_NOTE`).
 const NOTE_SEGMENT: u32 = 4;
 
+// The segment of `.eh_frame_hdr` (`PT_GNU_EH_FRAME`).
+const FRAME_HEADER_SEGMENT: u32 = 0x6474_e550;
+
+// The flag of a segment with code (`PF_X`).
+const EXECUTABLE_FLAG: u32 = 1;
+
 /// The type of `.symtab` (`SHT_SYMTAB`).
 pub(crate) const SYMTAB: u32 = 2;
 
@@ -49,6 +55,9 @@ pub(crate) const SYMTAB_INDICES: u32 = 18;
 // The flag of a section with code (`SHF_EXECINSTR`).
 const CODE_FLAG: u64 = 4;
 
+// The flag of a section whose contents are compressed (`SHF_COMPRESSED`).
+const COMPRESSED_FLAG: u64 = 0x800;
+
 /// A relocatable file (`ET_REL`).
 pub(crate) const RELOCATABLE: u16 = 1;
 
@@ -58,6 +67,7 @@ pub(crate) struct FileHeader {
     pub(crate) encoding: Encoding,
     pub(crate) file_type: u16,
     pub(crate) machine: u16,
+    pub(crate) flags: u32,
     pub(crate) segments: Table,
     pub(crate) sections: Table,
     pub(crate) names_index: u32,
@@ -80,6 +90,21 @@ pub struct Segment {
     pub address: u64,
     /// The number of bytes in memory.
     pub memory_size: u64,
+    /// The number of bytes in the file. The bytes in memory after them are 0.
+    pub file_size: u64,
+    /// Whether it contains code that can be executed (`PF_X`).
+    pub is_executable: bool,
+}
+
+// The program headers that are used.
+#[derive(Drop)]
+pub(crate) struct Segments {
+    // The segments that are loaded.
+    pub(crate) loaded: Vec<Segment>,
+    // The segment of `.eh_frame_hdr`.
+    pub(crate) frame_header: Option<Segment>,
+    // The segments of notes.
+    pub(crate) notes: Vec<NoteRange>,
 }
 
 // A section.
@@ -90,6 +115,8 @@ pub(crate) struct Section {
     pub(crate) section_type: u32,
     // Whether the section is code.
     pub(crate) is_code: bool,
+    // Whether its contents are compressed.
+    pub(crate) is_compressed: bool,
     pub(crate) address: u64,
     pub(crate) offset: u64,
     pub(crate) size: u64,
@@ -127,6 +154,7 @@ fn file_header_of(bytes: &[u8]) -> Result<FileHeader, ElfError> {
         encoding,
         file_type: entry.u16_at(16),
         machine: entry.u16_at(18),
+        flags: entry.half(36, 48),
         segments: Table {
             offset: entry.word(28, 32),
             count: entry.u16_at(encoding.select(44, 56)) as u64,
@@ -173,6 +201,7 @@ fn section_of(entry: Entry<'_>) -> Section {
         name: entry.u32_at(0),
         section_type: entry.u32_at(4),
         is_code: entry.word(8, 8) & CODE_FLAG != 0,
+        is_compressed: entry.word(8, 8) & COMPRESSED_FLAG != 0,
         address: entry.word(12, 16),
         offset: entry.word(16, 24),
         size: entry.word(20, 32),
@@ -225,14 +254,50 @@ pub(crate) fn read_sections<R: PlacedSource>(
     Ok(sections)
 }
 
-// Reads the program headers, and returns the loaded segments. Adds the segments of notes to `notes`.
+fn segment_of(entry: Entry<'_>) -> Segment {
+    Segment {
+        offset: entry.word(4, 8),
+        address: entry.word(8, 16),
+        memory_size: entry.word(20, 40),
+        file_size: entry.word(16, 32),
+        is_executable: entry.half(24, 4) & EXECUTABLE_FLAG != 0,
+    }
+}
+
+fn note_range_of(entry: Entry<'_>) -> NoteRange {
+    NoteRange {
+        offset: entry.word(4, 8),
+        size: entry.word(16, 32),
+        has_align_8: entry.word(28, 48) == 8,
+    }
+}
+
+impl Segments {
+    // Adds the segment of a program header, if it is used.
+    fn add(&mut self, entry: Entry<'_>) -> Result<(), AllocError> {
+        match entry.u32_at(0) {
+            LOAD => self.loaded.push(segment_of(entry))?,
+            NOTE_SEGMENT => self.notes.push(note_range_of(entry))?,
+            FRAME_HEADER_SEGMENT if self.frame_header.is_none() => {
+                self.frame_header = Some(segment_of(entry));
+            }
+            _ => {}
+        }
+        Ok(())
+    }
+}
+
+// Reads the program headers.
 pub(crate) fn read_segments<R: PlacedSource>(
     alloc: Global,
     source: &mut R,
     header: &FileHeader,
-    notes: &mut Vec<NoteRange>,
-) -> Result<Vec<Segment>, ElfError> {
-    let mut segments = Vec::new(alloc);
+) -> Result<Segments, ElfError> {
+    let mut segments = Segments {
+        loaded: Vec::new(alloc),
+        frame_header: None,
+        notes: Vec::new(alloc),
+    };
     let table = header.segments;
     if table.offset == 0 || table.count == 0 {
         return Ok(segments);
@@ -241,21 +306,7 @@ pub(crate) fn read_segments<R: PlacedSource>(
     let min_size = encoding.select(32, 56);
     let bytes = read_headers(alloc, source, table, min_size, ElfTable::ProgramHeaders)?;
     'segments: for bytes in bytes.chunks_exact(table.entry_size as usize) {
-        let entry = Entry { encoding, bytes };
-        let segment_type = entry.u32_at(0);
-        if segment_type == LOAD {
-            segments.push(Segment {
-                offset: entry.word(4, 8),
-                address: entry.word(8, 16),
-                memory_size: entry.word(20, 40),
-            })?;
-        } else if segment_type == NOTE_SEGMENT {
-            notes.push(NoteRange {
-                offset: entry.word(4, 8),
-                size: entry.word(16, 32),
-                has_align_8: entry.word(28, 48) == 8,
-            })?;
-        }
+        segments.add(Entry { encoding, bytes })?;
     }
     Ok(segments)
 }

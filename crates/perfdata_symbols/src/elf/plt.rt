@@ -1,11 +1,12 @@
 //! The entries of the procedure linkage table.
 
 ghost use Rattle.std.specs.Prelude.{◌≡◌, ◌⊎◌, ◌+◌, ◌*◌, ◌%◌, ◌^◌, ◌<◌, ◌++◌, ◌∷◌, [], ℕ, List};
-ghost use Rattle.std.specs.Prelude.{All, IfOk, IfSome, OnErr, OnOk, filter};
+ghost use Rattle.std.specs.Prelude.{All, IfOk, IfSome, OnErr, OnOk, false, filter};
 ghost use Rattle.perfdata_symbols.specs.Plt.{AddsInOrder, AddsPlt, IsInPointerOrder, IsMade};
-ghost use Rattle.perfdata_symbols.specs.Plt.{IsOfFile, IsRelocation, has_entry};
+ghost use Rattle.perfdata_symbols.specs.Plt.{IsOfFile, IsRelocation, fixed_entries, fixed_entry, has_entry};
 ghost use Rattle.perfdata_symbols.specs.declared.ranked.RankedSymbol.{RankedSymbol};
 
+use crate::elf::arm_plt::{CodedEntries, coded_entries};
 use crate::elf::header::Section;
 use crate::elf::input::{Encoding, Entry};
 use crate::elf::strings::Strings;
@@ -20,7 +21,7 @@ const X86: u16 = 3;
 
 const S390: u16 = 22;
 
-const ARM: u16 = 40;
+pub(crate) const ARM: u16 = 40;
 
 const X86_64: u16 = 62;
 
@@ -38,13 +39,20 @@ const SUFFIX: [u8; 4] = [b'@', b'p', b'l', b't'];
 const MAX_NAME_SHARE: usize = 8;
 
 // The largest size of the code for TLS descriptors after the last entry, in bytes.
-const MAX_DESCRIPTOR_CODE_SIZE: u64 = 40;
+const MAX_DESCRIPTOR_CODE_SIZE: u64 = 44;
 
 // The size of the part before the first entry, and the size of an entry, in bytes.
 #[derive(Clone, Copy)]
 pub(crate) struct PltLayout {
     header_size: u64,
     entry_size: u64,
+}
+
+// The offset of an entry in its section, and its size, in bytes.
+#[derive(Clone, Copy)]
+pub(crate) struct PltEntry {
+    pub(crate) offset: u64,
+    pub(crate) size: u64,
 }
 
 // The tables of GNU ld, gold and lld, and of mold.
@@ -64,21 +72,11 @@ const S390_LAYOUTS: [PltLayout; 1] = [PltLayout {
     entry_size: 32,
 }];
 
-// The tables of GNU ld, with short and with long entries, and of lld and mold.
-const ARM_LAYOUTS: [PltLayout; 3] = [
-    PltLayout {
-        header_size: 20,
-        entry_size: 12,
-    },
-    PltLayout {
-        header_size: 20,
-        entry_size: 16,
-    },
-    PltLayout {
-        header_size: 32,
-        entry_size: 16,
-    },
-];
+// The tables of lld and mold. The sizes of the entries of GNU ld and gold follow from their code.
+const ARM_LAYOUTS: [PltLayout; 1] = [PltLayout {
+    header_size: 32,
+    entry_size: 16,
+}];
 
 // Entries that start with the instruction for indirect branches (BTI) have 24 bytes.
 const AARCH64_LAYOUTS: [PltLayout; 2] = [
@@ -130,6 +128,9 @@ pub(crate) struct PltContext<'a> {
     pub(crate) symbols: &'a [u8],
     pub(crate) symbol_size: u64,
     pub(crate) names: &'a Strings,
+    // The code of `.plt` for 32-bit Arm, otherwise none.
+    pub(crate) code: &'a [u8],
+    pub(crate) code_encoding: Encoding,
 }
 
 // The layouts of `.plt` that linkers write for a machine.
@@ -190,13 +191,27 @@ impl PltLayout {
         }
     }
 
-    // The offset of an entry in the section, modulo 2^64.
-    fn offset_of(&self, index: u64) -> u64
-        ensures { result ≡ ((index * self.now.entry_size) % 2 ^ 64 + self.now.header_size) % 2 ^ 64 }
+    // The entry with an index. Its offset is modulo 2^64.
+    fn entry(&self, index: u64) -> PltEntry
+        ensures { result ≡ fixed_entry self.now index }
     {
-        index
-            .wrapping_mul(self.entry_size)
-            .wrapping_add(self.header_size)
+        PltEntry {
+            offset: index
+                .wrapping_mul(self.entry_size)
+                .wrapping_add(self.header_size),
+            size: self.entry_size,
+        }
+    }
+
+    // The first entries.
+    fn entries(&self, alloc: Global, count: usize) -> Result<Vec<PltEntry>, AllocError>
+        ensures { IfOk result (λ entries. entries.items ≡ fixed_entries self.now count) }
+    {
+        let mut entries = Vec::new(alloc);
+        'entries: for index in 0..count {
+            entries.push(self.entry(index as u64))?;
+        }
+        Ok(entries)
     }
 }
 
@@ -300,15 +315,63 @@ impl PltRelocations {
         })
     }
 
+    // The relocations whose number is that of the entries.
+    fn with_count(&self, count: usize) -> Option<&[Relocation]>
+        ensures { IfSome result (λ relocations. IsInPointerOrder relocations.now) }
+    {
+        if self.all.len() == count {
+            Some(&self.all)
+        } else if self.of_functions.len() == count {
+            Some(&self.of_functions)
+        } else {
+            None
+        }
+    }
+
+    // Adds the symbols of the entries whose sizes follow from their code. Returns whether there are such
+    // entries.
+    fn add_coded(
+        &self,
+        alloc: Global,
+        context: &PltContext<'_>,
+        section: &Section,
+        symbols: &mut RankedSymbols,
+    ) -> Result<bool, AllocError>
+        ensures adds { (symbols.new ≡ symbols.old)
+            ⊎ AddsInOrder context.now section.now symbols.old symbols.new }
+        ensures none { result ≡ Ok false → symbols.new ≡ symbols.old }
+    {
+        let code = Entry {
+            encoding: context.code_encoding,
+            bytes: context.code,
+        };
+        let CodedEntries { entries, end } = coded_entries(alloc, code)?;
+        if entries.is_empty() {
+            return Ok(false);
+        }
+        if section.size < end as u64 || section.size - end as u64 > self.max_rest() {
+            return Ok(true);
+        }
+        if let Some(relocations) = self.with_count(entries.len()) {
+            add_entries(context, section, &entries, relocations, symbols)?;
+        }
+        Ok(true)
+    }
+
+    // How many bytes may follow the entries.
+    fn max_rest(&self) -> u64 {
+        if self.has_descriptors {
+            MAX_DESCRIPTOR_CODE_SIZE
+        } else {
+            0
+        }
+    }
+
     // The relocations of the entries of `.plt`, and its layout. `None` if it isn't what linkers write.
     fn plt_entries(&self, section: &Section) -> Option<(&[Relocation], PltLayout)>
         ensures { IfSome result (λ entries. IsInPointerOrder entries.0.now) }
     {
-        let max_rest = if self.has_descriptors {
-            MAX_DESCRIPTOR_CODE_SIZE
-        } else {
-            0
-        };
+        let max_rest = self.max_rest();
         // Some linkers have the entries of chosen functions in another section.
         if let Some(layout) = layout_of(self.machine, section, self.all.len() as u64, max_rest) {
             return Some((&self.all, layout));
@@ -340,15 +403,20 @@ impl PltRelocations {
     /// Adds the symbols of the entries of `.plt`.
     pub(crate) fn add_plt(
         &self,
+        alloc: Global,
         context: &PltContext<'_>,
         section: &Section,
         symbols: &mut RankedSymbols,
     ) -> Result<(), AllocError>
-        ensures { (symbols.new ≡ symbols.old) ⊎ AddsInOrder section.now symbols.old symbols.new }
+        ensures { (symbols.new ≡ symbols.old) ⊎ AddsInOrder context.now section.now symbols.old symbols.new }
     {
+        if self.add_coded(alloc, context, section, symbols)? {
+            return Ok(());
+        }
         match self.plt_entries(section) {
             Some((relocations, layout)) => {
-                add_entries(context, section, layout, relocations, symbols)
+                let entries = layout.entries(alloc, relocations.len())?;
+                add_entries(context, section, &entries, relocations, symbols)
             }
             None => Ok(()),
         }
@@ -357,15 +425,17 @@ impl PltRelocations {
     /// Adds the symbols of the entries of `.plt.sec`.
     pub(crate) fn add_second_plt(
         &self,
+        alloc: Global,
         context: &PltContext<'_>,
         section: &Section,
         symbols: &mut RankedSymbols,
     ) -> Result<(), AllocError>
-        ensures { (symbols.new ≡ symbols.old) ⊎ AddsInOrder section.now symbols.old symbols.new }
+        ensures { (symbols.new ≡ symbols.old) ⊎ AddsInOrder context.now section.now symbols.old symbols.new }
     {
         match self.second_entries(section) {
             Some((relocations, layout)) => {
-                add_entries(context, section, layout, relocations, symbols)
+                let entries = layout.entries(alloc, relocations.len())?;
+                add_entries(context, section, &entries, relocations, symbols)
             }
             None => Ok(()),
         }
@@ -436,24 +506,25 @@ fn add_entry(
 fn add_entries(
     context: &PltContext<'_>,
     section: &Section,
-    layout: PltLayout,
+    entries: &[PltEntry],
     relocations: &[Relocation],
     symbols: &mut RankedSymbols,
 ) -> Result<(), AllocError>
-    ensures { AddsPlt section.now layout relocations.now symbols.old symbols.new }
+    ensures { AddsPlt section.now entries.now relocations.now symbols.old symbols.new }
 {
     let limit = symbols
         .names
         .len()
         .saturating_add(context.names.len().saturating_mul(MAX_NAME_SHARE));
     'relocations: for (index, relocation) in relocations.iter().enumerate() {
-        if symbols.names.len() > limit {
+        if symbols.names.len() > limit || index >= entries.len() {
             return Ok(());
         }
         let name = context.name_of(relocation).unwrap_or(&[]);
         if !name.is_empty() {
-            let start = section.offset.wrapping_add(layout.offset_of(index as u64));
-            add_entry(symbols, start, layout.entry_size, name)?;
+            let entry = entries[index];
+            let start = section.offset.wrapping_add(entry.offset);
+            add_entry(symbols, start, entry.size, name)?;
         }
     }
     Ok(())

@@ -1,8 +1,9 @@
 //! The entries of symbol tables.
 
 ghost use Rattle.std.specs.Option.{option_map};
-ghost use Rattle.std.specs.Prelude.{◌≡◌, ◌<◌, IfSome, slice_get};
-ghost use Rattle.perfdata_symbols.specs.Elf.{AddsEntries, IsOffsetOfAddress, IsRanked, IsSymbolOffset};
+ghost use Rattle.std.specs.Prelude.{◌≡◌, ◌<◌, true, IfSome, slice_get};
+ghost use Rattle.perfdata_symbols.specs.Elf.{AddsEntries, IsDefined, IsOffsetOfAddress, IsRanked};
+ghost use Rattle.perfdata_symbols.specs.Elf.{IsSymbolOffset};
 ghost use Rattle.perfdata_symbols.specs.Elf.{elf_symbol_in, section_index_of, section_offset};
 ghost use Rattle.perfdata_symbols.specs.Elf.{symbol_address};
 
@@ -35,6 +36,9 @@ const HIDDEN: u8 = 2;
 
 // The section of symbols that are in another file (`SHN_UNDEF`).
 const UNDEFINED: u16 = 0;
+
+// The section of symbols whose values are no addresses (`SHN_ABS`).
+const ABSOLUTE: u16 = 0xfff1;
 
 // The index of a symbol's section is in another section (`SHN_XINDEX`).
 const LARGE_INDEX: u16 = 0xffff;
@@ -167,8 +171,10 @@ impl SymbolContext<'_> {
     }
 
     // Whether a symbol is one of a function, an object or a label.
-    fn is_listed(&self, symbol: &ElfSymbol, section: Option<usize>) -> bool {
-        if symbol.name == 0 || symbol.section == UNDEFINED {
+    fn is_listed(&self, symbol: &ElfSymbol, section: Option<usize>) -> bool
+        ensures { result ≡ true → IsDefined symbol.now }
+    {
+        if symbol.name == 0 || symbol.section == UNDEFINED || symbol.section == ABSOLUTE {
             return false;
         }
         match symbol.symbol_type {

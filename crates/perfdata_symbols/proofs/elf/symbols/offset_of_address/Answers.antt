@@ -1,4 +1,4 @@
-use Rattle.std.proofs.Common.{ℕ, ◌+◌, ◌++◌, List, take, drop, get_or, refl, sym, ap, subst, ◌∙◌, arith}
+use Rattle.std.proofs.Common.{false, ℕ, ◌+◌, ◌++◌, List, take, drop, get_or, refl, sym, ap, subst, ◌∙◌, arith}
 use Rattle.std.specs.Prelude.{All}
 use Rattle.std.proofs.lemmas.List.{drop_more, take-append-drop, take_all}
 use Rattle.perfdata_symbols.specs.Elf.{Loads}
@@ -6,7 +6,7 @@ use Rattle.perfdata_symbols.specs.declared.elf.header.Segment.{Segment}
 use Rattle.perfdata_symbols.proofs.elf.symbols.offset_of_address.Goals as goal
 
 abbrev none : Segment
-none = record { offset = 0; address = 0; memory_size = 0 }
+none = record { offset = 0; address = 0; memory_size = 0; file_size = 0; is_executable = false }
 
 pub returns-then-address-segment : goal.returns-then-address-segment
 returns-then-address-segment c =
