@@ -7,7 +7,7 @@ use Rattle.std.proofs.lemmas.List.Sums.{sum_by-cons, sum_by_push}
 use Rattle.perfdata_profile.specs.Sums.{sums_after}
 use Rattle.perfdata_profile.specs.Tallies.{Counted, IsSumOf, IsUnder, Tallies, one_sample, weight_of}
 use Rattle.perfdata_profile.specs.declared.sums.Sums.{Sums}
-use Rattle.perfdata_profile.proofs.Lists.{old_or_last, set_elsewhere, set_here, slice_get_last, slice_get_more, some_same, sum_set}
+use Rattle.perfdata_profile.proofs.Elements.{old_or_last, set_elsewhere, set_here, slice_get_last, slice_get_more, some_same, sum_set}
 
 module _ {A : Type 0} (holds : A → Type 0) (weight : A → ℕ) where
   pub sum_push : (xs : List A) (sum : ℕ) (x : A) → holds x → IsSumOf holds weight xs sum → IsSumOf holds weight (xs ++ x ∷ []) (sum + weight x)

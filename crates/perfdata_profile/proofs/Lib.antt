@@ -1,8 +1,12 @@
 mod Adding
 mod Building
+mod Caching
 mod Counting
-mod Lists
-mod Naming
+mod Deciding
+mod Elements
+mod Growing
+mod Looking
 mod Resolving
-mod Stacks
-mod Tables
+mod Searching
+mod Summing
+mod Valuing

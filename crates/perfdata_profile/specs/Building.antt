@@ -1,51 +1,62 @@
 -- A profile as it is built.
-use Rattle.std.specs.Prelude.{◌≡◌, ℕ, ◌++◌, ◌∷◌, [], List, filter, length, map}
+use Rattle.std.specs.Prelude.{◌≡◌, ℕ, ℤ, List, filter, length, map, slice_get, Option, Some}
 use Rattle.perfdata_events.specs.declared.sample.SampleRecord.{SampleRecord}
-use Rattle.perfdata_profile.specs.Names.{names_of}
-use Rattle.perfdata_profile.specs.Profiles.{named_entry}
-use Rattle.perfdata_profile.specs.Resolving.{FrameValue, IsIdOf, ThreadValue}
-use Rattle.perfdata_profile.specs.Samples.{AreCounted, AreRelated, Given, NamesFrame, NamesSample, NamesThread, applied_in, frames_in, is_selected, task_of}
-use Rattle.perfdata_profile.specs.StackSums.{TalliesStacks, entries_of}
+use Rattle.perfdata_profile.specs.Locating.{CacheHolds, located_lists}
+use Rattle.perfdata_profile.specs.Profiles.{lists_of, valued_entry}
+use Rattle.perfdata_profile.specs.Resolving.{Meaning}
+use Rattle.perfdata_profile.specs.SampleSums.{TalliesSamples, entries_of}
+use Rattle.perfdata_profile.specs.Samples.{AreCounted, AreRelated, Given, IsSample, IsThread, Locates, applied_in, is_selected}
 use Rattle.perfdata_profile.specs.Tallies.{Counted, Tallies}
-use Rattle.perfdata_profile.specs.declared.builder.Profile.{Profile}
+use Rattle.perfdata_profile.specs.Values.{AreLocations, IsKey, IsName, Lists, SampleValue, location_at, sample_value, thread_key}
 use Rattle.perfdata_profile.specs.declared.builder.ProfileBuilder.{ProfileBuilder}
-use Rattle.perfdata_profile.specs.declared.names.NameId.{NameId}
-use Rattle.perfdata_spaces.specs.AddressSpaces.{Follows}
+use Rattle.perfdata_profile.specs.declared.locations.LocationId.{LocationId}
+use Rattle.perfdata_profile.specs.declared.options.Detail.{Detail}
+use Rattle.perfdata_profile.specs.declared.options.ProfileOptions.{ProfileOptions}
+use Rattle.perfdata_profile.specs.declared.options.ThreadIds.{ThreadIds}
+use Rattle.perfdata_profile.specs.declared.profile.Profile.{Profile}
+use Rattle.perfdata_profile.specs.declared.sums.SampleKey.{SampleKey}
+use Rattle.perfdata_profile.specs.declared.sums.Sums.{Sums}
+use Rattle.perfdata_profile.specs.declared.sums.Thread.{Thread}
+use Rattle.perfdata_events.specs.declared.fields.task.Task.{Task}
+use Rattle.perfdata_spaces.specs.AddressSpaces.{Follows, mapping_values}
 use Rattle.perfdata_spaces.specs.Effects.{Applied}
 use Rattle.perfdata_stacks.specs.declared.frames.SampleFrame.{SampleFrame}
 
--- The id of a name with a property is appended to a stack.
-pub record PushesId (is_name : List ℕ → Type 0) (names : List (List ℕ)) (old new : List NameId) : Type 0 where
-  pub id : NameId
-  pub is : IsIdOf is_name names id
-  pub pushed : new ≡ old ++ id ∷ []
+abbrev pub options_of : {R : Type 0} → ProfileBuilder R → ProfileOptions
+options_of builder = record { detail = builder.locator.detail; thread_ids = builder.thread_ids }
 
--- The ids of names of frames are appended to a stack.
-pub record PushesIds (is_name : SampleFrame → List ℕ → Type 0) (names : List (List ℕ)) (frames : List SampleFrame) (old new : List NameId) : Type 0 where
-  pub ids : List NameId
-  pub are : AreRelated (λ frame id. IsIdOf (is_name frame) names id) frames ids
-  pub pushed : new ≡ old ++ ids
+module _ (meaning : Meaning) where
+  -- A stack has the ids of locations of frames.
+  pub record HasStack (lists : Lists) (detail : Detail) (before : List Applied) (pid : ℤ) (time : Option ℕ) (frames : List SampleFrame) (stack : List LocationId) : Type 0 where
+    pub within : AreLocations lists stack
+    pub are : AreRelated (Locates meaning detail before pid time) frames (map (location_at lists) stack)
 
-module _ (names_thread : ThreadValue → List ℕ → Type 0) (names_frame : FrameValue → List ℕ → Type 0) where
-  -- A stack has the ids of the names of a sample.
-  pub record HasIds (names : List (List ℕ)) (before : List Applied) (misc : ℕ) (sample : SampleRecord) (stack : List NameId) : Type 0 where
-    pub thread : NameId
-    pub functions : List NameId
-    pub all : stack ≡ thread ∷ functions
-    pub is_thread : IsIdOf (NamesThread names_thread names_frame before (task_of sample)) names thread
-    pub are_frames : AreRelated (λ frame id. IsIdOf (NamesFrame names_thread names_frame before (task_of sample).pid sample.timestamp frame) names id) (frames_in misc sample) functions
+  -- A thread has the id of a name of a thread.
+  pub record HasThread (lists : Lists) (ids : ThreadIds) (before : List Applied) (task : Task) (thread : Thread) : Type 0 where
+    pub within : IsName lists thread.name
+    pub is : IsThread meaning ids before task (thread_key lists thread)
 
-  module _ {R : Type 0} where
+  -- A key has the ids of the thread and the stack of a sample.
+  pub record HasKey (lists : Lists) (options : ProfileOptions) (before : List Applied) (misc : ℕ) (sample : SampleRecord) (column : ℕ) (key : SampleKey) : Type 0 where
+    pub within : IsKey lists key
+    pub is : IsSample meaning options before misc sample column (sample_value lists key)
+
+  module _ {R : Type 0} (options : ProfileOptions) where
     -- A builder was given records, and counted their selected samples.
     pub record Builds (given : List Given) (builder : ProfileBuilder R) : Type 0 where
+      pub has_options : options_of builder ≡ options
       pub follows : Follows (applied_in given) builder.spaces
-      pub counted : List (Counted (List NameId))
-      pub are : AreCounted (HasIds (names_of builder.names)) given counted
-      pub sums : TalliesStacks counted builder.sums
+      pub cache : CacheHolds meaning options.detail (mapping_values builder.spaces) builder.locator
+      pub counted : List (Counted SampleKey)
+      pub are : AreCounted (HasKey (located_lists builder.locator) options) given counted
+      pub sums : TalliesSamples counted builder.sums
 
-  -- The sums of a profile are those of the selected samples of records: each sample counts once, under its own names.
-  pub record IsProfileOf (given : List Given) (profile : Profile) : Type 0 where
-    pub counted : List (Counted (List (List ℕ)))
-    pub are : AreCounted (NamesSample names_thread names_frame) given counted
-    pub sums : Tallies counted (map (named_entry (names_of profile.names)) (entries_of profile.sums))
+  -- The sums of a profile are those of the selected samples of records: each sample counts once, under its own thread, stack and column.
+  pub record IsProfileOf (options : ProfileOptions) (given : List Given) (profile : Profile) : Type 0 where
+    pub counted : List (Counted SampleValue)
+    pub are : AreCounted (IsSample meaning options) given counted
+    pub sums : Tallies counted (map (valued_entry (lists_of profile.tables)) (entries_of profile.sums))
     pub number : length counted ≡ length (filter is_selected given)
+    -- The ids of the keys refer to entries of the tables.
+    pub within : (index : ℕ) (key : SampleKey) (sums : Sums) → slice_get (entries_of profile.sums) index ≡ Some (key, sums)
+        → IsKey (lists_of profile.tables) key

@@ -1,10 +1,15 @@
 -- The specifications that contracts use.
 pub mod Building
+pub mod Caching
 pub mod Interning
+pub mod Locating
 pub mod Names
 pub mod Profiles
 pub mod Resolving
+pub mod SampleSums
 pub mod Samples
-pub mod StackSums
 pub mod Sums
+pub mod Tables
 pub mod Tallies
+pub mod Threads
+pub mod Values

@@ -1,35 +1,27 @@
--- A profile by names: ids stand for the names in the table.
-use Rattle.std.specs.Prelude.{◌≡◌, ℕ, ◌<◌, List, [], ◌∷◌, length, map, slice_get, slice_index_or, Some}
-use Rattle.perfdata_profile.specs.Interning.{IsOnce}
-use Rattle.perfdata_profile.specs.Names.{number_of}
+-- A profile by values: ids stand for what the tables have.
+use Rattle.std.specs.Prelude.{◌≡◌, ℕ, List, map, slice_get, Some}
 use Rattle.perfdata_profile.specs.Tallies.{Counted, Tallies}
-use Rattle.perfdata_profile.specs.declared.names.NameId.{NameId}
+use Rattle.perfdata_profile.specs.Values.{AreOnce, AreWithin, IsKey, Lists, SampleValue, lists_in, sample_value}
+use Rattle.perfdata_profile.specs.declared.sums.SampleKey.{SampleKey}
 use Rattle.perfdata_profile.specs.declared.sums.Sums.{Sums}
+use Rattle.perfdata_profile.specs.declared.tables.Tables.{Tables}
 
-module _ (names : List (List ℕ)) where
-  -- The name of an id.
-  abbrev pub name_at : NameId → List ℕ
-  name_at id = slice_index_or names (number_of id) []
+abbrev pub lists_of : Tables → Lists
+lists_of tables = lists_in tables.names tables.mappings tables.locations tables.stacks
 
-  abbrev pub names_at : List NameId → List (List ℕ)
-  names_at ids = map name_at ids
+module _ (lists : Lists) where
+  -- All keys have ids that refer to entries of the tables.
+  abbrev pub AreKeys : List (Counted SampleKey) → Type 0
+  AreKeys counted = (index : ℕ) (one : Counted SampleKey) → slice_get counted index ≡ Some one → IsKey lists one.key
 
-  -- All ids are those of names.
-  abbrev pub AreIds : List NameId → Type 0
-  AreIds [] = Unit {0}
-  AreIds (id ∷ ids) = (number_of id < length names) × AreIds ids
+  abbrev pub valued_sample : Counted SampleKey → Counted SampleValue
+  valued_sample counted = record { key = sample_value lists counted.key; weight = counted.weight }
 
-  abbrev pub AreStacks : List (Counted (List NameId)) → Type 0
-  AreStacks counted = (index : ℕ) (one : Counted (List NameId)) → slice_get counted index ≡ Some one → AreIds one.key
+  abbrev pub valued_entry : SampleKey × Sums → SampleValue × Sums
+  valued_entry entry = (sample_value lists entry.0, entry.1)
 
-  abbrev pub named_sample : Counted (List NameId) → Counted (List (List ℕ))
-  named_sample counted = record { key = names_at counted.key; weight = counted.weight }
-
-  abbrev pub named_entry : List NameId × Sums → List (List ℕ) × Sums
-  named_entry entry = (names_at entry.0, entry.1)
-
--- Sums by ids are sums by names: if each name has one id, the samples with the same names are those with the same ids.
-abbrev pub TalliesNames : Type 0
-TalliesNames = (names : List (List ℕ)) (counted : List (Counted (List NameId))) (entries : List (List NameId × Sums))
-    → IsOnce names → AreStacks names counted → Tallies counted entries
-    → Tallies (map (named_sample names) counted) (map (named_entry names) entries)
+-- Sums by ids are sums by values: if each value has one id, the samples with the same values are those with the same ids.
+abbrev pub TalliesValues : Type 0
+TalliesValues = (lists : Lists) (counted : List (Counted SampleKey)) (entries : List (SampleKey × Sums))
+    → AreOnce lists → AreWithin lists → AreKeys lists counted → Tallies counted entries
+    → Tallies (map (valued_sample lists) counted) (map (valued_entry lists) entries)

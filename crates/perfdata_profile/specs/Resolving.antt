@@ -1,12 +1,17 @@
 -- What is named, and the ids of names.
-use Rattle.std.specs.Prelude.{◌≡◌, ℕ, ℤ, List, Option, slice_get, Some}
+use Rattle.std.specs.Prelude.{◌≡◌, ℕ, ℤ, true, List, Option, slice_get, Some}
 use Rattle.std.specs.Borrow.{Bor}
 use Rattle.std.specs.Option.{option_map}
 use Rattle.perfdata_events.specs.declared.fields.task.Task.{Task}
+use Rattle.perfdata_events.specs.declared.sample.SampleRecord.{SampleRecord}
 use Rattle.perfdata_profile.specs.Names.{number_of}
 use Rattle.perfdata_profile.specs.declared.names.NameId.{NameId}
+use Rattle.perfdata_profile.specs.declared.resolver.FileNames.{FileNames}
+use Rattle.perfdata_profile.specs.declared.resolver.FunctionName.{FunctionName}
 use Rattle.perfdata_profile.specs.declared.resolver.ResolvedFrame.{ResolvedFrame}
+use Rattle.perfdata_spaces.specs.Effects.{Applied}
 use Rattle.perfdata_spaces.specs.Mappings.{MappingValue, mapping_value}
+use Rattle.perfdata_stacks.specs.Frames.{lookup_address}
 use Rattle.perfdata_stacks.specs.declared.frames.SampleFrame.{SampleFrame}
 
 -- A thread: its ids, and its name as the last record has it.
@@ -28,8 +33,40 @@ pub record FrameValue : Type 0 where
 abbrev pub frame_value : ResolvedFrame → FrameValue
 frame_value f = record { pid = f.pid; time = f.time; frame = f.frame; index = f.index; mapping = option_map (λ m. mapping_value m.now) f.mapping }
 
+-- Two frames are looked up at the same address of the same mapping.
+pub record AreAtOneAddress (frame other : FrameValue) : Type 0 where
+  pub index : other.index ≡ frame.index
+  pub mapping : other.mapping ≡ frame.mapping
+  pub address : lookup_address other.frame ≡ lookup_address frame.frame
+
+-- What a resolver may answer. The records are those before the sample.
+pub record Meaning : Type 1 where
+  -- A thread can have a name.
+  pub names_thread : ThreadValue → List ℕ → Type 0
+  -- A frame can have a name.
+  pub names_frame : FrameValue → List ℕ → Type 0
+  -- The file of a mapping can have a path and a build id.
+  pub names_file : MappingValue → List ℕ → List ℕ → Type 0
+  -- A sample with the `misc` of its record header can have frames, the leaf first.
+  pub has_frames : List Applied → ℕ → SampleRecord → List SampleFrame → Type 0
+
 -- An id is that of a name with a property.
 pub record IsIdOf (is_name : List ℕ → Type 0) (names : List (List ℕ)) (id : NameId) : Type 0 where
   pub name : List ℕ
   pub at : slice_get names (number_of id) ≡ Some name
   pub is : is_name name
+
+-- An id is that of a name of a frame. If it is fixed, all frames at the same address of the same mapping can have this name.
+pub record IsFunctionId (names_frame : FrameValue → List ℕ → Type 0) (frame : FrameValue) (names : List (List ℕ)) (function : FunctionName) : Type 0 where
+  pub name : List ℕ
+  pub at : slice_get names (number_of function.id) ≡ Some name
+  pub is : names_frame frame name
+  pub fixed : function.is_fixed ≡ true → (other : FrameValue) → AreAtOneAddress frame other → names_frame other name
+
+-- Ids are those of a path and a build id with a property.
+pub record AreFileIds (are_names : List ℕ → List ℕ → Type 0) (names : List (List ℕ)) (file : FileNames) : Type 0 where
+  pub path : List ℕ
+  pub build_id : List ℕ
+  pub path_at : slice_get names (number_of file.path) ≡ Some path
+  pub build_id_at : slice_get names (number_of file.build_id) ≡ Some build_id
+  pub are : are_names path build_id

@@ -1,45 +1,40 @@
 //! Counts the samples of a recording.
 
-ghost use Rattle.std.specs.Prelude.{◌≡◌, [], ◌∷◌, ◌++◌, ℕ, List, Option, Some, OnErr, OnOk};
-ghost use Rattle.std.specs.Option.{option_map};
-ghost use Rattle.perfdata_profile.specs.Building.{HasIds, PushesId, PushesIds};
-ghost use Rattle.perfdata_profile.specs.Interning.{Grows};
-ghost use Rattle.perfdata_profile.specs.Names.{names_of};
-ghost use Rattle.perfdata_profile.specs.Samples.{NamesFrame, NamesThread, frames_in, task_of};
-ghost use Rattle.perfdata_profile.specs.StackSums.{KeepsSums};
-ghost use Rattle.perfdata_spaces.specs.AddressSpaces.{Follows, mapping_at};
+ghost use Rattle.std.specs.Prelude.{◌≡◌, [], ◌∷◌, ◌++◌, ℕ, List, Option, Some, OnErr, OnOk, IfOk};
+ghost use Rattle.perfdata_profile.specs.Samples.{task_of};
+ghost use Rattle.perfdata_profile.specs.Values.{AreLocations, IsKey, IsName};
+ghost use Rattle.perfdata_profile.specs.Building.{HasKey, HasStack, HasThread};
+ghost use Rattle.perfdata_profile.specs.Locating.{CacheHolds, LocatorGrows, located_lists};
+ghost use Rattle.perfdata_profile.specs.SampleSums.{KeepsSums};
+ghost use Rattle.perfdata_spaces.specs.AddressSpaces.{Follows, mapping_values};
 ghost use Rattle.perfdata_spaces.specs.Effects.{Applied};
-ghost use Rattle.perfdata_spaces.specs.Mappings.{mapping_value};
 
-use crate::names::{NameId, Names};
-use crate::resolver::{ResolvedFrame, Resolver};
-use crate::sums::StackSums;
+use crate::error::CountError;
+use crate::locating::{Locator, Origin, mapping_at};
+use crate::locations::LocationId;
+use crate::options::{ProfileOptions, ThreadIds};
+use crate::profile::Profile;
+use crate::resolver::Resolver;
+use crate::sums::{SampleKey, SampleSums, SampleWeight, Thread};
 use perfdata_events::event::EventRecord;
 use perfdata_events::fields::task::Task;
 use perfdata_events::sample::SampleRecord;
-use perfdata_spaces::address_spaces::{AddressSpaces, context_of_mode};
-use perfdata_spaces::mapping::Mapping;
-use perfdata_stacks::counts::CountError;
-use perfdata_stacks::frames::{SampleFrame, SampleFrames};
+use perfdata_spaces::address_spaces::AddressSpaces;
+use perfdata_stacks::frames::SampleFrame;
 use std::alloc::{AllocError, Global};
-
-/// Names, and the sums of the stacks of them.
-#[derive(Drop)]
-pub struct Profile {
-    /// The names of threads and functions.
-    pub names: Names,
-    /// The sums of each stack.
-    pub sums: StackSums,
-}
 
 /// Counts the samples among the records of a recording, which it is given in order of time.
 #[derive(Drop)]
 pub struct ProfileBuilder<R> {
-    resolver: R,
+    /// What says which frames samples have, and their names. What no record of an event says can be added to
+    /// it between two calls.
+    pub resolver: R,
+    thread_ids: ThreadIds,
     spaces: AddressSpaces,
-    names: Names,
-    sums: StackSums,
-    stack: Vec<NameId>,
+    locator: Locator,
+    sums: SampleSums,
+    frames: Vec<SampleFrame>,
+    stack: Vec<LocationId>,
 }
 
 // Returns the process and the thread of a sample. They are -1 for samples without.
@@ -49,135 +44,151 @@ fn task_of(sample: &SampleRecord<'_>) -> Task
     sample.task.unwrap_or(Task { pid: -1, tid: -1 })
 }
 
-// Returns the mapping with an index, if there is an index.
-fn mapping_at(spaces: &AddressSpaces, index: Option<usize>) -> Option<&Mapping>
-    ensures { option_map (λ m. mapping_value m.now) result ≡ mapping_at spaces.now index }
-{
-    match index {
-        Some(index) => spaces.mapping(index),
-        None => None,
-    }
-}
-
-// Appends the id of the name of a frame to a stack.
-fn push_frame<R: Resolver>(
-    resolver: &mut R,
-    spaces: &AddressSpaces,
-    pid: i32,
-    time: Option<u64>,
-    frame: SampleFrame,
-    names: &mut Names,
-    stack: &mut Vec<NameId>,
-) -> Result<(), AllocError>
-    ensures grows { Grows (names_of names.old) (names_of names.new) }
-    ensures ok { OnOk result ((before : List Applied) → Follows before spaces.now →
-        PushesId (NamesFrame R.names_thread R.names_frame before pid time frame) (names_of names.new)
-        stack.old.items stack.new.items) }
-{
-    let index = spaces.find_index(pid, frame.lookup_address(), frame.frame.context);
-    let resolved = ResolvedFrame {
-        pid,
-        time,
-        frame,
-        index,
-        mapping: mapping_at(spaces, index),
-    };
-    let id = resolver.function(&resolved, names)?;
-    stack.push(id)?;
-    Ok(())
-}
-
-// Appends the ids of the names of the frames of a sample to a stack, that of the leaf first.
-fn push_frames<R: Resolver>(
-    resolver: &mut R,
-    spaces: &AddressSpaces,
-    misc: u16,
-    sample: &SampleRecord<'_>,
-    names: &mut Names,
-    stack: &mut Vec<NameId>,
-) -> Result<(), AllocError>
-    ensures grows { Grows (names_of names.old) (names_of names.new) }
-    ensures ok { OnOk result ((before : List Applied) → Follows before spaces.now →
-        PushesIds
-        (NamesFrame R.names_thread R.names_frame before (task_of sample.now).pid sample.now.timestamp)
-        (names_of names.new) (frames_in misc sample.now) stack.old.items stack.new.items) }
-{
-    let pid = task_of(sample).pid;
-    let mut frames = SampleFrames::new(sample, context_of_mode(misc));
-    'frames: while let Some(frame) = frames.next() {
-        push_frame(resolver, spaces, pid, sample.timestamp, frame, names, stack)?;
-    }
-    Ok(())
-}
-
-// Sets a stack to the ids of the names of a sample: that of the thread, then those of the frames.
+// Sets a stack to the ids of the locations of frames, that of the leaf first.
 fn set_stack<R: Resolver>(
     resolver: &mut R,
     spaces: &AddressSpaces,
-    misc: u16,
-    sample: &SampleRecord<'_>,
-    names: &mut Names,
-    stack: &mut Vec<NameId>,
+    locator: &mut Locator,
+    origin: Origin,
+    frames: &[SampleFrame],
+    stack: &mut Vec<LocationId>,
 ) -> Result<(), AllocError>
-    ensures grows { Grows (names_of names.old) (names_of names.new) }
+    ensures grows { LocatorGrows locator.old locator.new }
+    ensures cache { OnOk result ((before : List Applied) → Follows before spaces.now →
+        CacheHolds R.meaning locator.old.detail (mapping_values spaces.now) locator.old →
+        CacheHolds R.meaning locator.old.detail (mapping_values spaces.now) locator.new) }
+    ensures within { OnOk result (AreLocations (located_lists locator.new) stack.new.items) }
     ensures ok { OnOk result ((before : List Applied) → Follows before spaces.now →
-        HasIds R.names_thread R.names_frame (names_of names.new) before misc sample.now stack.new.items) }
+        CacheHolds R.meaning locator.old.detail (mapping_values spaces.now) locator.old →
+        HasStack R.meaning (located_lists locator.new) locator.old.detail before origin.pid origin.time
+        frames.now stack.new.items) }
 {
-    let task = task_of(sample);
     stack.clear();
-    let thread = resolver.thread(task, spaces.comm(task.tid), names)?;
-    stack.push(thread)?;
-    push_frames(resolver, spaces, misc, sample, names, stack)
+    'frames: for frame in frames {
+        stack.push(locator.location(resolver, spaces, origin, *frame)?)?;
+    }
+    Ok(())
+}
+
+// Returns the thread of a sample.
+fn thread_of<R: Resolver>(
+    resolver: &mut R,
+    spaces: &AddressSpaces,
+    locator: &mut Locator,
+    thread_ids: ThreadIds,
+    task: Task,
+) -> Result<Thread, AllocError>
+    ensures grows { LocatorGrows locator.old locator.new }
+    ensures cache { locator.new.cache ≡ locator.old.cache }
+    ensures ok { IfOk result (λ thread. (before : List Applied) → Follows before spaces.now →
+        HasThread R.meaning (located_lists locator.new) thread_ids before task thread) }
+{
+    let name = resolver.thread(task, spaces.comm(task.tid), &mut locator.tables.names)?;
+    Ok(Thread {
+        name,
+        pid: thread_ids.pid(task),
+        tid: thread_ids.tid(task),
+    })
 }
 
 impl<R: Resolver> ProfileBuilder<R> {
     ghost use Rattle.perfdata_events.specs.declared.event.EventRecord.TheVariants.{Sample};
-    ghost use Rattle.perfdata_profile.specs.Building.{Builds, IsProfileOf};
-    ghost use Rattle.perfdata_profile.specs.Samples.{Given, applied_as};
+    ghost use Rattle.perfdata_profile.specs.Building.{Builds, IsProfileOf, options_of};
+    ghost use Rattle.perfdata_profile.specs.Samples.{Given, applied_as, applied_in};
+    ghost use Rattle.perfdata_profile.specs.declared.options.ProfileOptions.{ProfileOptions};
+    ghost use Rattle.perfdata_profile.specs.declared.sums.SampleWeight.{SampleWeight};
 
     /// Creates a builder that has counted nothing.
-    pub fn new(alloc: Global, resolver: R) -> ProfileBuilder<R>
-        ensures { Builds R.names_thread R.names_frame [] result }
+    pub fn new(alloc: Global, resolver: R, options: ProfileOptions) -> ProfileBuilder<R>
+        ensures { Builds R.meaning options [] result }
     {
         ProfileBuilder {
             resolver,
+            thread_ids: options.thread_ids,
             spaces: AddressSpaces::new(alloc),
-            names: Names::new(alloc),
-            sums: StackSums::new(alloc),
+            locator: Locator::new(alloc, options.detail),
+            sums: SampleSums::new(alloc),
+            frames: Vec::new(alloc),
             stack: Vec::new(alloc),
         }
     }
 
+    // Returns the key of a sample of an event with a column.
+    fn key(
+        &mut self,
+        misc: u16,
+        sample: &SampleRecord<'_>,
+        column: usize,
+    ) -> Result<SampleKey, AllocError>
+        ensures options { options_of self.new ≡ options_of self.old }
+        ensures spaces { self.new.spaces ≡ self.old.spaces }
+        ensures sums { self.new.sums ≡ self.old.sums }
+        ensures grows { LocatorGrows self.old.locator self.new.locator }
+        ensures cache { OnOk result ((before : List Applied) → Follows before self.old.spaces →
+            CacheHolds R.meaning self.old.locator.detail (mapping_values self.old.spaces) self.old.locator →
+            CacheHolds R.meaning self.old.locator.detail (mapping_values self.old.spaces) self.new.locator) }
+        ensures ok { IfOk result (λ key. (before : List Applied) → Follows before self.old.spaces →
+            CacheHolds R.meaning self.old.locator.detail (mapping_values self.old.spaces) self.old.locator →
+            HasKey R.meaning (located_lists self.new.locator) (options_of self.old) before misc sample.now
+            column key) }
+    {
+        let task = task_of(sample);
+        let origin = Origin {
+            pid: task.pid,
+            time: sample.timestamp,
+        };
+        self.resolver
+            .frames(&self.spaces, misc, sample, &mut self.frames)?;
+        set_stack(
+            &mut self.resolver,
+            &self.spaces,
+            &mut self.locator,
+            origin,
+            self.frames.as_slice(),
+            &mut self.stack,
+        )?;
+        let thread = thread_of(
+            &mut self.resolver,
+            &self.spaces,
+            &mut self.locator,
+            self.thread_ids,
+            task,
+        )?;
+        let stack = self.locator.tables.stacks.intern(self.stack.as_slice())?;
+        Ok(SampleKey {
+            thread,
+            stack,
+            column,
+        })
+    }
+
     // Counts a sample.
-    fn count(&mut self, misc: u16, sample: &SampleRecord<'_>, weight: u64) -> Result<(), CountError>
-        ensures ok { OnOk result ((given : List Given) → Builds R.names_thread R.names_frame given self.old →
-            Builds R.names_thread R.names_frame (given ++ record {
+    fn count(
+        &mut self,
+        misc: u16,
+        sample: &SampleRecord<'_>,
+        weight: SampleWeight,
+    ) -> Result<(), CountError>
+        ensures ok { OnOk result ((options : ProfileOptions) (given : List Given) →
+            Builds R.meaning options given self.old → Builds R.meaning options (given ++ record {
               misc = misc;
               event = Sample sample.now;
               weight = Some weight;
             } ∷ []) self.new) }
         ensures err { OnErr result (KeepsSums self.old.sums self.new.sums) }
     {
-        let set = set_stack(
-            &mut self.resolver,
-            &self.spaces,
-            misc,
-            sample,
-            &mut self.names,
-            &mut self.stack,
-        );
-        if set.is_err() {
-            return Err(CountError::Memory);
+        match self.key(misc, sample, weight.column) {
+            Ok(key) => self.sums.add(key, weight.weight),
+            Err(AllocError) => Err(CountError::Memory),
         }
-        self.sums.add(self.stack.as_slice(), weight)
     }
 
     // Applies a record that isn't a sample.
     fn apply(&mut self, misc: u16, record: &EventRecord<'_>) -> Result<(), AllocError>
         requires { applied_as misc «record».now ≡ record { misc = misc; event = «record».now } ∷ [] }
-        ensures ok { OnOk result ((given : List Given) (weight : Option ℕ) →
-            Builds R.names_thread R.names_frame given self.old →
-            Builds R.names_thread R.names_frame (given ++ record {
+        ensures ok { OnOk result ((options : ProfileOptions) (given : List Given)
+            (weight : Option SampleWeight) → Builds R.meaning options given self.old →
+            Builds R.meaning options (given ++ record {
               misc = misc;
               event = «record».now;
               weight = weight;
@@ -193,15 +204,15 @@ impl<R: Resolver> ProfileBuilder<R> {
     /// record's header. `weight` is `None` for a sample that isn't selected.
     ///
     /// Fails with [`CountError::Overflow`] if the number of all samples or the sum of all weights exceeds
-    /// 2^64 - 1, and with [`CountError::Memory`] if memory runs out. Then nothing is counted.
+    /// 2^63 - 1, and with [`CountError::Memory`] if memory runs out. Then nothing is counted.
     pub fn add_record(
         &mut self,
         misc: u16,
         record: &EventRecord<'_>,
-        weight: Option<u64>,
+        weight: Option<SampleWeight>,
     ) -> Result<(), CountError>
-        ensures ok { OnOk result ((given : List Given) → Builds R.names_thread R.names_frame given self.old →
-            Builds R.names_thread R.names_frame (given ++ record {
+        ensures ok { OnOk result ((options : ProfileOptions) (given : List Given) →
+            Builds R.meaning options given self.old → Builds R.meaning options (given ++ record {
               misc = misc;
               event = «record».now;
               weight = weight;
@@ -218,18 +229,27 @@ impl<R: Resolver> ProfileBuilder<R> {
         }
     }
 
+    /// Returns what the records so far map, and the names of threads.
+    pub fn spaces(&self) -> &AddressSpaces
+        ensures { (options : ProfileOptions) (given : List Given) → Builds R.meaning options given self.now →
+            Follows (applied_in given) result.now }
+    {
+        &self.spaces
+    }
+
     /// Returns the profile of the samples that were counted, and the resolver.
     pub fn finish(self) -> (Profile, R)
-        ensures profile { (given : List Given) → Builds R.names_thread R.names_frame given self →
-            IsProfileOf R.names_thread R.names_frame given result.0 }
+        ensures profile { (options : ProfileOptions) (given : List Given) →
+            Builds R.meaning options given self → IsProfileOf R.meaning options given result.0 }
         ensures resolver { result.1 ≡ self.resolver }
     {
         let ProfileBuilder {
             resolver,
-            names,
+            locator,
             sums,
             ..
         } = self;
-        (Profile { names, sums }, resolver)
+        let tables = locator.into_tables();
+        (Profile { tables, sums }, resolver)
     }
 }

@@ -1,8 +1,8 @@
 //! Laws on profiles.
 
-ghost use Rattle.perfdata_profile.specs.Profiles.{TalliesNames};
+ghost use Rattle.perfdata_profile.specs.Profiles.{TalliesValues};
 
-/// The sums of the samples with the same ids are those of the samples with the same names.
-pub fn names()
-    ensures { TalliesNames }
+/// The sums of the samples with the same ids are those of the samples with the same values.
+pub fn values()
+    ensures { TalliesValues }
 {}

@@ -1,12 +1,22 @@
 //! A profile: how many samples each stack has.
 //!
 //! A [`builder::ProfileBuilder`] is given the records of a recording in order of time. A
-//! [`resolver::Resolver`] names threads and frames. [`names::Names`] stores each name once, and
-//! [`sums::StackSums`] adds up the samples of each stack.
+//! [`resolver::Resolver`] says which frames a sample has, and names threads, functions and files.
+//! [`tables::Tables`] stores each name, mapping, location and stack once, and [`sums::SampleSums`] adds up
+//! the samples of each thread, stack and event.
 #![tactic(auto)]
 
 pub mod builder;
+mod cache;
+pub mod error;
 pub mod laws;
+mod locating;
+pub mod locations;
+pub mod mappings;
 pub mod names;
+pub mod options;
+pub mod profile;
 pub mod resolver;
+pub mod stacks;
 pub mod sums;
+pub mod tables;

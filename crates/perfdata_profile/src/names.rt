@@ -1,6 +1,6 @@
 //! The names of functions and threads, each stored once.
 
-ghost use Rattle.std.specs.Prelude.{◌≡◌, [], map, slice_get, IfOk, OnErr};
+ghost use Rattle.std.specs.Prelude.{◌≡◌, [], length, map, slice_get, IfOk, OnErr};
 ghost use Rattle.std.specs.Option.{option_map};
 ghost use Rattle.perfdata_profile.specs.Interning.{Interns, IsOnce};
 
@@ -17,6 +17,17 @@ pub struct Names {
     names: IndexSet<Vec<u8>>,
     alloc: Global,
     ghost once: { IsOnce (map (λ name. name.items) names.keys) },
+}
+
+impl NameId {
+    ghost use Rattle.perfdata_profile.specs.Names.{number_of};
+
+    /// Returns the number: how many names were interned before.
+    pub fn number(self) -> usize
+        ensures { result ≡ number_of self }
+    {
+        self.0
+    }
 }
 
 impl Names {
@@ -56,5 +67,12 @@ impl Names {
             Some(name) => Some(name.as_slice()),
             None => None,
         }
+    }
+
+    /// Returns the number of names.
+    pub fn len(&self) -> usize
+        ensures { result ≡ length (names_of self.now) }
+    {
+        self.names.len()
     }
 }

@@ -1,16 +1,22 @@
-//! The names of threads and frames.
+//! The frames of samples, and the names of threads, frames and files.
 
 ghost use Rattle.std.specs.Prelude.{◌≡◌, ℕ, Bool, List, OnOk, IfOk, slice_get};
 ghost use Rattle.perfdata_profile.specs.Interning.{Grows};
 ghost use Rattle.perfdata_profile.specs.Names.{names_of};
-ghost use Rattle.perfdata_profile.specs.Resolving.{FrameValue, IsIdOf, ThreadValue};
+ghost use Rattle.perfdata_profile.specs.Resolving.{AreFileIds, IsFunctionId, IsIdOf, Meaning};
 ghost use Rattle.perfdata_profile.specs.Resolving.{frame_value, thread_value};
+ghost use Rattle.perfdata_profile.specs.Samples.{frames_in};
+ghost use Rattle.perfdata_spaces.specs.AddressSpaces.{Follows};
+ghost use Rattle.perfdata_spaces.specs.Effects.{Applied};
+ghost use Rattle.perfdata_spaces.specs.Mappings.{mapping_value};
 
 use crate::names::{NameId, Names};
 use perfdata_events::event::EventRecord;
 use perfdata_events::fields::task::Task;
+use perfdata_events::sample::SampleRecord;
+use perfdata_spaces::address_spaces::{AddressSpaces, context_of_mode};
 use perfdata_spaces::mapping::Mapping;
-use perfdata_stacks::frames::SampleFrame;
+use perfdata_stacks::frames::{SampleFrame, SampleFrames};
 use std::alloc::AllocError;
 
 /// A frame of a sample, and what is mapped where it is looked up.
@@ -28,15 +34,32 @@ pub struct ResolvedFrame<'a> {
     pub mapping: Option<&'a Mapping>,
 }
 
-/// What names threads and frames.
+/// The name of a frame.
+#[derive(Clone, Copy, Debug, PartialEq, Eq)]
+pub struct FunctionName {
+    /// The id of the name.
+    pub id: NameId,
+    /// Whether each frame that is looked up at this address of this mapping has this name: in each sample,
+    /// of whatever time. Then the resolver isn't asked again. A frame without a mapping is asked for each
+    /// time.
+    pub is_fixed: bool,
+}
+
+/// The path and the build id of a file.
+#[derive(Clone, Copy, Debug, PartialEq, Eq)]
+pub struct FileNames {
+    /// The path.
+    pub path: NameId,
+    /// The build id, which is empty if it isn't known.
+    pub build_id: NameId,
+}
+
+/// What says which frames samples have, and names threads, frames and files.
 pub trait Resolver {
-    /// Whether a thread can have a name.
-    ghost names_thread: { ThreadValue → List ℕ → Type 0 };
+    /// Which frames and names it may give.
+    ghost meaning: { Meaning };
 
-    /// Whether a frame can have a name.
-    ghost names_frame: { FrameValue → List ℕ → Type 0 };
-
-    /// Is told of a record that isn't a sample, and of the mapping that it adds, if it adds one.
+    /// Is given a record that isn't a sample, and the mapping that it adds, if it adds one.
     ///
     /// Fails if memory runs out.
     fn apply(
@@ -45,6 +68,20 @@ pub trait Resolver {
         record: &EventRecord<'_>,
         mapping: Option<&Mapping>,
     ) -> Result<(), AllocError>;
+
+    /// Sets `frames` to the frames of a sample, the leaf first. `misc` is that of the record's header.
+    /// [`set_frames`] sets those that the sample has without its copy of the stack.
+    ///
+    /// Fails if memory runs out.
+    fn frames(
+        &mut self,
+        spaces: &AddressSpaces,
+        misc: u16,
+        sample: &SampleRecord<'_>,
+        frames: &mut Vec<SampleFrame>,
+    ) -> Result<(), AllocError>
+        ensures { OnOk result ((before : List Applied) → Follows before spaces.now →
+            meaning.has_frames before misc sample.now frames.new.items) };
 
     /// Returns the id of the name of a thread. `comm` is its name as a record has it.
     ///
@@ -57,7 +94,7 @@ pub trait Resolver {
     ) -> Result<NameId, AllocError>
         ensures grows { Grows (names_of names.old) (names_of names.new) }
         ensures named { IfOk result (λ id.
-            IsIdOf (names_thread (thread_value task comm.entry)) (names_of names.new) id) };
+            IsIdOf (meaning.names_thread (thread_value task comm.entry)) (names_of names.new) id) };
 
     /// Returns the id of the name of a frame.
     ///
@@ -66,8 +103,36 @@ pub trait Resolver {
         &mut self,
         frame: &ResolvedFrame<'_>,
         names: &mut Names,
-    ) -> Result<NameId, AllocError>
+    ) -> Result<FunctionName, AllocError>
         ensures grows { Grows (names_of names.old) (names_of names.new) }
-        ensures named { IfOk result (λ id.
-            IsIdOf (names_frame (frame_value frame.now)) (names_of names.new) id) };
+        ensures named { IfOk result (λ name.
+            IsFunctionId meaning.names_frame (frame_value frame.now) (names_of names.new) name) };
+
+    /// Returns the ids of the path and of the build id of a mapped file. It is asked with
+    /// [`Detail::Locations`](crate::options::Detail) alone.
+    ///
+    /// Fails if memory runs out.
+    fn file(&mut self, mapping: &Mapping, names: &mut Names) -> Result<FileNames, AllocError>
+        ensures grows { Grows (names_of names.old) (names_of names.new) }
+        ensures named { IfOk result (λ file.
+            AreFileIds (meaning.names_file (mapping_value mapping.now)) (names_of names.new) file) };
+}
+
+/// Sets `frames` to the frames of a sample, the leaf first: those of its call chain or, if that has none, its
+/// instruction. `misc` is that of the record's header.
+///
+/// Fails if memory runs out.
+pub fn set_frames(
+    misc: u16,
+    sample: &SampleRecord<'_>,
+    frames: &mut Vec<SampleFrame>,
+) -> Result<(), AllocError>
+    ensures { OnOk result (frames.new.items ≡ frames_in misc sample.now) }
+{
+    frames.clear();
+    let mut rest = SampleFrames::new(sample, context_of_mode(misc));
+    'frames: while let Some(frame) = rest.next() {
+        frames.push(frame)?;
+    }
+    Ok(())
 }

@@ -1,20 +1,49 @@
-//! The sums of the samples of each stack.
+//! The sums of the samples of each thread, stack and event.
 
-ghost use Rattle.std.specs.Prelude.{◌≡◌, ◌<◌, ◌^◌, ◌∷◌, [], ◌++◌, None, Some, List, Vec, slice_get};
-ghost use Rattle.std.specs.Borrow.{Bor};
-ghost use Rattle.std.specs.Option.{option_map};
+ghost use Rattle.std.specs.Prelude.{◌≡◌, ◌+◌, ◌≤◌, ◌<◌, ◌^◌, ◌∷◌, [], ◌++◌, None, Some, List, slice_get};
 ghost use Rattle.std.specs.Prelude.{length, IfErr, IfSome, IfNone, OnErr, OnOk};
-ghost use Rattle.std.specs.declared.alloc.Global.{Global};
 ghost use Rattle.indexmap.specs.IndexMap.{set_value_at};
-ghost use Rattle.indexmap.specs.IndexMap.{get_by, index_map_len};
+ghost use Rattle.indexmap.specs.IndexMap.{get, index_map_len};
 ghost use Rattle.perfdata_profile.specs.Sums.{sums_after};
 
+use crate::error::CountError;
 use crate::names::NameId;
+use crate::stacks::StackId;
 use indexmap::IndexMap;
-use perfdata_stacks::counts::CountError;
 use std::alloc::{AllocError, Global};
 
-/// What samples with the same stack add up to.
+/// A thread of a profile.
+#[derive(Clone, Copy, Debug, PartialEq, Eq, Hash)]
+pub struct Thread {
+    /// The name.
+    pub name: NameId,
+    /// The process, if processes are distinguished.
+    pub pid: Option<i32>,
+    /// The thread, if threads are distinguished.
+    pub tid: Option<i32>,
+}
+
+/// What the sums of samples are kept apart by.
+#[derive(Clone, Copy, Debug, PartialEq, Eq, Hash)]
+pub struct SampleKey {
+    /// The thread.
+    pub thread: Thread,
+    /// The stack.
+    pub stack: StackId,
+    /// The column of the event.
+    pub column: usize,
+}
+
+/// How a sample counts.
+#[derive(Clone, Copy, Debug, PartialEq, Eq)]
+pub struct SampleWeight {
+    /// The column of the event.
+    pub column: usize,
+    /// The weight.
+    pub weight: u64,
+}
+
+/// What samples with the same key add up to.
 #[derive(Clone, Copy, Debug, PartialEq, Eq)]
 pub struct Sums {
     /// The number of samples.
@@ -23,21 +52,31 @@ pub struct Sums {
     pub weight: u64,
 }
 
-/// The sums of each stack. A stack is a list of names: that of its thread, then those of its functions, the
-/// leaf's first.
+/// The sums of the samples of each thread, stack and column. All sums are below 2^63.
 #[derive(Drop)]
-pub struct StackSums {
-    entries: IndexMap<Vec<NameId>, Sums>,
+pub struct SampleSums {
+    entries: IndexMap<SampleKey, Sums>,
     total: Sums,
-    alloc: Global,
+}
+
+// The number from which on no sum is counted.
+const LIMIT: u64 = 1 << 63;
+
+// Returns the sum of two numbers, if it is below 2^63.
+fn checked_sum(sum: u64, more: u64) -> Option<u64>
+    ensures some { IfSome result (λ total. (total ≡ sum + more) × (total < 2 ^ 63)) }
+    ensures none { IfNone result (2 ^ 63 ≤ sum + more) }
+{
+    let total = sum.checked_add(more)?;
+    if total < LIMIT { Some(total) } else { None }
 }
 
 impl Sums {
-    ghost use Rattle.perfdata_profile.specs.StackSums.{Overflows};
+    ghost use Rattle.perfdata_profile.specs.SampleSums.{Overflows};
 
-    // The sums after one more sample, if they are below 2^64.
+    // The sums after one more sample, if they are below 2^63.
     fn plus(self, weight: u64) -> Sums
-        ensures { (sums_after self weight).samples < 2 ^ 64 → (sums_after self weight).weight < 2 ^ 64 →
+        ensures { (sums_after self weight).samples < 2 ^ 63 → (sums_after self weight).weight < 2 ^ 63 →
             result ≡ sums_after self weight }
     {
         Sums {
@@ -46,44 +85,43 @@ impl Sums {
         }
     }
 
-    // The sums after one more sample, or `None` if one of them is 2^64 or more.
+    // The sums after one more sample, or `None` if one of them is 2^63 or more.
     fn checked_plus(self, weight: u64) -> Option<Sums>
         ensures some { IfSome result (λ sums. sums ≡ sums_after self weight) }
-        ensures fits { IfSome result (λ sums. (sums.samples < 2 ^ 64) × (sums.weight < 2 ^ 64)) }
+        ensures fits { IfSome result (λ sums. (sums.samples < 2 ^ 63) × (sums.weight < 2 ^ 63)) }
         ensures none { IfNone result (Overflows self weight) }
     {
         Some(Sums {
-            samples: self.samples.checked_add(1)?,
-            weight: self.weight.checked_add(weight)?,
+            samples: checked_sum(self.samples, 1)?,
+            weight: checked_sum(self.weight, weight)?,
         })
     }
 }
 
-impl StackSums {
-    ghost use Rattle.perfdata_profile.specs.StackSums.{IsCause, KeepsSums, TalliesStacks, are_same_ids};
-    ghost use Rattle.perfdata_profile.specs.StackSums.{entries_of, then_counted, total_of};
+impl SampleSums {
+    ghost use Rattle.perfdata_profile.specs.SampleSums.{IsCause, KeepsSums, TalliesSamples};
+    ghost use Rattle.perfdata_profile.specs.SampleSums.{entries_of, then_counted, total_of};
     ghost use Rattle.perfdata_profile.specs.Tallies.{Counted};
 
-    /// Creates sums without stacks.
-    pub fn new(alloc: Global) -> StackSums
-        ensures { TalliesStacks [] result }
+    /// Creates sums without samples.
+    pub fn new(alloc: Global) -> SampleSums
+        ensures { TalliesSamples [] result }
     {
-        StackSums {
+        SampleSums {
             entries: IndexMap::new(alloc),
             total: Sums {
                 samples: 0,
                 weight: 0,
             },
-            alloc,
         }
     }
 
-    // Adds a sample to the sums of the stack with an index.
+    // Adds a sample to the sums with an index.
     fn raise(&mut self, index: usize, weight: u64)
         requires { index < index_map_len self.old.entries }
-        ensures entries { (key : Vec NameId Global) (sums : Sums) →
+        ensures entries { (key : SampleKey) (sums : Sums) →
             slice_get self.old.entries.entries index ≡ Some (key, sums) →
-            (sums_after sums weight).samples < 2 ^ 64 → (sums_after sums weight).weight < 2 ^ 64 →
+            (sums_after sums weight).samples < 2 ^ 63 → (sums_after sums weight).weight < 2 ^ 63 →
             self.new.entries.entries ≡ set_value_at self.old.entries.entries index (sums_after sums weight) }
         ensures total { self.new.total ≡ self.old.total }
     {
@@ -91,65 +129,53 @@ impl StackSums {
         self.entries[index] = sums.plus(weight);
     }
 
-    // Adds the first sample of a stack.
-    fn add_first(&mut self, stack: &[NameId], weight: u64) -> Result<(), AllocError>
-        requires { get_by (λ (key : Vec NameId Global). are_same_ids stack.now key.items)
-            self.old.entries ≡ None }
-        ensures ok { OnOk result (entries_of self.new ≡
-            entries_of self.old ++ (stack.now, record { samples = 1; weight = weight }) ∷ []) }
-        ensures total { self.new.total ≡ self.old.total }
-        ensures err { OnErr result (KeepsSums self.old self.new) }
-    {
-        let sums = Sums { samples: 1, weight };
-        self.entries.insert(stack.to_vec(self.alloc)?, sums)?;
-        Ok(())
-    }
-
-    /// Counts a sample of a stack with a weight.
+    /// Counts a sample with a key and a weight.
     ///
-    /// Fails with [`CountError::Overflow`] if the number of all samples or the sum of all weights exceeds
-    /// 2^64 - 1, and with [`CountError::Memory`] if memory runs out. Then nothing is counted.
-    pub fn add(&mut self, stack: &[NameId], weight: u64) -> Result<(), CountError>
-        ensures ok { OnOk result ((counted : List (Counted (List NameId))) → TalliesStacks counted self.old →
-            TalliesStacks (then_counted counted stack.now weight) self.new) }
+    /// Fails with [`CountError::Overflow`] if the number of all samples or the sum of all weights, whatever
+    /// their columns, exceeds 2^63 - 1, and with [`CountError::Memory`] if memory runs out. Then nothing is
+    /// counted.
+    pub fn add(&mut self, key: SampleKey, weight: u64) -> Result<(), CountError>
+        ensures ok { OnOk result ((counted : List (Counted SampleKey)) → TalliesSamples counted self.old →
+            TalliesSamples (then_counted counted key weight) self.new) }
         ensures err { OnErr result (KeepsSums self.old self.new) }
         ensures cause { IfErr result (λ error. IsCause (total_of self.old) weight error) }
     {
         let Some(total) = self.total.checked_plus(weight) else {
             return Err(CountError::Overflow);
         };
-        if let Some(index) = self.entries.get_index_of(stack) {
+        if let Some(index) = self.entries.get_index_of(&key) {
             self.raise(index, weight);
             self.total = total;
             return Ok(());
         }
-        if self.add_first(stack, weight).is_err() {
-            return Err(CountError::Memory);
+        match self.entries.insert(key, Sums { samples: 1, weight }) {
+            Ok(_) => {
+                self.total = total;
+                Ok(())
+            }
+            Err(_) => Err(CountError::Memory),
         }
-        self.total = total;
-        Ok(())
     }
 
-    /// Returns the number of stacks that were counted.
+    /// Returns the number of keys that were counted.
     pub fn len(&self) -> usize
         ensures { result ≡ length (entries_of self.now) }
     {
         self.entries.len()
     }
 
-    /// Returns the stack with an index, and its sums, or `None` from [`StackSums::len`] on. Stacks are in the
+    /// Returns the key with an index, and its sums, or `None` from [`SampleSums::len`] on. Keys are in the
     /// order in which they were first counted.
-    pub fn get(&self, index: usize) -> Option<(&[NameId], Sums)>
-        ensures { option_map (λ (entry : Bor (List NameId) × Sums). (entry.0.now, entry.1)) result
-            ≡ slice_get (entries_of self.now) index }
+    pub fn get(&self, index: usize) -> Option<(SampleKey, Sums)>
+        ensures { result ≡ slice_get (entries_of self.now) index }
     {
         match self.entries.get_index(index) {
-            Some((stack, sums)) => Some((stack.as_slice(), *sums)),
+            Some((key, sums)) => Some((*key, *sums)),
             None => None,
         }
     }
 
-    /// Returns the sums of all samples.
+    /// Returns the sums of all samples, whatever their columns.
     pub fn total(&self) -> Sums
         ensures { result ≡ total_of self.now }
     {

@@ -1,11 +1,20 @@
-use Rattle.std.proofs.Common.{rules, ◌≡◌, ◌∷◌, [], w32}
-use Rattle.std.proofs.lemmas.Int.{to_z-of_z}
-use Rattle.std.specs.Option.{option_map}
-use Rattle.perfdata_profile.proofs.Counting.{on_ok_map}
-use Rattle.perfdata_profile.proofs.Resolving.{has_ids}
+use Rattle.perfdata_profile.specs.Locating.{located_lists}
+use Rattle.perfdata_profile.proofs.Building.{locator_trans, more_locations, next_stack}
+use Rattle.perfdata_profile.proofs.Growing.{locations_within}
 use Rattle.perfdata_profile.proofs.builder.set_stack.Goals as goal
 
-pub returns-clause-ok : goal.returns-clause-ok
-returns-clause-ok g c = on_ok_map c.push_frames.result c.push_frames.ensures.ok (λ pushes before follows.
-    let stack : c.push.new.self.items ≡ c.in_ok-thread.thread ∷ [] = search rules in
-    has_ids g.R.Resolver.names_thread g.R.Resolver.names_frame before c.args.misc c.args.sample.now c.task_of-task.result (option_map (λ name. name.now) c.comm.result) c.in_ok-thread.thread _ _ _ _ c.task_of-task.ensures (rw (to_z-of_z w32 c.task_of-task.result.tid (search rules)) at (c.comm.ensures before follows)) c.in_ok-thread.ensures.named c.push_frames.ensures.grows stack (pushes before follows))
+pub frames-preserved : goal.frames-preserved
+frames-preserved g c =
+    let first = c.args.locator.now in
+    let old = c.frames.locator in
+    let new = c.location.new.self in
+    let stack = c.frames.stack.items in
+    let more = c.push.new.self.items in
+    let id = c.in_ok-location.field-0 in (
+      locator_trans first old new c.frames.invariant.0 c.in_ok-location.ensures.grows,
+      more_locations (located_lists new) stack more id c.in_ok-push.ensures.items (locations_within (located_lists old) (located_lists new) c.in_ok-location.ensures.grows.lists stack c.frames.invariant.1) c.in_ok-location.ensures.within,
+      λ before follows holds. next_stack g.R.Resolver.meaning first old new c.args.spaces.now c.args.origin.pid c.args.origin.time c.args.frames.now c.frames.frame-index _ c.frames-test.true stack more id c.frames.invariant.0 c.in_ok-location.ensures.grows c.in_ok-push.ensures.items c.in_ok-location.ensures.within before (c.frames.invariant.2 before follows holds) (c.in_ok-location.ensures.cache before follows) (c.in_ok-location.ensures.ok before follows),
+    )
+
+pub returns-clause-cache : goal.returns-clause-cache
+returns-clause-cache g c = λ before follows holds. (c.frames.invariant.2 before follows holds).0

@@ -2,4 +2,4 @@ use Rattle.perfdata_profile.proofs.Building.{builds_unselected}
 use Rattle.perfdata_profile.proofs.builder.ProfileBuilder.add_record.Goals as goal
 
 pub returns-in-Sample-None-clause-ok : goal.returns-in-Sample-None-clause-ok
-returns-in-Sample-None-clause-ok g c = rw (c.in-Sample-None.is-0, c.in-Sample-None.is-1) (λ given builds. builds_unselected g.R.Resolver.names_thread g.R.Resolver.names_frame given c.args.self.now c.args.misc c.in-Sample-None.field-0-0 builds)
+returns-in-Sample-None-clause-ok g c = rw (c.in-Sample-None.is-0, c.in-Sample-None.is-1) (λ options given builds. builds_unselected g.R.Resolver.meaning options given c.args.self.now c.args.misc c.in-Sample-None.field-0-0 builds)

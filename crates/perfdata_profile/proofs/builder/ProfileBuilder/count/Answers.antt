@@ -1,16 +1,20 @@
-use Rattle.std.proofs.Common.{rules, List, refl, sym, subst}
-use Rattle.perfdata_profile.specs.Building.{HasIds}
-use Rattle.perfdata_profile.specs.Names.{names_of}
+use Rattle.std.proofs.Common.{ap, subst, sym}
+use Rattle.perfdata_profile.specs.Building.{HasKey}
+use Rattle.perfdata_profile.specs.Locating.{CacheHolds, located_lists}
+use Rattle.perfdata_profile.specs.SampleSums.{TalliesSamples}
 use Rattle.perfdata_profile.specs.Samples.{applied_in}
-use Rattle.perfdata_profile.specs.declared.names.NameId.{NameId}
+use Rattle.perfdata_profile.specs.declared.options.Detail.{Detail}
+use Rattle.perfdata_profile.specs.declared.options.ProfileOptions.{ProfileOptions}
 use Rattle.perfdata_profile.proofs.Building.{builds_counted}
 use Rattle.perfdata_profile.proofs.Counting.{on_ok_map}
-use Rattle.perfdata_spaces.specs.AddressSpaces.{Follows}
-use Rattle.perfdata_spaces.specs.Effects.{Applied}
+use Rattle.perfdata_spaces.specs.AddressSpaces.{mapping_values}
 use Rattle.perfdata_profile.proofs.builder.ProfileBuilder.count.Goals as goal
 
-pub returns-clause-ok : goal.returns-clause-ok
-returns-clause-ok g c = on_ok_map c.add.result c.add.ensures.ok (λ tallies given builds.
-    let has : (before : List Applied) → Follows before c.args.self.now.spaces → HasIds g.R.Resolver.names_thread g.R.Resolver.names_frame (names_of c.set_stack-set.new.names) before c.args.misc c.args.sample.now c.set_stack-set.new.stack.items = search rules in
-    builds_counted g.R.Resolver.names_thread g.R.Resolver.names_frame given c.args.self.now _ builds c.args.misc c.args.sample.now c.args.weight c.as_slice.result.now refl c.set_stack-set.ensures.grows
-    (subst (λ (ids : List NameId). HasIds g.R.Resolver.names_thread g.R.Resolver.names_frame (names_of c.set_stack-set.new.names) (applied_in given) c.args.misc c.args.sample.now ids) (sym c.as_slice.ensures.value) (has (applied_in given) builds.follows)) tallies)
+pub returns-in-Ok-clause-ok : goal.returns-in-Ok-clause-ok
+returns-in-Ok-clause-ok g c = on_ok_map c.add.result c.add.ensures.ok (λ tallies options given builds.
+    let detail = ap (λ (o : ProfileOptions). o.detail) builds.has_options in
+    let before = subst (λ (d : Detail). CacheHolds g.R.Resolver.meaning d (mapping_values c.args.self.now.spaces) c.args.self.now.locator) (sym detail) builds.cache in
+    let cache = subst (λ (d : Detail). CacheHolds g.R.Resolver.meaning d (mapping_values c.args.self.now.spaces) c.key.new.self.locator) detail (c.in-Ok.ensures.cache (applied_in given) builds.follows before) in
+    let has = subst (λ (o : ProfileOptions). HasKey g.R.Resolver.meaning (located_lists c.key.new.self.locator) o (applied_in given) c.args.misc c.args.sample.now c.args.weight.column c.in-Ok.key) builds.has_options (c.in-Ok.ensures.ok (applied_in given) builds.follows before) in
+    let kept = c.key.new.self in
+    builds_counted g.R.Resolver.meaning options given c.args.self.now (record { resolver = kept.resolver; thread_ids = kept.thread_ids; spaces = kept.spaces; locator = kept.locator; sums = c.add.new.self; frames = kept.frames; stack = kept.stack }) builds c.args.misc c.args.sample.now c.args.weight c.in-Ok.key c.key.ensures.options c.key.ensures.spaces c.key.ensures.grows cache has (λ counted is. tallies counted (subst (TalliesSamples counted) (sym c.key.ensures.sums) is)))

@@ -1,6 +1,14 @@
 use Rattle.std.proofs.Common.{[], refl}
 use Rattle.perfdata_profile.specs.Samples.{none}
+use Rattle.perfdata_profile.proofs.Growing.{none_at}
 use Rattle.perfdata_profile.proofs.builder.ProfileBuilder.new.Goals as goal
 
 pub returns : goal.returns
-returns g c = record { follows = c.new.ensures; counted = []; are = none [] [] refl refl; sums = c.new-3.ensures }
+returns g c = record {
+  has_options = λ i. record { detail = c.new-2.ensures.detail i; thread_ids = c.args.options.thread_ids };
+  follows = c.new.ensures;
+  cache = λ index at id found. absurd (none_at _ c.new-2.ensures.cache index (at, id) found);
+  counted = [];
+  are = none [] [] refl refl;
+  sums = c.new-3.ensures;
+}

@@ -1,0 +1,159 @@
+-- Locations as they are looked up.
+use Rattle.std.proofs.Common.{◌≡◌, ◌∙◌, ◌≤◌, ◌<◌, ◌⊎◌, ◌&&◌, inl, inr, ap, refl, sym, subst, arith, nat_le, nat_lt, ℕ, Bool, true, false, List, [], length, slice_get, Option, None, Some}
+use Rattle.std.proofs.lemmas.Bool.Decides.{nat_tests}
+use Rattle.std.proofs.lemmas.Option.{get_or_from_slice_get, slice_get_within}
+use Rattle.std.specs.Option.{option_map}
+use Rattle.perfdata_profile.specs.Caching.{AddsCached, AllCached}
+use Rattle.perfdata_profile.specs.Interning.{Grows}
+use Rattle.perfdata_profile.specs.Locating.{CacheHolds, HasMapping, IsCached, IsFoundLocation, IsFoundPlace, IsFoundRange, IsNewLocation, LocatorGrows, located_lists}
+use Rattle.perfdata_profile.specs.Names.{number_of}
+use Rattle.perfdata_profile.specs.Resolving.{AreAtOneAddress, AreFileIds, FrameValue, IsFunctionId, Meaning}
+use Rattle.perfdata_profile.specs.Samples.{IsLocationOf, IsPlace, IsRange, end_of, is_in_range}
+use Rattle.perfdata_profile.specs.Tables.{location_number, mapping_number}
+use Rattle.perfdata_profile.specs.Values.{AreWithin, Lists, ListsGrow, location_at, location_value, name_at, no_location, no_range, range_at, range_value}
+use Rattle.perfdata_profile.specs.declared.cache.LocationCache.{LocationCache}
+use Rattle.perfdata_profile.specs.declared.cache.MappedAddress.{MappedAddress}
+use Rattle.perfdata_profile.specs.declared.locating.Locator.{Locator}
+use Rattle.perfdata_profile.specs.declared.locating.NewLocation.{NewLocation}
+use Rattle.perfdata_profile.specs.declared.locating.Place.{Place}
+use Rattle.perfdata_profile.specs.declared.locations.Location.{Location}
+use Rattle.perfdata_profile.specs.declared.locations.LocationId.{LocationId}
+use Rattle.perfdata_profile.specs.declared.mappings.MappedRange.{MappedRange}
+use Rattle.perfdata_profile.specs.declared.mappings.MappingId.{MappingId}
+use Rattle.perfdata_profile.specs.declared.options.Detail.{Detail}
+use Rattle.perfdata_profile.specs.declared.resolver.FileNames.{FileNames}
+use Rattle.perfdata_profile.specs.declared.resolver.FunctionName.{FunctionName}
+use Rattle.perfdata_profile.proofs.Elements.{some_same}
+use Rattle.perfdata_profile.proofs.Growing.{at_kept, location_kept, location_within}
+use Rattle.perfdata_profile.proofs.Valuing.{value_is}
+use Rattle.perfdata_spaces.specs.Mappings.{MappingValue}
+use Rattle.perfdata_stacks.specs.Frames.{lookup_address}
+
+in_range : (start end address : ℕ) → start ≤ address → address < end → (nat_le start address && nat_lt address end) ≡ true
+in_range start end address first last = grind (arith, nat_tests)
+
+pub out_of_range : (start end address : ℕ) → (address < start) ⊎ (end ≤ address) → (nat_le start address && nat_lt address end) ≡ false
+out_of_range start end address (inl below) = grind (arith, nat_tests)
+out_of_range start end address (inr above) = grind (arith, nat_tests)
+
+module _ (meaning : Meaning) where
+  -- The range of a mapping that contains the address.
+  pub found_range : (lists : Lists) (mapping : MappingValue) (address : ℕ) (range : MappedRange) (id : MappingId) (file : FileNames) → slice_get lists.ranges (mapping_number id) ≡ Some range → range.start ≡ mapping.start → range.end ≡ end_of mapping → range.page_offset ≡ mapping.page_offset → range.path ≡ file.path → range.build_id ≡ file.build_id → AreFileIds (meaning.names_file mapping) lists.names file → range.start ≤ address → address < range.end → IsFoundRange meaning lists mapping address (Some id)
+  found_range lists mapping address range id file at start end page_offset path build_id named first last =
+      let value : range_at lists id ≡ range_value lists range = value_is (range_value lists) lists.ranges no_range (mapping_number id) range at in
+      let path_is : named.path ≡ name_at lists range.path = sym (get_or_from_slice_get lists.names (number_of file.path) named.path [] named.path_at) ∙ ap (name_at lists) (sym path) in
+      let build_id_is : named.build_id ≡ name_at lists range.build_id = sym (get_or_from_slice_get lists.names (number_of file.build_id) named.build_id [] named.build_id_at) ∙ ap (name_at lists) (sym build_id) in
+      let is_range : IsRange meaning mapping (range_value lists range) = record {
+        start = start;
+        end = end;
+        page_offset = page_offset;
+        file = subst (λ (p : List ℕ). meaning.names_file mapping p (name_at lists range.build_id)) path_is (subst (λ (b : List ℕ). meaning.names_file mapping named.path b) build_id_is named.are);
+      } in
+      let inside : is_in_range mapping address ≡ true = in_range mapping.start (end_of mapping) address (subst (λ (n : ℕ). n ≤ address) start first) (subst (λ (n : ℕ). address < n) end last) in
+      record {
+        placed = λ other is.
+            let same : id ≡ other = some_same id other is in
+            subst (λ (m : MappingId). (mapping_number m < length lists.ranges) × ((r : MappedRange) → slice_get lists.ranges (mapping_number m) ≡ Some r → (r.start ≤ address) × (address < r.end))) same (
+              slice_get_within lists.ranges (mapping_number id) range at,
+              λ r found. subst (λ (v : MappedRange). (v.start ≤ address) × (address < v.end)) (some_same range r (sym at ∙ found)) (first, last),
+            );
+        is = (inside, subst (IsRange meaning mapping) (sym value) is_range);
+      }
+
+  pub no_found_range : (lists : Lists) (mapping : MappingValue) (address : ℕ) → is_in_range mapping address ≡ false → IsFoundRange meaning lists mapping address None
+  no_found_range lists mapping address outside = record { placed = λ id is. cc; is = outside }
+
+  -- The id of a name of a frame stays one as names are added.
+  pub function_kept : (frame : FrameValue) (old new : List (List ℕ)) → Grows old new → (function : FunctionName) → IsFunctionId meaning.names_frame frame old function → IsFunctionId meaning.names_frame frame new function
+  function_kept frame old new grows function named = record {
+    name = named.name;
+    at = at_kept old new grows (number_of function.id) named.name named.at;
+    is = named.is;
+    fixed = named.fixed;
+  }
+
+  module _ (detail : Detail) where
+    -- A location with a name of a frame, and with its place.
+    module _ (lists : Lists) (frame : FrameValue) (location : Location) (id : LocationId) (at : slice_get lists.locations (location_number id) ≡ Some location) (name : List ℕ) (name_at_id : slice_get lists.names (number_of location.function) ≡ Some name) (place : Place) (mapping_is : location.mapping ≡ place.mapping) (address_is : location.address ≡ place.address) (found : IsFoundPlace meaning detail lists frame place) where
+      value : location_at lists id ≡ location_value lists location
+      value = value_is (location_value lists) lists.locations no_location (location_number id) location at
+
+      name_is : name ≡ name_at lists location.function
+      name_is = sym (get_or_from_slice_get lists.names (number_of location.function) name [] name_at_id)
+
+      place_is : IsPlace meaning detail frame.mapping (lookup_address frame.frame) (option_map (range_at lists) location.mapping) location.address
+      place_is = subst (λ (a : ℕ). IsPlace meaning detail frame.mapping (lookup_address frame.frame) (option_map (range_at lists) location.mapping) a) (sym address_is) (subst (λ (m : Option MappingId). IsPlace meaning detail frame.mapping (lookup_address frame.frame) (option_map (range_at lists) m) place.address) (sym mapping_is) found.is)
+
+      -- It is a location of each frame at the address of the mapping that can have this name.
+      pub location_of : (other : FrameValue) → meaning.names_frame other name → AreAtOneAddress frame other → IsFoundLocation meaning detail lists other id
+      location_of other named same =
+          let other_place : IsPlace meaning detail other.mapping (lookup_address other.frame) (option_map (range_at lists) location.mapping) location.address = subst (λ (m : Option MappingValue). IsPlace meaning detail m (lookup_address other.frame) (option_map (range_at lists) location.mapping) location.address) (sym same.mapping) (subst (λ (a : ℕ). IsPlace meaning detail frame.mapping a (option_map (range_at lists) location.mapping) location.address) (sym same.address) place_is) in
+          let of_value : IsLocationOf meaning detail other (location_value lists location) = record { is_name = subst (meaning.names_frame other) name_is named; is_place = other_place } in
+          record {
+            within = slice_get_within lists.locations (location_number id) location at;
+            is = subst (IsLocationOf meaning detail other) (sym value) of_value;
+          }
+
+      pub new_location : (is_fixed : Bool) → meaning.names_frame frame name → (is_fixed ≡ true → (other : FrameValue) → AreAtOneAddress frame other → meaning.names_frame other name) → IsNewLocation meaning detail lists frame (record { id = id; is_fixed = is_fixed })
+      new_location is_fixed named fixed = record {
+        found = location_of frame named (record { index = refl; mapping = refl; address = refl });
+        fixed = λ is other same. location_of other (fixed is other same) same;
+      }
+
+    -- Locations stay those of their frames as tables grow.
+    pub found_kept : (old new : Lists) → ListsGrow old new → AreWithin old → (frame : FrameValue) (id : LocationId) → IsFoundLocation meaning detail old frame id → IsFoundLocation meaning detail new frame id
+    found_kept old new grows within frame id found = record {
+      within = location_within old new grows id found.within;
+      is = subst (IsLocationOf meaning detail frame) (sym (location_kept old new grows within id found.within)) found.is;
+    }
+
+    pub cached_kept : (old new : Lists) → ListsGrow old new → AreWithin old → (mappings : List MappingValue) (cache : LocationCache) → AllCached (IsCached meaning detail old mappings) cache → AllCached (IsCached meaning detail new mappings) cache
+    cached_kept old new grows within mappings cache holds = λ n at id found.
+        let c = holds n at id found in
+        record {
+          mapping = c.mapping;
+          is_at = c.is_at;
+          each = λ frame index mapping address. found_kept old new grows within frame id (c.each frame index mapping address);
+        }
+
+    -- Mappings keep their indices.
+    pub cached_mapped : (lists : Lists) (old new : List MappingValue) → Grows old new → (cache : LocationCache) → AllCached (IsCached meaning detail lists old) cache → AllCached (IsCached meaning detail lists new) cache
+    cached_mapped lists old new grows cache holds = λ n at id found.
+        let c = holds n at id found in
+        record {
+          mapping = c.mapping;
+          is_at = at_kept old new grows at.index c.mapping c.is_at;
+          each = c.each;
+        }
+
+    -- A cached location is one of a frame at the address.
+    pub hit : (lists : Lists) (mappings : List MappingValue) (frame : FrameValue) (at : MappedAddress) (id : LocationId) → frame.index ≡ Some at.index → lookup_address frame.frame ≡ at.address → HasMapping mappings frame → IsCached meaning detail lists mappings at id → IsFoundLocation meaning detail lists frame id
+    hit lists mappings frame at id index address has cached =
+        let m = has at.index index in
+        let same : m.0 ≡ cached.mapping = some_same m.0 cached.mapping (sym m.1 ∙ cached.is_at) in
+        cached.each frame index (m.2 ∙ ap (λ (v : MappingValue). Some v) same) address
+
+    -- A location that is fixed can be cached.
+    pub fixed_cached : (lists : Lists) (mappings : List MappingValue) (frame : FrameValue) (at : MappedAddress) (new : NewLocation) → frame.index ≡ Some at.index → lookup_address frame.frame ≡ at.address → HasMapping mappings frame → new.is_fixed ≡ true → IsNewLocation meaning detail lists frame new → IsCached meaning detail lists mappings at new.id
+    fixed_cached lists mappings frame at new index address has fixed is =
+        let m = has at.index index in
+        record {
+          mapping = m.0;
+          is_at = m.1;
+          each = λ other other_index other_mapping other_address. is.fixed fixed other (record {
+            index = other_index ∙ sym index;
+            mapping = other_mapping ∙ sym m.2;
+            address = other_address ∙ sym address;
+          });
+        }
+
+    -- What is cached holds as tables grow.
+    pub cache_grows : (mappings : List MappingValue) (old new : Locator) → LocatorGrows old new → new.cache ≡ old.cache → CacheHolds meaning detail mappings old → CacheHolds meaning detail mappings new
+    cache_grows mappings old new grows same holds = subst (AllCached (IsCached meaning detail (located_lists new) mappings)) (sym same) (cached_kept (located_lists old) (located_lists new) grows.lists old.tables.within mappings old.cache holds)
+
+    -- What is cached holds with one more location.
+    pub cached_added : (lists : Lists) (mappings : List MappingValue) (old new : LocationCache) (at : MappedAddress) (id : LocationId) → AddsCached old at id new → AllCached (IsCached meaning detail lists mappings) old → IsCached meaning detail lists mappings at id → AllCached (IsCached meaning detail lists mappings) new
+    cached_added lists mappings old new at id adds holds is = λ index key value found. elim (adds index key value found) [
+      | inl was ↦ holds index key value was
+      | inr added ↦ subst (λ (k : MappedAddress). IsCached meaning detail lists mappings k value) (sym added.0) (subst (λ (v : LocationId). IsCached meaning detail lists mappings at v) (sym added.1) is)
+    ]

@@ -1,0 +1,61 @@
+-- Sums of samples as one more is counted.
+use Rattle.std.proofs.Common.{◌≡◌, ◌∙◌, ◌<◌, ◌^◌, ap, refl, sym, subst, arith, ℕ, List, [], ◌∷◌, ◌++◌, length, length-append, slice_get, position, None, Some}
+use Rattle.std.specs.List.{sum_by}
+use Rattle.std.specs.Bool.{Decides}
+use Rattle.indexmap.specs.IndexMap.{set_value_at}
+use Rattle.std.specs.Map.{keys_of, lookup}
+use Rattle.std.proofs.Common.{true≢false}
+use Rattle.std.proofs.lemmas.List.Sums.{sum_by-cons, sum_by_push}
+use Rattle.std.specs.Prelude.{Bool}
+use Rattle.perfdata_profile.specs.SampleSums.{TalliesSamples, entries_of, then_counted, total_of}
+use Rattle.perfdata_profile.specs.Sums.{sums_after}
+use Rattle.perfdata_profile.specs.Tallies.{Counted, IsUnder, Tallies, one_sample, weight_of}
+use Rattle.perfdata_profile.specs.declared.sums.SampleKey.{SampleKey}
+use Rattle.perfdata_profile.specs.declared.sums.SampleSums.{SampleSums}
+use Rattle.perfdata_profile.specs.declared.sums.Sums.{Sums}
+use Rattle.perfdata_profile.proofs.Adding.{sum_at_most, tally_first, tally_raised}
+use Rattle.perfdata_profile.proofs.Searching.{found_at, map_at, none_found}
+
+sum_of_ones : {K : Type 0} → (counted : List (Counted K)) → sum_by one_sample counted ≡ length counted
+sum_of_ones [] = refl
+sum_of_ones (c ∷ cs) =
+    let rest = sum_of_ones cs in
+    let more = sum_by-cons one_sample c cs in
+    omega (arith, rest, more)
+
+module _ (eq : SampleKey → SampleKey → Bool) (same : (key other : SampleKey) → Decides (eq key other) (key ≡ other)) (old new : SampleSums) (key : SampleKey) (weight : ℕ) (counted : List (Counted SampleKey)) (tallies : TalliesSamples counted old) (total : total_of new ≡ sums_after (total_of old) weight) where
+  total_samples : (total_of new).samples ≡ length (then_counted counted key weight)
+  total_samples =
+      let more = length-append counted (record { key = key; weight = weight } ∷ []) in
+      omega (arith, ap (λ (s : Sums). s.samples) total, tallies.samples, more)
+
+  total_weight : (total_of new).weight ≡ sum_by weight_of (then_counted counted key weight)
+  total_weight =
+      let more = sum_by_push weight_of counted (record { key = key; weight = weight }) in
+      omega (arith, ap (λ (s : Sums). s.weight) total, tallies.weight, more)
+
+  pub raised_sample : (index : ℕ) → position (eq key) (keys_of old.entries.entries) ≡ Some index → (total_of new).samples < 2 ^ 63 → (total_of new).weight < 2 ^ 63 → ((k : SampleKey) (sums : Sums) → slice_get old.entries.entries index ≡ Some (k, sums) → (sums_after sums weight).samples < 2 ^ 63 → (sums_after sums weight).weight < 2 ^ 63 → new.entries.entries ≡ set_value_at old.entries.entries index (sums_after sums weight)) → TalliesSamples (then_counted counted key weight) new
+  raised_sample index found samples_fit weight_fits raises =
+      let k = found_at (eq key) (keys_of old.entries.entries) index found in
+      let entry = map_at (λ (e : SampleKey × Sums). e.0) old.entries.entries index k.0 k.1 in
+      let is : key ≡ entry.0.0 = (same key k.0).0 k.2 ∙ sym entry.2 in
+      let at : slice_get (entries_of old) index ≡ Some (key, entry.0.1) = entry.1 ∙ ap (λ (o : SampleKey). Some (o, entry.0.1)) (sym is) in
+      let samples = sum_at_most (IsUnder key) one_sample counted entry.0.1.samples (tallies.entries.samples index key entry.0.1 at) in
+      let weights = sum_at_most (IsUnder key) weight_of counted entry.0.1.weight (tallies.entries.weights index key entry.0.1 at) in
+      let fits : (sums_after entry.0.1 weight).samples < 2 ^ 63 = omega (arith, samples, sum_of_ones counted, tallies.samples, ap (λ (s : Sums). s.samples) total, samples_fit) in
+      let weight_is : (sums_after entry.0.1 weight).weight < 2 ^ 63 = omega (arith, weights, tallies.weight, ap (λ (s : Sums). s.weight) total, weight_fits) in
+      record {
+        entries = subst (Tallies (then_counted counted key weight)) (sym (raises entry.0.0 entry.0.1 entry.1 fits weight_is)) (tally_raised counted (entries_of old) tallies.entries key weight index entry.0.1 at);
+        samples = total_samples;
+        weight = total_weight;
+      }
+
+  pub first_sample : lookup (eq key) old.entries.entries ≡ None → entries_of new ≡ entries_of old ++ (key, record { samples = 1; weight = weight }) ∷ [] → TalliesSamples (then_counted counted key weight) new
+  first_sample absent entries =
+      let none : (index : ℕ) (sums : Sums) → slice_get (entries_of old) index ≡ Some (key, sums) → ⊥ = λ index sums at.
+      true≢false (sym ((same key key).1 refl) ∙ none_found (eq key) old.entries.entries index key sums absent at) in
+      record {
+        entries = subst (Tallies (then_counted counted key weight)) (sym entries) (tally_first counted (entries_of old) tallies.entries key weight none);
+        samples = total_samples;
+        weight = total_weight;
+      }

@@ -1,0 +1,227 @@
+//! The locations of frames.
+
+ghost use Rattle.std.specs.Prelude.{◌≡◌, [], ℕ, List, OnOk, IfOk};
+ghost use Rattle.std.specs.Option.{option_map};
+ghost use Rattle.perfdata_profile.specs.Resolving.{frame_value};
+ghost use Rattle.perfdata_profile.specs.Samples.{Locates};
+ghost use Rattle.perfdata_profile.specs.Caching.{AllCached, cached_in};
+ghost use Rattle.perfdata_profile.specs.Values.{IsLocation, lists_in, location_at};
+ghost use Rattle.perfdata_spaces.specs.AddressSpaces.{Follows, mapping_at, mapping_values};
+ghost use Rattle.perfdata_spaces.specs.Effects.{Applied};
+ghost use Rattle.perfdata_spaces.specs.Mappings.{MappingValue};
+ghost use Rattle.perfdata_spaces.specs.Mappings.{mapping_value};
+
+use crate::cache::{LocationCache, MappedAddress};
+use crate::locations::{Location, LocationId};
+use crate::mappings::{MappedRange, MappingId};
+use crate::options::Detail;
+use crate::resolver::{ResolvedFrame, Resolver};
+use crate::tables::Tables;
+use perfdata_spaces::address_spaces::AddressSpaces;
+use perfdata_spaces::mapping::Mapping;
+use perfdata_stacks::frames::SampleFrame;
+use std::alloc::{AllocError, Global};
+
+/// The process and the time of a sample.
+#[derive(Clone, Copy)]
+pub(crate) struct Origin {
+    pub(crate) pid: i32,
+    pub(crate) time: Option<u64>,
+}
+
+// Where a frame is, without its function.
+#[derive(Clone, Copy)]
+struct Place {
+    mapping: Option<MappingId>,
+    address: u64,
+}
+
+// The location of a frame, and whether it is that of each frame at the address of the mapping.
+#[derive(Clone, Copy)]
+struct NewLocation {
+    id: LocationId,
+    is_fixed: bool,
+}
+
+/// Tables, and the locations of addresses that were looked up before.
+#[derive(Drop)]
+pub(crate) struct Locator {
+    pub(crate) detail: Detail,
+    pub(crate) tables: Tables,
+    pub(crate) cache: LocationCache,
+    ghost cached: { AllCached (λ at id.
+        IsLocation (lists_in tables.names tables.mappings tables.locations tables.stacks) id) cache },
+}
+
+// Returns the mapping with an index, if there is an index.
+pub(crate) fn mapping_at(spaces: &AddressSpaces, index: Option<usize>) -> Option<&Mapping>
+    ensures { option_map (λ m. mapping_value m.now) result ≡ mapping_at spaces.now index }
+{
+    match index {
+        Some(index) => spaces.mapping(index),
+        None => None,
+    }
+}
+
+impl Locator {
+    ghost use Rattle.perfdata_profile.specs.Locating.{CacheHolds, HasMapping, IsFoundLocation, IsFoundPlace};
+    ghost use Rattle.perfdata_profile.specs.Locating.{IsFoundRange, IsNewLocation, LocatorGrows, LooksUp};
+    ghost use Rattle.perfdata_profile.specs.Locating.{located_lists};
+
+    // Nothing was looked up.
+    pub(crate) fn new(alloc: Global, detail: Detail) -> Locator
+        ensures detail { result.detail ≡ detail }
+        ensures cache { cached_in result.cache ≡ [] }
+    {
+        Locator {
+            detail,
+            tables: Tables::new(alloc),
+            cache: LocationCache::new(alloc),
+        }
+    }
+
+    // Returns the tables.
+    pub(crate) fn into_tables(self) -> Tables
+        ensures { result ≡ self.tables }
+    {
+        self.tables
+    }
+
+    // Returns the id of a mapping, if its range contains an address.
+    fn range<R: Resolver>(
+        &mut self,
+        resolver: &mut R,
+        mapping: &Mapping,
+        address: u64,
+    ) -> Result<Option<MappingId>, AllocError>
+        ensures grows { LocatorGrows self.old self.new }
+        ensures cache { self.new.cache ≡ self.old.cache }
+        ensures ok { IfOk result (λ id.
+            IsFoundRange R.meaning (located_lists self.new) (mapping_value mapping.now) address id) }
+    {
+        let end = mapping.start.saturating_add(mapping.length);
+        if address < mapping.start || end <= address {
+            return Ok(None);
+        }
+        let file = resolver.file(mapping, &mut self.tables.names)?;
+        let id = self.tables.mappings.intern(MappedRange {
+            start: mapping.start,
+            end,
+            page_offset: mapping.page_offset,
+            path: file.path,
+            build_id: file.build_id,
+        })?;
+        Ok(Some(id))
+    }
+
+    // Returns where a frame is.
+    fn place<R: Resolver>(
+        &mut self,
+        resolver: &mut R,
+        frame: &ResolvedFrame<'_>,
+    ) -> Result<Place, AllocError>
+        ensures grows { LocatorGrows self.old self.new }
+        ensures cache { self.new.cache ≡ self.old.cache }
+        ensures ok { IfOk result (λ place. IsFoundPlace R.meaning self.old.detail (located_lists self.new)
+            (frame_value frame.now) place) }
+    {
+        let address = frame.frame.lookup_address();
+        match (self.detail, frame.mapping) {
+            (Detail::Functions, _) => Ok(Place {
+                mapping: None,
+                address: 0,
+            }),
+            (Detail::Locations, None) => Ok(Place {
+                mapping: None,
+                address,
+            }),
+            (Detail::Locations, Some(mapping)) => {
+                let mapping = self.range(resolver, mapping, address)?;
+                Ok(Place { mapping, address })
+            }
+        }
+    }
+
+    // Returns the location of a frame by the names that the resolver gives.
+    fn new_location<R: Resolver>(
+        &mut self,
+        resolver: &mut R,
+        frame: &ResolvedFrame<'_>,
+    ) -> Result<NewLocation, AllocError>
+        ensures grows { LocatorGrows self.old self.new }
+        ensures cache { self.new.cache ≡ self.old.cache }
+        ensures ok { IfOk result (λ new. IsNewLocation R.meaning self.old.detail (located_lists self.new)
+            (frame_value frame.now) new) }
+    {
+        let function = resolver.function(frame, &mut self.tables.names)?;
+        let place = self.place(resolver, frame)?;
+        let id = self.tables.locations.intern(Location {
+            mapping: place.mapping,
+            address: place.address,
+            function: function.id,
+        })?;
+        Ok(NewLocation {
+            id,
+            is_fixed: function.is_fixed,
+        })
+    }
+
+    // Returns the location of a frame: the cached one, or a new one.
+    fn resolved_location<R: Resolver>(
+        &mut self,
+        resolver: &mut R,
+        frame: &ResolvedFrame<'_>,
+    ) -> Result<LocationId, AllocError>
+        ensures grows { LocatorGrows self.old self.new }
+        ensures within { IfOk result (λ id. IsLocation (located_lists self.new) id) }
+        ensures ok { IfOk result (λ id. (mappings : List MappingValue) →
+            HasMapping mappings (frame_value frame.now) →
+            CacheHolds R.meaning self.old.detail mappings self.old →
+            LooksUp R.meaning self.old.detail mappings (frame_value frame.now) id self.new) }
+    {
+        let Some(index) = frame.index else {
+            return Ok(self.new_location(resolver, frame)?.id);
+        };
+        let address = frame.frame.lookup_address();
+        let at = MappedAddress { index, address };
+        if let Some(id) = self.cache.get(at) {
+            return Ok(id);
+        }
+        let new = self.new_location(resolver, frame)?;
+        if !new.is_fixed {
+            return Ok(new.id);
+        }
+        self.cache.insert(at, new.id)?;
+        Ok(new.id)
+    }
+
+    // Returns the location of a frame of a sample.
+    pub(crate) fn location<R: Resolver>(
+        &mut self,
+        resolver: &mut R,
+        spaces: &AddressSpaces,
+        origin: Origin,
+        frame: SampleFrame,
+    ) -> Result<LocationId, AllocError>
+        ensures grows { LocatorGrows self.old self.new }
+        ensures cache { OnOk result ((before : List Applied) → Follows before spaces.now →
+            CacheHolds R.meaning self.old.detail (mapping_values spaces.now) self.old →
+            CacheHolds R.meaning self.old.detail (mapping_values spaces.now) self.new) }
+        ensures within { IfOk result (λ id. IsLocation (located_lists self.new) id) }
+        ensures ok { IfOk result (λ id. (before : List Applied) → Follows before spaces.now →
+            CacheHolds R.meaning self.old.detail (mapping_values spaces.now) self.old →
+            Locates R.meaning self.old.detail before origin.pid origin.time frame
+            (location_at (located_lists self.new) id)) }
+    {
+        let address = frame.lookup_address();
+        let index = spaces.find_index(origin.pid, address, frame.frame.context);
+        let resolved = ResolvedFrame {
+            pid: origin.pid,
+            time: origin.time,
+            frame,
+            index,
+            mapping: mapping_at(spaces, index),
+        };
+        self.resolved_location(resolver, &resolved)
+    }
+}
