@@ -1,11 +1,10 @@
 -- Each message is decoded from its fields.
-use Rattle.std.proofs.Common.{◌≡◌, ◌==◌, ℕ, Bool, true, false, cond, not, List, [], ◌∷◌, ◌++◌, map, refl, ap, sym, ◌∙◌, Option, None, Some}
+use Rattle.std.proofs.Common.{◌≡◌, ◌==◌, ℕ, Bool, true, false, not, List, [], ◌∷◌, map, refl, ap, ◌∙◌, Option, None, Some}
 use Rattle.std.proofs.lemmas.List.{append-nil}
 use Rattle.std.specs.Int.{from_bool}
-use Rattle.std.specs.List.{flat_map}
-use Rattle.perfdata_pprof.specs.Decoding.{DecodesEncoded, bytes_in, decode, fields_of, first_of, function_of, label_of, location_of, mapping_of, messages_in, number_in, packed_in, profile_of, sample_of, value_type_of}
-use Rattle.perfdata_pprof.specs.Messages.{ProfileValue, SampleValue, encode, function_fields, label_fields, location_fields, mapping_fields, profile_fields, sample_fields, value_type_fields}
-use Rattle.perfdata_pprof.specs.Wire.{Field, message_bytes, message_fields, number_field}
+use Rattle.perfdata_pprof.specs.Decoding.{DecodesEncoded, bytes_in, fields_of, first_of, function_of, label_of, location_of, mapping_of, messages_in, number_in, profile_of, sample_of, value_type_of}
+use Rattle.perfdata_pprof.specs.Messages.{ProfileValue, SampleValue, function_fields, label_fields, location_fields, mapping_fields, profile_fields, sample_fields, value_type_fields}
+use Rattle.perfdata_pprof.specs.Wire.{Field, message_bytes}
 use Rattle.perfdata_pprof.specs.declared.profile.Function.{Function}
 use Rattle.perfdata_pprof.specs.declared.profile.Label.{Label}
 use Rattle.perfdata_pprof.specs.declared.profile.Location.{Location}

@@ -1,5 +1,9 @@
+mod Building
 mod Decoding
+mod Interning
+mod Numbering
 mod Numbers
 mod Reading
+mod Sampling
 mod Selecting
 mod Writing

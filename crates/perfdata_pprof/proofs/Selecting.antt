@@ -5,7 +5,7 @@ use Rattle.std.proofs.lemmas.List.{append-nil}
 use Rattle.std.specs.List.{flat_map}
 use Rattle.perfdata_pprof.specs.Decoding.{bytes_if, bytes_in, first_number, number_if, numbers_in, numbers_of}
 use Rattle.perfdata_pprof.specs.Messages.{period_type_fields, text_fields, value_type_fields}
-use Rattle.perfdata_pprof.specs.Wire.{Contents, Field, bytes, bytes_field, message_bytes, message_fields, number, number_field, packed_field, varint}
+use Rattle.perfdata_pprof.specs.Wire.{Field, bytes, bytes_field, message_bytes, message_fields, number, number_field, packed_field, varint}
 use Rattle.perfdata_pprof.specs.declared.profile.ValueType.{ValueType}
 use Rattle.perfdata_pprof.proofs.Reading.{numbers_of-packed}
 

@@ -1,4 +1,10 @@
 -- The specifications that contracts use.
+pub mod Builders
 pub mod Decoding
 pub mod Messages
+pub mod Pages
+pub mod Rows
+pub mod Strings
+pub mod Tables
+pub mod Texts
 pub mod Wire

@@ -1,9 +1,13 @@
 //! The profiles that pprof reads.
 //!
-//! A [`profile::Profile`] has the fields of profile.proto, and [`encode::encode`] returns its bytes.
+//! [`builder::Builder`] makes a [`profile::Profile`], which has the fields of profile.proto.
+//! [`encode::encode`] returns its bytes, and [`html::page_of`] a page that shows it in a browser.
 #![tactic(auto)]
 
+pub mod builder;
 pub mod encode;
+pub mod html;
 pub mod laws;
 pub mod profile;
+pub mod strings;
 mod wire;

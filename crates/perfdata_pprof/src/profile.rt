@@ -1,4 +1,4 @@
-//! The messages of a profile, as profile.proto describes them.
+//! The messages of a profile. Their fields and those of profile.proto have the same names.
 //!
 //! Texts are indices in the table of strings, which begins with the empty text. Ids count from 1, and 0 is
 //! none.

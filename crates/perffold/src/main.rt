@@ -1,71 +1,94 @@
-//! Writes the stacks of a recording's samples as folded lines: the names of the frames with semicolons
-//! between them, and the number of samples.
+//! Writes the stacks of a recording's samples as folded lines, a flame graph, a profile, a page or a table.
 #![tactic(auto)]
 
 mod big_endian;
-mod fold;
-mod frame_names;
-mod names;
+mod counter;
+mod lines;
 mod options;
 mod output;
+mod pprof;
 mod records;
+mod resolver;
 mod selection;
+mod span;
 mod symbols;
+mod text;
 mod title;
 mod top;
+mod unwinding;
 
-use fold::Folder;
-use frame_names::NameSource;
-use options::{Arguments, NameKind, Options, parse};
-use output::{FoldError, fold_input};
-use perfdata_cli::command_line::{SUCCESS, arguments, print_argument_error, print_clap_error};
+use counter::SampleCounter;
+use options::{Arguments, Options, OutputFormat, parse};
+use output::{
+    FoldError, detail_of, format_of, is_for_terminal, print_notes, weight_in, write_counted,
+};
+use perfdata_cli::command_line::{
+    SUCCESS, USAGE_ERROR, arguments, print_argument_error, print_clap_error,
+};
 use perfdata_cli::error::{InputError, ProgramError, print_error};
-use perfdata_cli::input::{display_name, path_of};
+use perfdata_cli::input::{Input, display_name, open_in_memory, path_of};
+use perfdata_profile::options::Detail;
+use records::Records;
+use resolver::FrameResolver;
 use std::process::ExitCode;
-use symbols::Symbols;
 use symbols::directories::PathError;
 
 // The program's name.
 const NAME: &str = "perffold";
 
-// Prints an error of a path of the command line. Returns the exit status.
-fn print_path_error(rt: &HostRuntime, PathError { path, error }: PathError<'_>) -> u8 {
-    print_error(rt, NAME, path, &ProgramError::Input(InputError::Io(error)))
+// Reads the input at a path into memory. Returns whether it is a pipe, and its bytes.
+fn read_input(rt: &HostRuntime, path: &str) -> Result<(bool, Vec<u8>), InputError> {
+    let input = Input::open(rt, path).map_err(InputError::Io)?;
+    let is_pipe = input.is_pipe()?;
+    let bytes = input.into_bytes().map_err(InputError::Io)?;
+    Ok((is_pipe, bytes))
+}
+
+// Writes the profile of the input at a path: also of the samples before an error.
+fn fold<'a>(
+    rt: &'a HostRuntime,
+    arguments: &Arguments<'a>,
+    path: &str,
+) -> Result<(), FoldError<'a>> {
+    let mut resolver = FrameResolver::open(rt, &arguments.options)?;
+    let (is_pipe, bytes) = read_input(rt, path)?;
+    let reader = open_in_memory(rt.alloc(), &bytes, is_pipe)?;
+    let mut perf_file = reader.perf_file;
+    let mut records = Records::new(rt.alloc(), &perf_file, reader.records);
+    let format = format_of(rt, arguments);
+    let detail = detail_of(format);
+    if format == OutputFormat::Frames {
+        resolver.list_frames(rt.alloc());
+    }
+    if detail == Detail::Locations {
+        resolver.keep_files(rt.alloc());
+    }
+    let options = Options {
+        weight: weight_in(format, arguments.options.weight),
+        ..arguments.options
+    };
+    let mut counter = SampleCounter::new(rt.alloc(), &options, detail, resolver);
+    let read = counter.add_all(&mut records, &mut perf_file);
+    let counted = counter.finish();
+    write_counted(rt, arguments, format, &perf_file, &counted)?;
+    print_notes(rt, NAME, &counted);
+    read?;
+    Ok(counted.check_event()?)
 }
 
 // Folds the input that the options name. Returns the exit status.
-fn fold_named(rt: &HostRuntime, arguments: &Arguments<'_>, folder: &mut Folder<'_>) -> u8 {
+fn run(rt: &HostRuntime, arguments: &Arguments<'_>) -> u8 {
+    if is_for_terminal(rt, arguments) {
+        let _ = eprintln!(rt; "{NAME}: a profile isn't written to a terminal: name a file with -o");
+        return USAGE_ERROR;
+    }
     let path = path_of(rt, arguments.options.file);
-    match fold_input(rt, NAME, arguments, folder, path) {
+    match fold(rt, arguments, path) {
         Ok(()) => SUCCESS,
         Err(FoldError::Program(error)) => print_error(rt, NAME, display_name(path), &error),
-        Err(FoldError::File(error)) => print_path_error(rt, error),
-    }
-}
-
-// Folds the input that the options name, with these names of frames. Returns the exit status.
-fn fold_with(rt: &HostRuntime, arguments: &Arguments<'_>, source: NameSource<'_>) -> u8 {
-    let mut folder = Folder::new(rt.alloc(), arguments.options, source);
-    fold_named(rt, arguments, &mut folder)
-}
-
-// Returns which names frames have.
-fn name_source<'a>(
-    rt: &'a HostRuntime,
-    options: &Options<'a>,
-) -> Result<NameSource<'a>, PathError<'a>> {
-    match options.name_kind {
-        NameKind::Symbol => Ok(NameSource::Symbols(Symbols::open(rt, &options.symbols)?)),
-        NameKind::File => Ok(NameSource::Files),
-        NameKind::Address => Ok(NameSource::Addresses),
-    }
-}
-
-// Opens the files that the options name, and folds the input. Returns the exit status.
-fn run(rt: &HostRuntime, arguments: &Arguments<'_>) -> u8 {
-    match name_source(rt, &arguments.options) {
-        Ok(source) => fold_with(rt, arguments, source),
-        Err(error) => print_path_error(rt, error),
+        Err(FoldError::File(PathError { path, error })) => {
+            print_error(rt, NAME, path, &ProgramError::Input(InputError::Io(error)))
+        }
     }
 }
 

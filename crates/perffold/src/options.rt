@@ -4,74 +4,70 @@ use crate::selection::Selection;
 use clap::{Arg, ArgAction, ArgMatches, Command, Error};
 use perfdata_cli::command_line::{FILE, RECORDING_HELP, command};
 use perfdata_demangle::Style;
+use perfdata_profile::options::ThreadIds;
 use std::alloc::{AllocError, Global};
 
 // What the program does.
-const ABOUT: &str =
-    "Writes the stacks of a recording's samples as folded lines: names of frames with ';' between them, and a count. Or draws their flame graph.";
+const ABOUT: &str = concat!(
+    "Writes the stacks of a recording's samples as folded lines: names of frames with ';' between them, ",
+    "and a count. Or draws their flame graph, or writes them as a profile for pprof."
+);
 
-// The id of the option of the event.
+// The ids of the options, which are their long names.
 const EVENT: &str = "event";
 
-// The id of the flag for all events.
 const ALL_EVENTS: &str = "all-events";
 
-// The id of the option of the weight.
 const WEIGHT: &str = "weight";
 
-// The value of the option of the weight by which a sample counts its period.
-const PERIOD: &str = "period";
-
-// The values of the option of the weight.
-const WEIGHTS: &[&str] = &["samples", PERIOD];
-
-// The id of the flag for process ids.
 const PID: &str = "pid";
 
-// The id of the flag for process and thread ids.
 const TID: &str = "tid";
 
-// The id of the flag for names without symbols.
 const NO_SYMBOLS: &str = "no-symbols";
 
-// The id of the flag for addresses.
 const RAW: &str = "raw";
 
-// The id of the flag for mangled names.
 const NO_DEMANGLE: &str = "no-demangle";
 
-// The id of the flag for parameters.
 const PARAMETERS: &str = "parameters";
 
-// The id of the option of the directory of mapped files.
 const SYMFS: &str = "symfs";
 
-// The id of the option of the directory of debug files.
 const DEBUG_DIR: &str = "debug-dir";
 
-// The id of the option of the kernel's list of symbols.
 const KALLSYMS: &str = "kallsyms";
+
+const MAPS: &str = "maps";
+
+const NO_UNWIND: &str = "no-unwind";
+
+const VDSO: &str = "vdso";
+
+const SVG: &str = "svg";
+
+const FORMAT: &str = "format";
+
+const OUTPUT: &str = "output";
+
+// The values of the option of the weight.
+const PERIOD: &str = "period";
+
+const WEIGHTS: &[&str] = &["samples", PERIOD];
 
 // The value of the option of the kernel's list of symbols for none.
 const NO_LIST: &str = "none";
 
-// The id of the option of the directory of perf-PID.map files.
-const MAPS: &str = "maps";
-
-// The id of the flag for a flame graph.
-const SVG: &str = "svg";
-
-// The id of the option of the format.
-const FORMAT: &str = "format";
-
 // The values of the option of the format.
-const FORMATS: &[&str] = &["folded", SVG, TOP];
-
-// The value of the option of the format for the table of functions.
 const TOP: &str = "top";
 
-// The id of the option of the file that is written.
-const OUTPUT: &str = "output";
+const PPROF: &str = "pprof";
+
+const HTML: &str = "html";
+
+const FRAMES: &str = "frames";
+
+const FORMATS: &[&str] = &["folded", SVG, PPROF, HTML, TOP, FRAMES];
 
 /// What a sample counts.
 #[derive(Clone, Copy, PartialEq, Eq)]
@@ -93,17 +89,6 @@ pub(crate) enum NameKind {
     Address,
 }
 
-/// Which ids follow the name of a thread.
-#[derive(Clone, Copy, PartialEq, Eq)]
-pub(crate) enum ThreadIds {
-    /// None.
-    Nothing,
-    /// That of the process.
-    Process,
-    /// Those of the process and the thread.
-    Thread,
-}
-
 /// What is written.
 #[derive(Clone, Copy, PartialEq, Eq)]
 pub(crate) enum OutputFormat {
@@ -111,8 +96,14 @@ pub(crate) enum OutputFormat {
     Lines,
     /// A flame graph.
     Svg,
+    /// A profile that pprof reads.
+    Pprof,
+    /// A page that shows such a profile.
+    Html,
     /// The table of the functions with the most samples.
     Top,
+    /// The frames of each sample.
+    Frames,
 }
 
 /// Which list names the kernel's functions.
@@ -139,6 +130,8 @@ pub(crate) struct SymbolOptions<'a> {
     pub(crate) kernel_list: KernelList<'a>,
     /// The directory of perf-PID.map files.
     pub(crate) maps: Option<&'a str>,
+    /// The file of the code that the kernel gives to each process.
+    pub(crate) vdso: Option<&'a str>,
 }
 
 /// What the arguments select.
@@ -148,11 +141,14 @@ pub(crate) struct Options<'a> {
     pub(crate) file: Option<&'a str>,
     pub(crate) selection: Selection<'a>,
     pub(crate) weight: Weight,
+    /// Which ids follow the name of a thread.
     pub(crate) thread_ids: ThreadIds,
     pub(crate) name_kind: NameKind,
     /// The style of the texts of mangled names, unless these stay.
     pub(crate) demangling: Option<Style>,
     pub(crate) symbols: SymbolOptions<'a>,
+    /// Whether samples with a copy of their stack are unwound.
+    pub(crate) unwinds: bool,
 }
 
 /// The arguments.
@@ -181,106 +177,66 @@ fn option<'a>(alloc: Global, name: &'a str, value: &'a str, help: &'a str) -> Ar
         .help(help)
 }
 
-// Returns the option of the weight.
-fn weight_option<'a>(alloc: Global) -> Arg<'a> {
-    option(
-        alloc,
-        WEIGHT,
-        "WEIGHT",
-        "What a sample counts: one, or its period",
-    )
-    .value_parser(WEIGHTS)
-}
-
 // Adds the options that select samples and what they count.
 fn with_selection<'a>(alloc: Global, command: Command<'a>) -> Result<Command<'a>, AllocError> {
+    let event =
+        "Count the samples of the event with this name or index [default: that of the first sample]";
+    let weight = "What a sample counts: one, or its period";
     command
-        .arg(option(
-            alloc,
-            EVENT,
-            "EVENT",
-            "Count the samples of the event with this name or index [default: that of the first sample]",
-        ))?
+        .arg(option(alloc, EVENT, "EVENT", event))?
         .arg(flag(alloc, ALL_EVENTS, "Count the samples of all events").conflicts_with(EVENT)?)?
-        .arg(weight_option(alloc))
+        .arg(option(alloc, WEIGHT, "WEIGHT", weight).value_parser(WEIGHTS))
 }
 
 // Adds the options that say where symbols are.
 fn with_symbols<'a>(alloc: Global, command: Command<'a>) -> Result<Command<'a>, AllocError> {
+    let symfs =
+        "Look for mapped files, debug files and perf-PID.map files below DIR, which no link may leave";
+    let kallsyms = concat!(
+        "Name the kernel's functions by FILE, a copy of /proc/kallsyms, or by nothing if it is none ",
+        "[default: /proc/kallsyms if the running kernel is the recorded one]"
+    );
+    let debug_dir = "Look for debug files in DIR [default: /usr/lib/debug]";
+    let maps = "Look for perf-PID.map files in DIR [default: /tmp]";
+    let vdso = "Unwind the code that the kernel maps as [vdso] by FILE, a copy of it";
+    let no_unwind = "Don't unwind the stacks that samples have a copy of";
     command
-        .arg(option(
-            alloc,
-            SYMFS,
-            "DIR",
-            "Look for mapped files, debug files and perf-PID.map files below DIR, which no link may leave",
-        ))?
-        .arg(option(
-            alloc,
-            DEBUG_DIR,
-            "DIR",
-            "Look for debug files in DIR [default: /usr/lib/debug]",
-        ))?
-        .arg(option(
-            alloc,
-            KALLSYMS,
-            "FILE",
-            "Name the kernel's functions by FILE, a copy of /proc/kallsyms, or by nothing if it is none [default: /proc/kallsyms if the running kernel is the recorded one]",
-        ))?
-        .arg(option(
-            alloc,
-            MAPS,
-            "DIR",
-            "Look for perf-PID.map files in DIR [default: /tmp]",
-        ))
+        .arg(option(alloc, SYMFS, "DIR", symfs))?
+        .arg(option(alloc, DEBUG_DIR, "DIR", debug_dir))?
+        .arg(option(alloc, KALLSYMS, "FILE", kallsyms))?
+        .arg(option(alloc, MAPS, "DIR", maps))?
+        .arg(option(alloc, VDSO, "FILE", vdso))?
+        .arg(flag(alloc, NO_UNWIND, no_unwind))
 }
 
 // Adds the flags for the names in lines.
 fn with_names<'a>(alloc: Global, command: Command<'a>) -> Result<Command<'a>, AllocError> {
+    let tid = "Add the process id and the thread id to the name of the thread";
+    let raw = flag(alloc, RAW, "Name frames by their addresses").conflicts_with(NO_SYMBOLS)?;
+    let parameters = "Add the parameters of C++ functions to their names";
+    let no_demangle = "Leave the mangled names of symbols as they are";
     command
         .arg(flag(alloc, PID, "Add the process id to the name of the thread"))?
-        .arg(flag(
-            alloc,
-            TID,
-            "Add the process id and the thread id to the name of the thread",
-        ))?
+        .arg(flag(alloc, TID, tid))?
         .arg(flag(alloc, NO_SYMBOLS, "Name frames by their files"))?
-        .arg(
-            flag(alloc, RAW, "Name frames by their addresses")
-                .conflicts_with(NO_SYMBOLS)?
-                .conflicts_with(SYMFS)?,
-        )?
-        .arg(flag(
-            alloc,
-            NO_DEMANGLE,
-            "Leave the mangled names of symbols as they are",
-        ))?
-        .arg(flag(
-            alloc,
-            PARAMETERS,
-            "Add the parameters of C++ functions to their names",
-        )
-        .conflicts_with(NO_DEMANGLE)?)
+        .arg(raw.conflicts_with(SYMFS)?)?
+        .arg(flag(alloc, NO_DEMANGLE, no_demangle))?
+        .arg(flag(alloc, PARAMETERS, parameters).conflicts_with(NO_DEMANGLE)?)
 }
 
 // Adds the options of the output.
 fn with_output<'a>(alloc: Global, command: Command<'a>) -> Result<Command<'a>, AllocError> {
-    let format = option(
-        alloc,
-        FORMAT,
-        "FORMAT",
-        "Write lines, a flame graph or the functions with the most samples [default: top on a terminal, svg for a FILE.svg, else folded]",
+    let format = concat!(
+        "Write lines, a flame graph, a profile for pprof, a page that shows it, the functions with the most ",
+        "samples or the frames of each sample [default: top on a terminal, that of a FILE.svg, FILE.pb or ",
+        "FILE.html, else folded]"
     );
     let svg = flag(alloc, SVG, "Write a flame graph, an SVG file for a browser");
-    let output = option(
-        alloc,
-        OUTPUT,
-        "FILE",
-        "Write FILE in place of standard output",
-    );
+    let output = "Write FILE in place of standard output";
     command
         .arg(svg.conflicts_with(FORMAT)?)?
-        .arg(format.value_parser(FORMATS))?
-        .arg(output.short('o'))
+        .arg(option(alloc, FORMAT, "FORMAT", format).value_parser(FORMATS))?
+        .arg(option(alloc, OUTPUT, "FILE", output).short('o'))
 }
 
 // Returns the command with its options.
@@ -359,6 +315,7 @@ fn symbols_of<'a>(matches: &ArgMatches<'a>) -> SymbolOptions<'a> {
         debug_dir: matches.get_str(DEBUG_DIR),
         kernel_list: kernel_list_of(matches),
         maps: matches.get_str(MAPS),
+        vdso: matches.get_str(VDSO),
     }
 }
 
@@ -369,7 +326,10 @@ fn format_of(matches: &ArgMatches<'_>) -> Option<OutputFormat> {
     }
     match matches.get_str(FORMAT)? {
         SVG => Some(OutputFormat::Svg),
+        PPROF => Some(OutputFormat::Pprof),
+        HTML => Some(OutputFormat::Html),
         TOP => Some(OutputFormat::Top),
+        FRAMES => Some(OutputFormat::Frames),
         _ => Some(OutputFormat::Lines),
     }
 }
@@ -384,6 +344,7 @@ fn options_of<'a>(matches: &ArgMatches<'a>) -> Options<'a> {
         name_kind: name_kind_of(matches),
         demangling: demangling_of(matches),
         symbols: symbols_of(matches),
+        unwinds: !matches.get_flag(NO_UNWIND),
     }
 }
 

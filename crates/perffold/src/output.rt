@@ -1,32 +1,35 @@
-//! Writes the folded lines of an input on standard output.
+//! Writes a profile, and what isn't in it on standard error.
 
-use crate::fold::Folder;
+use crate::counter::CountedSamples;
+use crate::lines::{lines_of, write_lines};
 use crate::options::{Arguments, OutputFormat, Weight};
-use crate::records::Records;
+use crate::pprof::{Recorded, write_page, write_pprof};
 use crate::symbols::FileCounts;
 use crate::symbols::directories::PathError;
-use crate::symbols::kernel_list::NoList;
 use crate::title::title_of;
 use crate::top::write_top;
+use crate::unwinding::EndCounts;
 use linux_perf_data::PerfFile;
-use linux_perf_data::in_memory::InMemoryReader;
 use perfdata_cli::error::{InputError, ProgramError};
-use perfdata_cli::input::{Input, open_in_memory};
-use perfdata_stacks::counts::StackCounts;
+use perfdata_profile::options::Detail;
 use perfdata_stacks::flame::svg::{Caption, write_flame_graph};
 use std::fs::File;
 use std::io::{BufWriter, IsTerminal, Write};
 use std::{fs, io};
 
-// The end of the name of a file with a flame graph.
-const SVG_SUFFIX: &str = ".svg";
+// The format of files by the end of their names.
+const FORMATS: [(&str, OutputFormat); 3] = [
+    (".svg", OutputFormat::Svg),
+    (".pb", OutputFormat::Pprof),
+    (".html", OutputFormat::Html),
+];
 
-/// Why an input isn't folded.
+/// Why a profile isn't written.
 #[derive(Drop)]
 pub(crate) enum FoldError<'a> {
     /// The input can't be read, or standard output can't be written.
     Program(ProgramError),
-    /// A file can't be written.
+    /// A file of the command line can't be read or written.
     File(PathError<'a>),
 }
 
@@ -36,20 +39,20 @@ impl<'a> From<InputError> for FoldError<'a> {
     }
 }
 
-// What is written: the lines with their counts, and what a flame graph says of itself.
-#[derive(Clone, Copy)]
-struct Outcome<'a> {
-    counts: &'a StackCounts,
-    caption: Caption<'a>,
+impl<'a> From<PathError<'a>> for FoldError<'a> {
+    fn from(error: PathError<'a>) -> FoldError<'a> {
+        FoldError::File(error)
+    }
 }
 
-// Writes the lines with their counts.
-fn write_lines<W: Write>(counts: &StackCounts, out: &mut W) -> io::Result<()> {
-    for (line, count) in counts.iter() {
-        out.write_all(line.as_slice())?;
-        writeln!(out, " {count}")?;
-    }
-    Ok(())
+// What is written: a profile in a format, and what a picture says of itself.
+#[derive(Clone, Copy)]
+struct Outcome<'a> {
+    format: OutputFormat,
+    recorded: Recorded<'a>,
+    caption: Caption<'a>,
+    /// The lines of the frames of each sample, if they are written.
+    frames: &'a [u8],
 }
 
 // Returns what weights count.
@@ -60,64 +63,88 @@ fn unit_of(weight: Weight) -> &'static str {
     }
 }
 
-// Returns what is written.
-fn format_of(rt: &HostRuntime, arguments: &Arguments<'_>) -> OutputFormat {
-    match (arguments.format, arguments.output) {
-        (Some(format), _) => format,
-        (None, Some(path)) if path.ends_with(SVG_SUFFIX) => OutputFormat::Svg,
-        (None, None) if rt.stdout().is_terminal() => OutputFormat::Top,
-        _ => OutputFormat::Lines,
+// Returns the format of a file by the end of its name.
+fn format_of_file(path: &str) -> OutputFormat {
+    match FORMATS.iter().find(|(suffix, _)| path.ends_with(*suffix)) {
+        Some((_, format)) => *format,
+        None => OutputFormat::Lines,
     }
 }
 
-// Writes the lines, their flame graph or the table of their functions.
-fn write_counts<W: Write>(
-    rt: &HostRuntime,
-    arguments: &Arguments<'_>,
-    outcome: Outcome<'_>,
-    out: &mut W,
-) -> io::Result<()> {
-    let Outcome { counts, caption } = outcome;
-    match format_of(rt, arguments) {
-        OutputFormat::Lines => write_lines(counts, out)?,
-        OutputFormat::Svg => write_flame_graph(rt.alloc(), counts, caption, out)?,
-        OutputFormat::Top => write_top(rt.alloc(), counts, caption.unit, out)?,
+/// Returns what is written.
+pub(crate) fn format_of(rt: &HostRuntime, arguments: &Arguments<'_>) -> OutputFormat {
+    match (arguments.format, arguments.output) {
+        (Some(format), _) => format,
+        (None, Some(path)) => format_of_file(path),
+        (None, None) if rt.stdout().is_terminal() => OutputFormat::Top,
+        (None, None) => OutputFormat::Lines,
+    }
+}
+
+/// Returns whether a profile for pprof is to be written to a terminal.
+pub(crate) fn is_for_terminal(rt: &HostRuntime, arguments: &Arguments<'_>) -> bool {
+    arguments.output.is_none()
+        && format_of(rt, arguments) == OutputFormat::Pprof
+        && rt.stdout().is_terminal()
+}
+
+/// Returns what a sample counts in a format.
+pub(crate) fn weight_in(format: OutputFormat, weight: Weight) -> Weight {
+    match format {
+        OutputFormat::Pprof | OutputFormat::Html => Weight::Period,
+        OutputFormat::Lines | OutputFormat::Svg | OutputFormat::Top | OutputFormat::Frames =>
+            weight,
+    }
+}
+
+/// Returns what the locations of a profile have that is written in a format.
+pub(crate) fn detail_of(format: OutputFormat) -> Detail {
+    match format {
+        OutputFormat::Pprof | OutputFormat::Html => Detail::Locations,
+        OutputFormat::Lines | OutputFormat::Svg | OutputFormat::Top | OutputFormat::Frames => {
+            Detail::Functions
+        }
+    }
+}
+
+// Writes a profile.
+fn write_profile<W: Write>(rt: &HostRuntime, outcome: Outcome<'_>, out: &mut W) -> io::Result<()> {
+    let alloc = rt.alloc();
+    let Outcome {
+        format,
+        recorded,
+        caption,
+        frames,
+    } = outcome;
+    let profile = recorded.profile;
+    match format {
+        OutputFormat::Lines => write_lines(alloc, profile, out)?,
+        OutputFormat::Svg => write_flame_graph(alloc, &lines_of(alloc, profile)?, caption, out)?,
+        OutputFormat::Pprof => write_pprof(alloc, recorded, out)?,
+        OutputFormat::Html => write_page(alloc, recorded, out)?,
+        OutputFormat::Top => write_top(alloc, profile, caption.unit, out)?,
+        OutputFormat::Frames => out.write_all(frames)?,
     }
     out.flush()
 }
 
 // Writes standard output.
-fn write_stdout(
-    rt: &HostRuntime,
-    arguments: &Arguments<'_>,
-    outcome: Outcome<'_>,
-) -> io::Result<()> {
+fn write_stdout(rt: &HostRuntime, outcome: Outcome<'_>) -> io::Result<()> {
     let mut out = BufWriter::new(rt.alloc(), rt.stdout())?;
-    write_counts(rt, arguments, outcome, &mut out)
+    write_profile(rt, outcome, &mut out)
 }
 
 // Writes a file, which then replaces the one at a path.
-fn write_file(
-    rt: &HostRuntime,
-    part: &str,
-    path: &str,
-    arguments: &Arguments<'_>,
-    outcome: Outcome<'_>,
-) -> io::Result<()> {
+fn write_file(rt: &HostRuntime, part: &str, path: &str, outcome: Outcome<'_>) -> io::Result<()> {
     let mut out = BufWriter::new(rt.alloc(), File::create(rt, part)?)?;
-    write_counts(rt, arguments, outcome, &mut out)?;
+    write_profile(rt, outcome, &mut out)?;
     fs::rename(rt, part, path)
 }
 
 // Writes the file at a path: first one beside it, so that it is either as before or whole.
-fn replace_file(
-    rt: &HostRuntime,
-    path: &str,
-    arguments: &Arguments<'_>,
-    outcome: Outcome<'_>,
-) -> io::Result<()> {
+fn replace_file(rt: &HostRuntime, path: &str, outcome: Outcome<'_>) -> io::Result<()> {
     let part = format!(in rt.alloc(); "{path}.part")?;
-    let written = write_file(rt, part.as_str(), path, arguments, outcome);
+    let written = write_file(rt, part.as_str(), path, outcome);
     if written.is_err() {
         let _ = fs::remove_file(rt, part.as_str());
     }
@@ -125,153 +152,113 @@ fn replace_file(
 }
 
 // Writes standard output, or the file that the command line names.
-fn write_output<'a>(
+fn write_outcome<'a>(
     rt: &HostRuntime,
-    arguments: &Arguments<'a>,
+    path: Option<&'a str>,
     outcome: Outcome<'_>,
 ) -> Result<(), FoldError<'a>> {
-    match arguments.output {
-        Some(path) => replace_file(rt, path, arguments, outcome).map_err(|error| FoldError::File(
-            PathError { path, error },
-        )),
-        None => write_stdout(rt, arguments, outcome).map_err(|error| FoldError::Program(
-            ProgramError::Output(error),
-        )),
+    match path {
+        Some(path) => replace_file(rt, path, outcome).map_err(|error| FoldError::File(PathError {
+            path,
+            error,
+        })),
+        None => write_stdout(rt, outcome).map_err(|error| FoldError::Program(ProgramError::Output(
+            error,
+        ))),
     }
 }
 
-// Fails if no sample has the event that `--event` names.
-fn check_event(lacks_event: bool) -> Result<(), InputError> {
-    if lacks_event {
-        Err(InputError::Io(io::Error::other("no sample has the event that --event names")))
-    } else {
-        Ok(())
-    }
-}
-
-// Writes the number of samples of other events on standard error, if it isn't 0.
-fn print_other_events(rt: &HostRuntime, name: &str, samples: u64) {
-    if samples != 0 {
-        let _ = eprintln!(rt; "{name}: {samples} samples of other events aren't counted");
-    }
-}
-
-// Writes on standard error how many samples have fields that aren't known, if there are any.
-fn print_undecoded(rt: &HostRuntime, name: &str, samples: u64) {
-    if samples != 0 {
-        let _ = eprintln!(rt;
-            "{name}: {samples} samples can't be decoded: their fields aren't known"
-        );
-    }
-}
-
-// Writes on standard error why the kernel's functions have no names, if so.
-fn print_missing_list(rt: &HostRuntime, name: &str, missing: Option<&NoList>) {
-    if let Some(why) = missing {
-        let _ = eprintln!(rt; "{name}: functions of the kernel have no names: {why}");
-    }
-}
-
-// Writes on standard error how many files with symbols weren't used or compared, if there are any.
-fn print_file_counts(rt: &HostRuntime, name: &str, counts: FileCounts) {
-    let (different, unknown) = (counts.different, counts.unknown);
-    if different != 0 || unknown != 0 {
-        let _ = eprintln!(rt;
-            "{name}: {different} files differ from the recorded ones, {unknown} have no build id to compare"
-        );
-    }
-}
-
-// Writes on standard error how many files with symbols can't be read, if there are any.
-fn print_unreadable(rt: &HostRuntime, name: &str, files: u64) {
-    if files != 0 {
-        let _ = eprintln!(rt; "{name}: {files} files with symbols can't be read");
-    }
-}
-
-// Writes what was counted.
-fn write_result<'a>(
+/// Writes what was counted.
+pub(crate) fn write_counted<'a>(
     rt: &HostRuntime,
     arguments: &Arguments<'a>,
-    folder: &Folder<'_>,
+    format: OutputFormat,
     perf_file: &PerfFile,
+    counted: &CountedSamples<'_>,
 ) -> Result<(), FoldError<'a>> {
-    let counts = folder.counts()?;
+    let profile = &counted.profile;
     let unit = unit_of(arguments.options.weight);
-    let title = title_of(
-        rt.alloc(),
-        perf_file,
-        folder.selection(),
-        counts.total(),
-        unit,
-    );
+    let total = profile.sums.total().weight;
+    let title = title_of(rt.alloc(), perf_file, counted.selection, total, unit);
     let title = title.map_err(|error| FoldError::Program(ProgramError::Output(error)))?;
     let caption = Caption {
         title: title.as_slice(),
         unit,
     };
-    write_output(
-        rt,
-        arguments,
-        Outcome {
-            counts: &counts,
-            caption,
-        },
-    )
+    let recorded = Recorded {
+        perf_file,
+        profile,
+        files: counted.resolver.files(),
+        span: counted.span,
+        shows_weights: arguments.options.weight == Weight::Period,
+    };
+    let outcome = Outcome {
+        format,
+        recorded,
+        caption,
+        frames: counted.resolver.listed_frames(),
+    };
+    write_outcome(rt, arguments.output, outcome)
 }
 
-// Writes the lines of the samples that were read, and fails with the error that ended them, if there is one.
-fn finish<'a>(
-    rt: &HostRuntime,
-    name: &str,
-    arguments: &Arguments<'a>,
-    folder: &Folder<'_>,
-    perf_file: &PerfFile,
-    read: Result<(), InputError>,
-) -> Result<(), FoldError<'a>> {
-    write_result(rt, arguments, folder, perf_file)?;
-    print_other_events(rt, name, folder.other_events());
-    print_undecoded(rt, name, folder.undecoded());
-    print_missing_list(rt, name, folder.missing_kernel_list());
-    if let Some(counts) = folder.file_counts() {
-        print_file_counts(rt, name, counts);
-        print_unreadable(rt, name, counts.unreadable);
+// Writes on standard error how many files with symbols weren't used, compared or read, if there are any.
+fn print_file_counts(rt: &HostRuntime, name: &str, counts: FileCounts) {
+    let FileCounts {
+        different,
+        unknown,
+        unreadable,
+    } = counts;
+    if different != 0 || unknown != 0 {
+        let _ = eprintln!(rt;
+            "{name}: {different} files differ from the recorded ones, {unknown} have no build id to compare"
+        );
     }
-    read?;
-    Ok(check_event(folder.lacks_event())?)
+    if unreadable != 0 {
+        let _ = eprintln!(rt; "{name}: {unreadable} files with symbols can't be read");
+    }
 }
 
-// Folds the samples of an input that was opened.
-fn fold_opened<'a>(
-    rt: &HostRuntime,
-    name: &str,
-    arguments: &Arguments<'a>,
-    folder: &mut Folder<'_>,
-    reader: InMemoryReader<'_>,
-) -> Result<(), FoldError<'a>> {
-    let mut perf_file = reader.perf_file;
-    let mut records = Records::new(rt.alloc(), &perf_file, reader.records);
-    let read = folder.add_all(&mut records, &mut perf_file);
-    finish(rt, name, arguments, folder, &perf_file, read)
+// Writes on standard error how the chains of unwound samples end, if there are any.
+fn print_end_counts(rt: &HostRuntime, name: &str, counts: EndCounts) {
+    let EndCounts {
+        complete,
+        truncated,
+        lacking,
+    } = counts;
+    let total = counts.total();
+    if total == 0 {
+        return;
+    }
+    let _ = eprint!(rt; "{name}: Unwound {total} samples: {complete} to their first function");
+    if truncated != 0 {
+        let _ = eprint!(rt;
+            "; {truncated} end with the copy (record with a larger --call-graph dwarf,SIZE)"
+        );
+    }
+    if lacking != 0 {
+        let _ = eprint!(rt; "; {lacking} for lack of call frame information");
+    }
+    let _ = eprintln!(rt; ".");
 }
 
-// Reads the input at a path into memory. Returns whether it is a pipe, and its bytes.
-fn read_input(rt: &HostRuntime, path: &str) -> Result<(bool, Vec<u8>), InputError> {
-    let input = Input::open(rt, path).map_err(InputError::Io)?;
-    let is_pipe = input.is_pipe()?;
-    let bytes = input.into_bytes().map_err(InputError::Io)?;
-    Ok((is_pipe, bytes))
-}
-
-/// Folds the samples of the input at a path, which is read into memory.
-pub(crate) fn fold_input<'a>(
-    rt: &HostRuntime,
-    name: &str,
-    arguments: &Arguments<'a>,
-    folder: &mut Folder<'_>,
-    path: &str,
-) -> Result<(), FoldError<'a>> {
-    let (is_pipe, bytes) = read_input(rt, path)?;
-    let reader = open_in_memory(rt.alloc(), &bytes, is_pipe)?;
-    fold_opened(rt, name, arguments, folder, reader)
+/// Writes on standard error which samples aren't counted, and which names are missing.
+pub(crate) fn print_notes(rt: &HostRuntime, name: &str, counted: &CountedSamples<'_>) {
+    let (others, undecoded) = (counted.other_events, counted.undecoded);
+    if others != 0 {
+        let _ = eprintln!(rt; "{name}: {others} samples of other events aren't counted");
+    }
+    if undecoded != 0 {
+        let _ = eprintln!(rt;
+            "{name}: {undecoded} samples can't be decoded: their fields aren't known"
+        );
+    }
+    if let Some(counts) = counted.resolver.end_counts() {
+        print_end_counts(rt, name, counts);
+    }
+    if let Some(why) = counted.resolver.missing_kernel_list() {
+        let _ = eprintln!(rt; "{name}: functions of the kernel have no names: {why}");
+    }
+    if let Some(counts) = counted.resolver.file_counts() {
+        print_file_counts(rt, name, counts);
+    }
 }

@@ -36,8 +36,10 @@ impl<'a> Selection<'a> {
         match *self {
             Selection::All => true,
             Selection::Index(selected) => selected == index,
-            Selection::Named(selected) => has_name(perf_file, index, selected),
-            Selection::NameOf(first) => first == index || have_one_name(perf_file, first, index),
+            Selection::Named(selected) => has_name(perf_file, index, Some(selected)),
+            Selection::NameOf(first) => {
+                first == index || has_name(perf_file, index, name_of(perf_file, first))
+            }
             Selection::First => {
                 *self = Selection::NameOf(index);
                 true
@@ -51,18 +53,10 @@ fn name_of(perf_file: &PerfFile, index: usize) -> Option<&str> {
     perf_file.event_attributes().get(index)?.name()
 }
 
-// Returns whether an event has a name.
-fn has_name(perf_file: &PerfFile, index: usize, name: &str) -> bool {
-    match name_of(perf_file, index) {
-        Some(found) => found == name,
-        None => false,
-    }
-}
-
-// Returns whether two events have the same name.
-fn have_one_name(perf_file: &PerfFile, first: usize, second: usize) -> bool {
-    match name_of(perf_file, first) {
-        Some(name) => has_name(perf_file, second, name),
-        None => false,
+// Returns whether an event has a name, and this one.
+fn has_name(perf_file: &PerfFile, index: usize, name: Option<&str>) -> bool {
+    match (name, name_of(perf_file, index)) {
+        (Some(name), Some(found)) => found == name,
+        _ => false,
     }
 }

@@ -1,28 +1,29 @@
 //! The symbols of frames: of mapped files, of the recording itself, of generated code and of the kernel.
 
-use crate::names::NameTable;
 use crate::options::SymbolOptions;
+use crate::text::{is_anonymous, is_generated};
 use linux_perf_data::{
     Error, PerfFile, RawUserRecord, SimpleperfFileRecord, SimpleperfTypeSpecificInfo,
 };
-use perfdata_base::source::CountedBuffer;
 use perfdata_events::call_chain::CallContext;
-use perfdata_spaces::mapping::{Mapping, PROTECTION_EXEC};
-use perfdata_symbols::{JitSymbols, JitSymbolsError, SymbolTable, parse_perf_map, table_of_record};
+use perfdata_events::event::EventRecord;
+use perfdata_profile::resolver::ResolvedFrame;
+use perfdata_spaces::address_spaces::context_of_mode;
+use perfdata_spaces::mapping::{Mapping, MappingKind};
+use perfdata_symbols::{SymbolTable, parse_perf_map, table_of_record};
 use std::alloc::AllocError;
 use std::collections::{BTreeMap, HashMap};
 use std::fs::File;
 use std::io;
-use std::io::{BufReader, Read};
+use std::io::Read;
 
-mod build_ids;
+pub(crate) mod build_ids;
 mod debug_paths;
 pub(crate) mod directories;
-mod elf_files;
+pub(crate) mod elf_files;
 mod jitdumps;
 pub(crate) mod kernel;
 pub(crate) mod kernel_list;
-mod named_table;
 
 use build_ids::BuildIds;
 use directories::{Directories, PathError, found};
@@ -31,27 +32,36 @@ pub(crate) use elf_files::FileCounts;
 use jitdumps::JitDumps;
 use kernel::KERNEL_PATH;
 use kernel_list::{ListedSymbols, NoList};
-use named_table::NamedTable;
 
-/// Where the symbol at an address of a mapping is looked up.
-#[derive(Clone, Copy)]
-pub(crate) enum Lookup {
-    /// There are no symbols.
-    Nowhere,
-    /// In the kernel's list.
+/// A table of symbols.
+#[derive(Clone, Copy, PartialEq, Eq, Hash)]
+pub(crate) enum TableId {
+    /// The kernel's list.
     Kernel,
-    /// In the table with an index, at the address plus a number modulo 2^64.
-    Table {
-        /// The index of the table.
-        index: usize,
-        /// What is added to the address.
-        shift: u64,
-    },
+    /// That of the code of a process: the jitdump with a number.
+    Code { pid: i32, number: u64 },
+    /// That of a file, by its index.
+    File(usize),
 }
 
-// Where the symbols of a file that the recording has start.
+/// A symbol, by its index in a table.
+#[derive(Clone, Copy, PartialEq, Eq, Hash)]
+pub(crate) struct SymbolId {
+    pub(crate) table: TableId,
+    pub(crate) index: usize,
+}
+
+/// The name of a symbol.
 #[derive(Clone, Copy)]
-enum RecordedStarts {
+pub(crate) struct SymbolName<'a> {
+    pub(crate) name: &'a [u8],
+    /// Whether it may be mangled.
+    pub(crate) is_mangled: bool,
+}
+
+// Where the symbols of a table start.
+#[derive(Clone, Copy)]
+enum Starts {
     /// At offsets in the file.
     FileOffsets,
     /// At offsets from the start of the mapping.
@@ -60,11 +70,13 @@ enum RecordedStarts {
     Addresses,
 }
 
-// The table of a file that the recording has the symbols of.
-#[derive(Clone, Copy)]
-struct RecordedTable {
-    index: usize,
-    starts: RecordedStarts,
+// The symbols of a file.
+#[derive(Drop)]
+struct FileTable {
+    table: SymbolTable,
+    starts: Starts,
+    /// Whether names may be mangled.
+    are_mangled: bool,
 }
 
 /// The symbols that frames can have.
@@ -75,9 +87,11 @@ pub(crate) struct Symbols<'a> {
     kernel: ListedSymbols<'a>,
     jitdumps: JitDumps,
     build_ids: BuildIds,
-    tables: Vec<NamedTable>,
-    /// The tables of the recording, by path.
-    recorded: HashMap<Vec<u8>, RecordedTable>,
+    tables: Vec<FileTable>,
+    /// The tables of mappings, by their indices.
+    of_mappings: HashMap<usize, Option<TableId>>,
+    /// The indices of the tables of the recording, by path.
+    recorded: HashMap<Vec<u8>, usize>,
     /// The indices of the tables of files, by path and build id with a NUL between them.
     of_files: HashMap<Vec<u8>, Option<usize>>,
     /// The indices of the tables of processes.
@@ -91,47 +105,43 @@ fn read_all(rt: &HostRuntime, mut file: File) -> io::Result<Option<Vec<u8>>> {
     Ok(Some(bytes))
 }
 
-// Returns where the symbols of a file start.
-fn starts_of(record: &SimpleperfFileRecord) -> RecordedStarts {
+// Returns where the symbols of a file of the recording start.
+fn starts_of(record: &SimpleperfFileRecord) -> Starts {
     match &record.type_specific_msg {
         Some(
             SimpleperfTypeSpecificInfo::ElfFile(_)
             | SimpleperfTypeSpecificInfo::SimpleperfDexFileInfo(_),
-        ) => RecordedStarts::FileOffsets,
-        Some(SimpleperfTypeSpecificInfo::KernelModule(_)) => RecordedStarts::MappingOffsets,
-        None => RecordedStarts::Addresses,
+        ) => Starts::FileOffsets,
+        Some(SimpleperfTypeSpecificInfo::KernelModule(_)) => Starts::MappingOffsets,
+        None => Starts::Addresses,
     }
 }
 
-// Returns the place in a table at which an address of a mapping with a file is looked up.
-fn table_lookup(index: Option<usize>, mapping: &Mapping) -> Lookup {
-    match index {
-        Some(index) => Lookup::Table {
-            index,
-            shift: mapping.page_offset.wrapping_sub(mapping.start),
-        },
-        None => Lookup::Nowhere,
+impl Starts {
+    // Returns the address in a table for one in a mapping, modulo 2^64.
+    fn address_of(self, address: u64, mapping: &Mapping) -> u64 {
+        match self {
+            Starts::FileOffsets => address
+                .wrapping_sub(mapping.start)
+                .wrapping_add(mapping.page_offset),
+            Starts::MappingOffsets => address.wrapping_sub(mapping.start),
+            Starts::Addresses => address,
+        }
     }
 }
 
-// Returns the place in the table of the recording at which an address of a mapping is looked up.
-fn recorded_lookup(table: &RecordedTable, mapping: &Mapping) -> Lookup {
-    match table.starts {
-        RecordedStarts::FileOffsets => table_lookup(Some(table.index), mapping),
-        RecordedStarts::MappingOffsets => Lookup::Table {
-            index: table.index,
-            shift: mapping.start.wrapping_neg(),
-        },
-        RecordedStarts::Addresses => address_lookup(Some(table.index)),
+// Returns the process whose jitdump describes the code of a frame: the one that made its mapping.
+fn generator_of(frame: &ResolvedFrame<'_>) -> i32 {
+    match frame.mapping {
+        Some(mapping) => mapping.pid,
+        None => frame.pid,
     }
 }
 
-// Returns the place in a table at which an address without a file is looked up.
-fn address_lookup(index: Option<usize>) -> Lookup {
-    match index {
-        Some(index) => Lookup::Table { index, shift: 0 },
-        None => Lookup::Nowhere,
-    }
+// Returns the name of the symbol with an index, if there is one.
+fn name_at(table: Option<&SymbolTable>, index: usize) -> Option<&[u8]> {
+    let table = table?;
+    Some(table.name(table.symbols().get(index)?))
 }
 
 impl<'a> Symbols<'a> {
@@ -150,6 +160,7 @@ impl<'a> Symbols<'a> {
             jitdumps: JitDumps::new(alloc),
             build_ids: BuildIds::new(alloc),
             tables: Vec::new(alloc),
+            of_mappings: HashMap::new(alloc),
             recorded: HashMap::new(alloc),
             of_files: HashMap::new(alloc),
             of_processes: BTreeMap::new(alloc),
@@ -166,24 +177,23 @@ impl<'a> Symbols<'a> {
         self.kernel.missing()
     }
 
-    // Adds a table, whose names may be mangled. Returns its index.
-    fn add_table(&mut self, table: SymbolTable, are_mangled: bool) -> Result<usize, AllocError> {
+    // Adds a table. Returns its index.
+    fn add_table(&mut self, table: FileTable) -> Result<usize, AllocError> {
         let index = self.tables.len();
-        self.tables
-            .push(NamedTable::new(self.rt.alloc(), table, are_mangled))?;
+        self.tables.push(table)?;
         Ok(index)
     }
 
     // Adds the symbols of a file that the recording has.
     fn add_recorded(&mut self, record: &SimpleperfFileRecord) -> Result<(), AllocError> {
         let alloc = self.rt.alloc();
-        let index = self.add_table(table_of_record(alloc, record)?, true)?;
-        let table = RecordedTable {
-            index,
+        let index = self.add_table(FileTable {
+            table: table_of_record(alloc, record)?,
             starts: starts_of(record),
-        };
+            are_mangled: true,
+        })?;
         let path = record.path.as_bytes().to_vec(alloc)?;
-        self.recorded.insert(path, table)?;
+        self.recorded.insert(path, index)?;
         Ok(())
     }
 
@@ -204,26 +214,27 @@ impl<'a> Symbols<'a> {
         self.build_ids.add_record(self.rt.alloc(), record)
     }
 
-    /// Adds a mapping of a process or of the kernel.
-    pub(crate) fn add_mapping(
+    /// Applies a record that isn't a sample, and the mapping that it adds, if it adds one. `misc` is that of
+    /// its header.
+    pub(crate) fn apply(
         &mut self,
-        context: CallContext,
-        mapping: &Mapping,
+        misc: u16,
+        record: &EventRecord<'_>,
+        mapping: Option<&Mapping>,
     ) -> Result<(), AllocError> {
-        match context {
-            CallContext::User => self
-                .jitdumps
-                .add_mapping(mapping.pid, mapping.path.as_slice()),
-            CallContext::Kernel => self
-                .kernel
-                .add_mapping(mapping.path.as_slice(), mapping.page_offset),
+        match record {
+            EventRecord::Comm(comm) if comm.is_execve => self.jitdumps.remove(comm.pid),
+            _ => {}
+        }
+        let Some(mapping) = mapping else {
+            return Ok(());
+        };
+        let path = mapping.path.as_slice();
+        match context_of_mode(misc) {
+            CallContext::User => self.jitdumps.add_mapping(mapping.pid, path),
+            CallContext::Kernel => self.kernel.add_mapping(path, mapping.page_offset),
             _ => Ok(()),
         }
-    }
-
-    /// Removes what belongs to the program that another one replaces.
-    pub(crate) fn replace_program(&mut self, pid: i32) {
-        self.jitdumps.remove(pid);
     }
 
     // Returns the key of a mapping's file: its path and its build id.
@@ -244,7 +255,14 @@ impl<'a> Symbols<'a> {
             return Ok(None);
         }
         match self.elf_files.table(path, recorded)? {
-            Some(table) => Ok(Some(self.add_table(table, true)?)),
+            Some(table) => {
+                let (starts, are_mangled) = (Starts::FileOffsets, true);
+                Ok(Some(self.add_table(FileTable {
+                    table,
+                    starts,
+                    are_mangled,
+                })?))
+            }
             None => Ok(None),
         }
     }
@@ -274,7 +292,12 @@ impl<'a> Symbols<'a> {
         match found(read_all(self.rt, file))? {
             Some(text) => {
                 let table = parse_perf_map(self.rt.alloc(), text)?;
-                Ok(Some(self.add_table(table, false)?))
+                let (starts, are_mangled) = (Starts::Addresses, false);
+                Ok(Some(self.add_table(FileTable {
+                    table,
+                    starts,
+                    are_mangled,
+                })?))
             }
             None => Ok(None),
         }
@@ -290,95 +313,161 @@ impl<'a> Symbols<'a> {
         Ok(index)
     }
 
-    /// Returns where the symbols of a mapping of the kernel are looked up.
-    pub(crate) fn kernel_lookup(&self, mapping: &Mapping) -> Lookup {
-        match self.recorded.get(mapping.path.as_slice()) {
-            Some(table) => recorded_lookup(table, mapping),
-            None => Lookup::Kernel,
+    // Returns the index of the table of a mapping of a process.
+    fn of_process_mapping(&mut self, mapping: &Mapping) -> Result<Option<usize>, AllocError> {
+        if is_generated(mapping) {
+            self.of_process(mapping.pid)
+        } else if is_anonymous(mapping) {
+            Ok(None)
+        } else {
+            self.of_file(mapping)
         }
     }
 
-    /// Returns where the symbols of a mapping of a process are looked up.
-    pub(crate) fn user_lookup(
+    // Returns the table of a mapping.
+    fn new_table(
         &mut self,
         mapping: &Mapping,
-        has_file: bool,
-    ) -> Result<Lookup, AllocError> {
-        if let Some(table) = self.recorded.get(mapping.path.as_slice()) {
-            return Ok(recorded_lookup(table, mapping));
+        context: CallContext,
+    ) -> Result<Option<TableId>, AllocError> {
+        if mapping.kind == MappingKind::KernelSymbol {
+            return Ok(None);
         }
-        if has_file {
-            return Ok(table_lookup(self.of_file(mapping)?, mapping));
+        if let Some(index) = self.recorded.get(mapping.path.as_slice()) {
+            return Ok(Some(TableId::File(*index)));
         }
-        if mapping.protection & PROTECTION_EXEC != 0 {
-            return Ok(address_lookup(self.of_process(mapping.pid)?));
+        match context {
+            CallContext::User => Ok(self.of_process_mapping(mapping)?.map(TableId::File)),
+            _ => Ok(Some(TableId::Kernel)),
         }
-        Ok(Lookup::Nowhere)
     }
 
-    /// Returns the number of the name of the symbol at an address, or `None` if there is none.
-    pub(crate) fn number(
+    // Returns the table of the mapping with an index.
+    fn table_of(
         &mut self,
-        lookup: Lookup,
+        index: usize,
+        mapping: &Mapping,
+        context: CallContext,
+    ) -> Result<Option<TableId>, AllocError> {
+        if let Some(table) = self.of_mappings.get(&index) {
+            return Ok(*table);
+        }
+        let table = self.new_table(mapping, context)?;
+        self.of_mappings.insert(index, table)?;
+        Ok(table)
+    }
+
+    // Returns a symbol, if it has a name.
+    fn named(&self, id: SymbolId) -> Option<SymbolId> {
+        Some(id).filter(|id| !self.name(*id).name.is_empty())
+    }
+
+    // Returns the index of the symbol of a table at an address of a mapping, or `None` if there is none.
+    fn find_in(
+        &mut self,
+        table: TableId,
         mapping: &Mapping,
         address: u64,
-        names: &mut NameTable,
     ) -> Result<Option<usize>, AllocError> {
-        match lookup {
-            Lookup::Nowhere => Ok(None),
-            Lookup::Kernel => {
+        match table {
+            TableId::Kernel => {
                 let recorded = self.build_ids.of_path(KERNEL_PATH);
-                self.kernel.at(recorded, mapping, address, names)
+                self.kernel.find_index(recorded, mapping, address)
             }
-            Lookup::Table { index, shift } => match self.tables.get_mut(index) {
-                Some(table) => table.at(address.wrapping_add(shift), names),
+            TableId::File(index) => match self.tables.get(index) {
+                Some(file) => Ok(
+                    file.table
+                        .find_index(file.starts.address_of(address, mapping)),
+                ),
                 None => Ok(None),
             },
+            TableId::Code { .. } => Ok(None),
         }
     }
 
-    // Opens and reads the jitdump at a path.
-    fn read_jitdump(&mut self, path: &str) -> Result<Option<JitSymbols>, AllocError> {
-        let alloc = self.rt.alloc();
-        let Some(file) = self.elf_files.directories.files.open(self.rt, path)? else {
+    // Returns the symbol of a frame in what is mapped there, or `None` if there is none with a name.
+    fn find_mapped(&mut self, frame: &ResolvedFrame<'_>) -> Result<Option<SymbolId>, AllocError> {
+        let (Some(index), Some(mapping)) = (frame.index, frame.mapping) else {
             return Ok(None);
         };
-        let Ok(reader) = BufReader::new(alloc, file) else {
-            return Err(AllocError);
+        let Some(table) = self.table_of(index, mapping, frame.frame.frame.context)? else {
+            return Ok(None);
         };
-        match JitSymbols::read(alloc, CountedBuffer::new(reader)) {
-            Ok(code) => Ok(Some(code)),
-            Err(JitSymbolsError::Memory) => Err(AllocError),
-            Err(_) => {
-                self.elf_files.count_unreadable();
-                Ok(None)
+        let index = self.find_in(table, mapping, frame.frame.lookup_address())?;
+        Ok(index.and_then(|index| self.named(SymbolId { table, index })))
+    }
+
+    // Returns the code that the process of a frame loaded at its address up to its time, or `None` if there
+    // is none with a name.
+    fn find_code(&mut self, frame: &ResolvedFrame<'_>) -> Result<Option<SymbolId>, AllocError> {
+        let address = frame.frame.lookup_address();
+        let time = frame.time.unwrap_or(u64::MAX);
+        let symbol = self
+            .jitdumps
+            .find(&mut self.elf_files, generator_of(frame), address, time)?;
+        Ok(symbol.and_then(|symbol| self.named(symbol)))
+    }
+
+    /// Returns the symbol of a frame, or `None` if there is none with a name.
+    pub(crate) fn find(
+        &mut self,
+        frame: &ResolvedFrame<'_>,
+    ) -> Result<Option<SymbolId>, AllocError> {
+        if frame.frame.frame.context == CallContext::User {
+            if let Some(symbol) = self.find_code(frame)? {
+                return Ok(Some(symbol));
             }
+        }
+        self.find_mapped(frame)
+    }
+
+    /// Returns whether all frames at the address of a frame in its mapping have one symbol: it is code of the
+    /// kernel, or of a file with symbols in a process without a jitdump.
+    pub(crate) fn is_fixed(&self, frame: &ResolvedFrame<'_>) -> bool {
+        let (Some(index), Some(mapping)) = (frame.index, frame.mapping) else {
+            return false;
+        };
+        frame.frame.frame.context != CallContext::User
+            || matches!(self.of_mappings.get(&index), Some(Some(TableId::File(_))))
+                && !is_anonymous(mapping)
+                && !self.jitdumps.contains(mapping.pid)
+    }
+
+    /// Returns the name of a symbol, which is empty if there is none.
+    pub(crate) fn name(&self, id: SymbolId) -> SymbolName<'_> {
+        let (table, is_mangled) = match id.table {
+            TableId::Kernel => (self.kernel.table(), false),
+            TableId::Code { pid, .. } => (self.jitdumps.table(pid), true),
+            TableId::File(index) => match self.tables.get(index) {
+                Some(file) => (Some(&file.table), file.are_mangled),
+                None => (None, false),
+            },
+        };
+        SymbolName {
+            name: name_at(table, id.index).unwrap_or(b""),
+            is_mangled,
         }
     }
 
-    // Reads the jitdump of a process, if there is one that wasn't read yet.
-    fn load_jitdump(&mut self, pid: i32) -> Result<(), AllocError> {
-        let Some(path) = self.jitdumps.unread(pid) else {
-            return Ok(());
-        };
-        let path = path.to_vec(self.rt.alloc())?;
-        let code = match str::from_utf8(path.as_slice()) {
-            Ok(path) => self.read_jitdump(path)?,
-            Err(_) => None,
-        };
-        self.jitdumps.set_code(pid, code);
-        Ok(())
+    // Returns how far an address is after the start of the symbol of a table with an index, modulo 2^64.
+    fn offset_in(table: &SymbolTable, index: usize, address: u64) -> Option<u64> {
+        Some(address.wrapping_sub(table.symbols().get(index)?.start))
     }
 
-    /// Returns the number of the name of the code that a process loaded at an address up to a time.
-    pub(crate) fn code_number(
-        &mut self,
-        pid: i32,
-        address: u64,
-        time: u64,
-        names: &mut NameTable,
-    ) -> Result<Option<usize>, AllocError> {
-        self.load_jitdump(pid)?;
-        self.jitdumps.at(pid, address, time, names)
+    /// Returns how far the address of a frame is after the start of its symbol, modulo 2^64, if that is
+    /// known.
+    pub(crate) fn offset(&self, id: SymbolId, frame: &ResolvedFrame<'_>) -> Option<u64> {
+        let address = frame.frame.frame.address;
+        match id.table {
+            TableId::Kernel => self.kernel.offset(id.index, address),
+            TableId::Code { pid, .. } => {
+                Symbols::offset_in(self.jitdumps.table(pid)?, id.index, address)
+            }
+            TableId::File(index) => {
+                let file = self.tables.get(index)?;
+                let address = file.starts.address_of(address, frame.mapping?);
+                Symbols::offset_in(&file.table, id.index, address)
+            }
+        }
     }
 }

@@ -1,6 +1,8 @@
 //! The table of the functions with the most samples.
 
-use perfdata_stacks::counts::StackCounts;
+use perfdata_profile::locations::LocationId;
+use perfdata_profile::names::NameId;
+use perfdata_profile::profile::Profile;
 use std::alloc::{AllocError, Global};
 use std::cmp::Ordering;
 use std::collections::HashMap;
@@ -10,9 +12,6 @@ use std::io::Write;
 // The number of functions in the table.
 const ROWS: usize = 30;
 
-// What separates the names of a line.
-const SEPARATOR: u8 = b';';
-
 // The weights of a function.
 #[derive(Clone, Copy)]
 struct Weights {
@@ -20,8 +19,8 @@ struct Weights {
     own: u64,
     /// That of the samples in it and in what it calls.
     total: u64,
-    /// The last line with it.
-    line: usize,
+    /// The index of the last sums with it.
+    last: usize,
 }
 
 // A row of the table.
@@ -33,9 +32,9 @@ struct Row<'a> {
 
 // The weights of all functions.
 #[derive(Drop)]
-struct Functions {
-    alloc: Global,
-    weights: HashMap<Vec<u8>, Weights>,
+struct Functions<'a> {
+    profile: &'a Profile,
+    weights: HashMap<NameId, Weights>,
 }
 
 // Returns a part of a total in hundredths of a percent.
@@ -53,53 +52,54 @@ fn by_weight(first: &Row<'_>, second: &Row<'_>) -> Ordering {
     own.then(total).then(first.name.cmp(second.name))
 }
 
-impl Functions {
-    // Adds the weight of a line to that of a function in it.
-    fn add(&mut self, line: usize, name: &[u8], weight: u64) -> Result<(), AllocError> {
-        match self.weights.get_mut(name) {
-            Some(weights) if weights.line == line => {}
+impl<'a> Functions<'a> {
+    // Adds the weight of the sums with an index to that of a function.
+    fn add(&mut self, index: usize, function: NameId, weight: u64) -> Result<(), AllocError> {
+        match self.weights.get_mut(&function) {
+            Some(weights) if weights.last == index => {}
             Some(weights) => {
                 weights.total = weights.total.saturating_add(weight);
-                weights.line = line;
+                weights.last = index;
             }
             None => {
                 let weights = Weights {
                     own: 0,
                     total: weight,
-                    line,
+                    last: index,
                 };
-                self.weights.insert(name.to_vec(self.alloc)?, weights)?;
+                self.weights.insert(function, weights)?;
             }
         }
         Ok(())
     }
 
-    // Adds the weight of a line to that of the function that its samples are in.
-    fn add_own(&mut self, name: &[u8], weight: u64) {
-        if let Some(weights) = self.weights.get_mut(name) {
-            weights.own = weights.own.saturating_add(weight);
-        }
-    }
-
-    // Adds a line: the name of a thread, and those of functions.
-    fn add_line(&mut self, line: usize, names: &[u8], weight: u64) -> Result<(), AllocError> {
-        let mut last = None;
-        for name in names.split(|byte| *byte == SEPARATOR).skip(1) {
-            self.add(line, name, weight)?;
-            last = Some(name);
-        }
-        if let Some(name) = last {
-            self.add_own(name, weight);
+    // Adds the weight of the sums with an index to those of the functions of a stack, the leaf first.
+    fn add_stack(
+        &mut self,
+        index: usize,
+        stack: &[LocationId],
+        weight: u64,
+    ) -> Result<(), AllocError> {
+        for (depth, id) in stack.iter().enumerate() {
+            let Some(location) = self.profile.tables.locations.get(*id) else {
+                continue;
+            };
+            self.add(index, location.function, weight)?;
+            if depth == 0 {
+                if let Some(weights) = self.weights.get_mut(&location.function) {
+                    weights.own = weights.own.saturating_add(weight);
+                }
+            }
         }
         Ok(())
     }
 
     // Returns the functions in the order of the table.
-    fn rows(&self) -> Result<Vec<Row<'_>>, AllocError> {
-        let mut rows = Vec::new(self.alloc);
-        for (name, weights) in self.weights.iter() {
+    fn rows(&self, alloc: Global) -> Result<Vec<Row<'a>>, AllocError> {
+        let mut rows = Vec::new(alloc);
+        for (id, weights) in self.weights.iter() {
             rows.push(Row {
-                name: name.as_slice(),
+                name: self.profile.tables.names.get(*id).unwrap_or(b""),
                 weights: *weights,
             })?;
         }
@@ -108,14 +108,17 @@ impl Functions {
     }
 }
 
-// Returns the weights of the functions in all lines.
-fn functions_of(alloc: Global, counts: &StackCounts) -> Result<Functions, AllocError> {
+// Returns the weights of the functions of a profile.
+fn functions_of(alloc: Global, profile: &Profile) -> Result<Functions<'_>, AllocError> {
     let mut functions = Functions {
-        alloc,
+        profile,
         weights: HashMap::new(alloc),
     };
-    for (line, (names, weight)) in counts.iter().enumerate() {
-        functions.add_line(line, names.as_slice(), *weight)?;
+    for index in 0..profile.sums.len() {
+        if let Some((key, sums)) = profile.sums.get(index) {
+            let stack = profile.tables.stacks.get(key.stack).unwrap_or(&[]);
+            functions.add_stack(index, stack, sums.weight)?;
+        }
     }
     Ok(functions)
 }
@@ -148,18 +151,18 @@ fn write_row<W: Write>(row: Row<'_>, total: u64, out: &mut W) -> io::Result<()> 
 /// and in what it calls, and its name. `unit` is what weights count.
 pub(crate) fn write_top<W: Write>(
     alloc: Global,
-    counts: &StackCounts,
+    profile: &Profile,
     unit: &str,
     out: &mut W,
 ) -> io::Result<()> {
-    let functions = functions_of(alloc, counts)?;
-    let total = counts.total();
+    let functions = functions_of(alloc, profile)?;
+    let total = profile.sums.total().weight;
     writeln!(
         out,
         "{:>7} {unit:>12}  {:>7} {unit:>12}  function",
         "self", "total"
     )?;
-    for row in functions.rows()?.iter().take(ROWS) {
+    for row in functions.rows(alloc)?.iter().take(ROWS) {
         write_row(*row, total, out)?;
     }
     Ok(())

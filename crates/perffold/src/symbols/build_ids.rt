@@ -1,5 +1,6 @@
 //! The build ids of a recording.
 
+use crate::symbols::kernel::KERNEL_PATH;
 use linux_perf_data::build_id_event::BuildIdEvent;
 use linux_perf_data::raw::Endianness;
 use linux_perf_data::{Error, PerfFile, RawUserRecord};
@@ -63,11 +64,16 @@ impl BuildIds {
         }
     }
 
-    /// Returns the build id of a mapping, which is empty if it isn't known.
+    /// Returns the build id of a mapping, which is empty if it isn't known. That of the kernel was recorded
+    /// without the symbol after its path.
     pub(crate) fn of_mapping<'a>(&'a self, mapping: &'a Mapping) -> &'a [u8] {
+        let path = mapping.path.as_slice();
         if !mapping.build_id.is_empty() {
-            return mapping.build_id.as_slice();
+            mapping.build_id.as_slice()
+        } else if path.starts_with(KERNEL_PATH) {
+            self.of_path(KERNEL_PATH)
+        } else {
+            self.of_path(path)
         }
-        self.of_path(mapping.path.as_slice())
     }
 }

@@ -4,7 +4,8 @@ use crate::symbols::debug_paths::{DebugPath, DebugPlace, debug_paths};
 use crate::symbols::directories::Directories;
 use perfdata_base::source::CountedBuffer;
 use perfdata_symbols::{
-    Crc32, DebugLink, ElfError, ElfFile, RankedSymbols, SymbolSection, SymbolTable,
+    Crc32, DebugLink, ElfError, ElfFile, JitSymbols, JitSymbolsError, RankedSymbols, SymbolSection,
+    SymbolTable,
 };
 use std::alloc::{AllocError, Global};
 use std::fs::File;
@@ -14,8 +15,8 @@ use std::io::{BufReader, ErrorKind, Read};
 // The number of bytes of a file that are read at once for its CRC-32.
 const PIECE_SIZE: usize = 4096;
 
-// An ELF file whose headers are read.
-type Elf = ElfFile<CountedBuffer<File>>;
+/// An ELF file whose headers are read.
+pub(crate) type Elf = ElfFile<CountedBuffer<File>>;
 
 /// Numbers of files.
 #[derive(Clone, Copy)]
@@ -100,8 +101,8 @@ impl<'a> ElfFiles<'a> {
         }
     }
 
-    /// Counts a file that can't be read.
-    pub(crate) fn count_unreadable(&mut self) {
+    // Counts a file that can't be read.
+    fn count_unreadable(&mut self) {
         self.counts.unreadable = self.counts.unreadable.saturating_add(1);
     }
 
@@ -118,8 +119,11 @@ impl<'a> ElfFiles<'a> {
         }
     }
 
-    // Returns what was read, or `None` if it can't be.
-    fn readable<T: Drop>(&mut self, read: Result<T, ElfError>) -> Result<Option<T>, AllocError> {
+    /// Returns what was read, or `None` if it can't be.
+    pub(crate) fn readable<T: Drop>(
+        &mut self,
+        read: Result<T, ElfError>,
+    ) -> Result<Option<T>, AllocError> {
         match read {
             Ok(value) => Ok(Some(value)),
             Err(error) => {
@@ -138,6 +142,25 @@ impl<'a> ElfFiles<'a> {
         self.readable(ElfFile::open(alloc, CountedBuffer::new(reader)))
     }
 
+    /// Reads the jitdump at a path, if there is one.
+    pub(crate) fn jitdump(&mut self, path: &str) -> Result<Option<JitSymbols>, AllocError> {
+        let alloc = self.rt.alloc();
+        let Some(file) = self.directories.files.open(self.rt, path)? else {
+            return Ok(None);
+        };
+        let Ok(reader) = BufReader::new(alloc, file) else {
+            return Err(AllocError);
+        };
+        match JitSymbols::read(alloc, CountedBuffer::new(reader)) {
+            Ok(code) => Ok(Some(code)),
+            Err(JitSymbolsError::Memory) => Err(AllocError),
+            Err(_) => {
+                self.count_unreadable();
+                Ok(None)
+            }
+        }
+    }
+
     // Returns the build id of a file, which is empty if it has none or if it can't be read.
     fn build_id(&mut self, elf: &mut Elf) -> Result<Vec<u8>, AllocError> {
         let alloc = self.rt.alloc();
@@ -147,8 +170,12 @@ impl<'a> ElfFiles<'a> {
         }
     }
 
-    // Opens a file whose build id is the recorded one, if that is known.
-    fn open_recorded(&mut self, file: File, recorded: &[u8]) -> Result<Option<Elf>, AllocError> {
+    /// Opens a file whose build id is the recorded one, if that is known.
+    pub(crate) fn open_recorded(
+        &mut self,
+        file: File,
+        recorded: &[u8],
+    ) -> Result<Option<Elf>, AllocError> {
         let Some(mut elf) = self.open(file)? else {
             return Ok(None);
         };

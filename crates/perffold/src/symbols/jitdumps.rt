@@ -1,8 +1,9 @@
 //! The code that processes describe in jitdumps.
 
-use crate::names::NameTable;
-use crate::symbols::named_table::SymbolNumbers;
-use perfdata_symbols::JitSymbols;
+use crate::symbols::elf_files::ElfFiles;
+use crate::symbols::{SymbolId, TableId};
+use crate::text::base_name;
+use perfdata_symbols::{JitSymbols, SymbolTable};
 use std::alloc::{AllocError, Global};
 use std::collections::BTreeMap;
 
@@ -15,10 +16,11 @@ const NAME_END: &[u8] = b".dump";
 #[derive(Drop)]
 struct JitDump {
     path: Vec<u8>,
+    /// How many jitdumps were mapped before it.
+    number: u64,
     is_read: bool,
     /// The code, if it could be read.
     code: Option<JitSymbols>,
-    numbers: SymbolNumbers,
 }
 
 /// The jitdumps of processes.
@@ -26,17 +28,29 @@ struct JitDump {
 pub(crate) struct JitDumps {
     alloc: Global,
     of_processes: BTreeMap<i32, JitDump>,
+    /// The number of jitdumps that were mapped.
+    count: u64,
 }
 
 // Returns whether a path is that of a jitdump.
 fn is_jitdump(path: &[u8]) -> bool {
-    let name = match path.iter().rposition(|byte| *byte == b'/') {
-        Some(at) => path.get(at.saturating_add(1)..).unwrap_or(path),
-        None => path,
-    };
-    match name.strip_prefix(NAME_START) {
+    match base_name(path).strip_prefix(NAME_START) {
         Some(rest) => rest.ends_with(NAME_END),
         None => false,
+    }
+}
+
+impl JitDump {
+    // Reads the file, if it wasn't read yet.
+    fn read(&mut self, files: &mut ElfFiles<'_>) -> Result<(), AllocError> {
+        if self.is_read {
+            return Ok(());
+        }
+        self.is_read = true;
+        if let Ok(path) = str::from_utf8(self.path.as_slice()) {
+            self.code = files.jitdump(path)?;
+        }
+        Ok(())
     }
 }
 
@@ -45,7 +59,13 @@ impl JitDumps {
         JitDumps {
             alloc,
             of_processes: BTreeMap::new(alloc),
+            count: 0,
         }
+    }
+
+    /// Returns whether a process has a jitdump.
+    pub(crate) fn contains(&self, pid: i32) -> bool {
+        self.of_processes.get(&pid).is_some()
     }
 
     /// Adds the file that a process maps, if it is a jitdump.
@@ -60,10 +80,11 @@ impl JitDumps {
         }
         let dump = JitDump {
             path: path.to_vec(self.alloc)?,
+            number: self.count,
             is_read: false,
             code: None,
-            numbers: SymbolNumbers::new(self.alloc, true),
         };
+        self.count = self.count.saturating_add(1);
         self.of_processes.insert(pid, dump)?;
         Ok(())
     }
@@ -73,37 +94,32 @@ impl JitDumps {
         let _ = self.of_processes.remove(&pid);
     }
 
-    /// Returns the path of the jitdump of a process, if there is one that wasn't read yet.
-    pub(crate) fn unread(&self, pid: i32) -> Option<&[u8]> {
-        match self.of_processes.get(&pid) {
-            Some(dump) if !dump.is_read => Some(dump.path.as_slice()),
-            _ => None,
-        }
-    }
-
-    /// Sets the code of the jitdump of a process, or that it can't be read.
-    pub(crate) fn set_code(&mut self, pid: i32, code: Option<JitSymbols>) {
-        if let Some(dump) = self.of_processes.get_mut(&pid) {
-            dump.is_read = true;
-            dump.code = code;
-        }
-    }
-
-    /// Returns the number of the name of the last code that a process loaded at an address up to a time.
-    pub(crate) fn at(
+    /// Returns the last code that a process loaded at an address up to a time, if there is such code.
+    pub(crate) fn find(
         &mut self,
+        files: &mut ElfFiles<'_>,
         pid: i32,
         address: u64,
         time: u64,
-        names: &mut NameTable,
-    ) -> Result<Option<usize>, AllocError> {
+    ) -> Result<Option<SymbolId>, AllocError> {
         let Some(dump) = self.of_processes.get_mut(&pid) else {
             return Ok(None);
         };
+        dump.read(files)?;
         let Some(code) = &mut dump.code else {
             return Ok(None);
         };
         code.advance_to(time)?;
-        dump.numbers.at(address, code.table(), names)
+        let number = dump.number;
+        let table = TableId::Code { pid, number };
+        match code.table().find_index(address) {
+            Some(index) => Ok(Some(SymbolId { table, index })),
+            None => Ok(None),
+        }
+    }
+
+    /// Returns the symbols of the code that a process loaded so far.
+    pub(crate) fn table(&self, pid: i32) -> Option<&SymbolTable> {
+        Some(self.of_processes.get(&pid)?.code.as_ref()?.table())
     }
 }

@@ -1,11 +1,9 @@
 //! The symbols of the kernel.
 
-use crate::names::NameTable;
-use crate::symbols::named_table::SymbolNumbers;
+use crate::text::base_name;
 use bstr::ByteSlice;
 use perfdata_spaces::mapping::Mapping;
 use perfdata_symbols::{Symbol, SymbolTable, address_of, module_of, parse_kallsyms};
-use std::alloc::AllocError;
 use std::{fs, io};
 
 /// The path of the kernel's own mapping, which the name of a symbol follows.
@@ -17,10 +15,8 @@ const MODULE_SUFFIX: &[u8] = b".ko";
 /// The kernel's list of symbols.
 #[derive(Drop)]
 pub(crate) struct KernelSymbols {
-    table: SymbolTable,
-    numbers: SymbolNumbers,
-    /// What is added to an address of the recording for that of the list, modulo 2^64, once the kernel's
-    /// mapping is known.
+    pub(crate) table: SymbolTable,
+    /// What is added to an address of the recording for that of the list, modulo 2^64, once it is known.
     shift: Option<u64>,
 }
 
@@ -44,20 +40,15 @@ impl KernelSymbols {
     pub(crate) fn read(rt: &HostRuntime, path: &str) -> io::Result<KernelSymbols> {
         Ok(KernelSymbols {
             table: read_kallsyms(rt, path)?,
-            numbers: SymbolNumbers::new(rt.alloc(), false),
             shift: None,
         })
     }
 
-    /// Adds a mapping of the kernel. The first of its own with a page offset says where the symbol is that
-    /// its path names.
-    pub(crate) fn add_mapping(&mut self, path: &[u8], page_offset: u64) {
-        let Some(symbol) = path.strip_prefix(KERNEL_PATH) else {
-            return;
-        };
-        if self.shift.is_none() && page_offset != 0 {
+    /// Sets what is added to addresses of the recording, by the address of a symbol in it, if it isn't set.
+    pub(crate) fn set_shift(&mut self, symbol: &[u8], address: u64) {
+        if self.shift.is_none() {
             self.shift = Some(match address_of(&self.table, symbol) {
-                Some(address) => address.wrapping_sub(page_offset),
+                Some(listed) => listed.wrapping_sub(address),
                 None => 0,
             });
         }
@@ -112,31 +103,31 @@ impl KernelSymbols {
         }
     }
 
-    /// Returns the number of the name of the symbol at an address of a mapping, or `None` if there is none.
-    pub(crate) fn at(
-        &mut self,
-        mapping: &Mapping,
-        address: u64,
-        names: &mut NameTable,
-    ) -> Result<Option<usize>, AllocError> {
-        let index = if mapping.path.as_slice().starts_with(KERNEL_PATH) {
+    /// Returns how far an address of the recording is after the start of the symbol with an index, modulo
+    /// 2^64.
+    pub(crate) fn offset(&self, index: usize, address: u64) -> Option<u64> {
+        let symbol = self.table.symbols().get(index)?;
+        let shift = if self.is_of_kernel(symbol) {
+            self.shift.unwrap_or(0)
+        } else {
+            0
+        };
+        Some(address.wrapping_add(shift).wrapping_sub(symbol.start))
+    }
+
+    /// Returns the index of the symbol at an address of a mapping, or `None` if there is none.
+    pub(crate) fn find_index(&self, mapping: &Mapping, address: u64) -> Option<usize> {
+        if mapping.path.as_slice().starts_with(KERNEL_PATH) {
             self.kernel_index(address)
         } else {
             self.module_index(mapping, address)
-        };
-        match index {
-            Some(index) => self.numbers.of_symbol(index, &self.table, names),
-            None => Ok(None),
         }
     }
 }
 
 // Returns the name of a module by the path of its file, or by its name in brackets.
 fn module_name(path: &[u8]) -> &[u8] {
-    let name = match path.iter().rposition(|byte| *byte == b'/') {
-        Some(at) => path.get(at.saturating_add(1)..).unwrap_or(path),
-        None => path,
-    };
+    let name = base_name(path);
     if let Some(rest) = name.strip_prefix(b"[") {
         return rest.strip_suffix(b"]").unwrap_or(rest);
     }

@@ -1,6 +1,5 @@
 //! Which list names the kernel's functions.
 
-use crate::names::NameTable;
 use crate::options::KernelList;
 use crate::symbols::directories::{PathError, found};
 use crate::symbols::elf_files::is_recorded;
@@ -8,7 +7,7 @@ use crate::symbols::kernel::{KERNEL_PATH, KernelSymbols};
 use perfdata_base::raw::Endianness;
 use perfdata_cli::error::InputError;
 use perfdata_spaces::mapping::Mapping;
-use perfdata_symbols::build_id_of_notes;
+use perfdata_symbols::{SymbolTable, build_id_of_notes};
 use std::alloc::AllocError;
 use std::fmt::{Display, Formatter};
 use std::io::ErrorKind;
@@ -66,11 +65,11 @@ enum State {
     Missing(NoList),
 }
 
-// The start of the kernel's own mapping: its path, and the address of the symbol that the path names.
+// What the kernel's own mapping says: the address of a symbol in the recording.
 #[derive(Drop)]
-struct KernelMapping {
-    path: Vec<u8>,
-    page_offset: u64,
+struct RecordedSymbol {
+    name: Vec<u8>,
+    address: u64,
 }
 
 /// The symbols of the kernel, from a list that may be read only once they are looked up.
@@ -78,8 +77,8 @@ struct KernelMapping {
 pub(crate) struct ListedSymbols<'a> {
     rt: &'a HostRuntime,
     state: State,
-    /// The kernel's own mappings before the list is read.
-    mappings: Vec<KernelMapping>,
+    /// The symbol of the first of the kernel's own mappings with a page offset.
+    recorded: Option<RecordedSymbol>,
     /// Whether a frame was looked up without a list.
     lacks_names: bool,
 }
@@ -141,7 +140,7 @@ impl<'a> ListedSymbols<'a> {
         Ok(ListedSymbols {
             rt,
             state: named_state(rt, list)?,
-            mappings: Vec::new(rt.alloc()),
+            recorded: None,
             lacks_names: false,
         })
     }
@@ -157,48 +156,59 @@ impl<'a> ListedSymbols<'a> {
 
     /// Adds a mapping of the kernel.
     pub(crate) fn add_mapping(&mut self, path: &[u8], page_offset: u64) -> Result<(), AllocError> {
-        match &mut self.state {
-            State::Read(symbols) => symbols.add_mapping(path, page_offset),
-            State::Unread if path.starts_with(KERNEL_PATH) => {
-                let path = path.to_vec(self.rt.alloc())?;
-                self.mappings.push(KernelMapping { path, page_offset })?;
-            }
-            _ => {}
+        let Some(name) = path.strip_prefix(KERNEL_PATH) else {
+            return Ok(());
+        };
+        if self.recorded.is_none() && page_offset != 0 {
+            self.recorded = Some(RecordedSymbol {
+                name: name.to_vec(self.rt.alloc())?,
+                address: page_offset,
+            });
         }
         Ok(())
     }
 
     // Reads the list of the running kernel, if it wasn't tried yet.
-    fn read(&mut self, recorded: &[u8]) -> Result<(), AllocError> {
-        if !matches!(self.state, State::Unread) {
-            return Ok(());
+    fn read(&mut self, build_id: &[u8]) -> Result<(), AllocError> {
+        if matches!(self.state, State::Unread) {
+            self.state = read_running(self.rt, build_id)?;
         }
-        let mut state = read_running(self.rt, recorded)?;
-        if let State::Read(symbols) = &mut state {
-            for mapping in self.mappings.iter() {
-                symbols.add_mapping(mapping.path.as_slice(), mapping.page_offset);
-            }
-        }
-        self.state = state;
         Ok(())
     }
 
-    /// Returns the number of the name of the symbol at an address of a mapping, or `None` if there is none.
-    /// `recorded` is the build id of the recorded kernel, empty if it isn't known.
-    pub(crate) fn at(
+    /// Returns the index of the symbol at an address of a mapping, or `None` if there is none. `build_id` is
+    /// that of the recorded kernel, empty if it isn't known.
+    pub(crate) fn find_index(
         &mut self,
-        recorded: &[u8],
+        build_id: &[u8],
         mapping: &Mapping,
         address: u64,
-        names: &mut NameTable,
     ) -> Result<Option<usize>, AllocError> {
-        self.read(recorded)?;
-        match &mut self.state {
-            State::Read(symbols) => symbols.at(mapping, address, names),
-            _ => {
-                self.lacks_names = true;
-                Ok(None)
-            }
+        self.read(build_id)?;
+        let State::Read(symbols) = &mut self.state else {
+            self.lacks_names = true;
+            return Ok(None);
+        };
+        if let Some(symbol) = &self.recorded {
+            symbols.set_shift(symbol.name.as_slice(), symbol.address);
+        }
+        Ok(symbols.find_index(mapping, address))
+    }
+
+    /// Returns how far an address of the recording is after the start of the symbol with an index, modulo
+    /// 2^64.
+    pub(crate) fn offset(&self, index: usize, address: u64) -> Option<u64> {
+        match &self.state {
+            State::Read(symbols) => symbols.offset(index, address),
+            _ => None,
+        }
+    }
+
+    /// Returns the list, if it was read.
+    pub(crate) fn table(&self) -> Option<&SymbolTable> {
+        match &self.state {
+            State::Read(symbols) => Some(&symbols.table),
+            _ => None,
         }
     }
 }

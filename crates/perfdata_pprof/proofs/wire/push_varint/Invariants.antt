@@ -1,4 +1,4 @@
-use Rattle.std.proofs.Common.{◌≡◌, ◌++◌, ℕ}
+use Rattle.std.proofs.Common.{◌≡◌, ◌++◌}
 use Rattle.perfdata_pprof.specs.Wire.{varint}
 use Rattle.perfdata_pprof.proofs.wire.push_varint.Given as goal
 

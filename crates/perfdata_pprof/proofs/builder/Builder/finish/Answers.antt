@@ -1,0 +1,21 @@
+use Rattle.std.proofs.Common.{length, map, refl}
+use Rattle.perfdata_pprof.specs.Messages.{sample_value}
+use Rattle.perfdata_pprof.proofs.Building.{located, valued}
+use Rattle.perfdata_pprof.proofs.builder.Builder.finish.Goals as goal
+
+pub returns : goal.returns
+returns c =
+    let self = c.args.self in
+    record {
+      sample_types = c.in_ok-types_of.ensures;
+      mappings = c.in_ok-mappings_of.ensures;
+      functions = c.in_ok-functions_of.ensures;
+      locations = located self.places.keys c.in_ok-locations_of.field-0.items c.len-mapping_count.result c.len-function_count.result
+          (length self.mappings.keys) (length self.functions.keys) c.in_ok-locations_of.ensures c.len-mapping_count.ensures.len c.len-function_count.ensures.len;
+      values = valued (map sample_value c.in_ok-samples.samples.items) c.len.result (length self.sample_types.keys) c.len.ensures.len c.in_ok-samples.ensures;
+      strings = c.in_ok-finish.ensures.strings;
+      duration = refl;
+      period_type = refl;
+      period = refl;
+      default_sample_type = refl;
+    }

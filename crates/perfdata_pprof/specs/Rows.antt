@@ -1,0 +1,33 @@
+-- Rows with an index or an id.
+use Rattle.std.specs.Prelude.{◌≡◌, ℕ, ◌+◌, ◌-◌, ◌<◌, ◌≤◌, Bool, true, List, [], ◌∷◌, ◌++◌, ◌⊎◌, length, slice_get, Some}
+use Rattle.indexmap.specs.IndexSet.{insert_key}
+
+-- No row is there twice.
+abbrev pub AreDistinct : {A : Type 0} → List A → Type 0
+AreDistinct {A} rows = (first second : ℕ) (row : A) → slice_get rows first ≡ Some row → slice_get rows second ≡ Some row → first ≡ second
+
+-- A row has an index. It alone may be appended, so other rows keep theirs.
+pub record Interns {A : Type 0} (old : List A) (row : A) (index : ℕ) (new : List A) : Type 0 where
+  pub is_at : slice_get new index ≡ Some row
+  pub adds : (new ≡ old) ⊎ (new ≡ old ++ row ∷ [])
+
+-- A number is the id of one of some rows.
+pub record IsId (id count : ℕ) : Type 0 where
+  pub positive : 0 < id
+  pub within : id ≤ count
+
+-- A row has an id, which is its index and 1.
+pub record Identifies {A : Type 0} (old : List A) (row : A) (id : ℕ) (new : List A) : Type 0 where
+  pub is_id : IsId id (length new)
+  pub interns : Interns old row (id - 1) new
+
+-- The same, if rows are the same when a test says so.
+pub record IdentifiesBy {A : Type 0} (eq : A → A → Bool) (old : List A) (row : A) (id : ℕ) (new : List A) : Type 0 where
+  pub is_id : IsId id (length new)
+  pub stored : (same : A) × (slice_get new (id - 1) ≡ Some same) × (eq row same ≡ true)
+  pub adds : new ≡ insert_key eq old row
+
+-- The rows with their ids, of which the first is `id`.
+abbrev pub numbered : {A B : Type 0} → (ℕ → A → B) → ℕ → List A → List B
+numbered with_id id [] = []
+numbered with_id id (row ∷ rows) = with_id id row ∷ numbered with_id (id + 1) rows

@@ -1,0 +1,397 @@
+//! Builds a profile of mappings, functions, locations and samples.
+ghost use Rattle.std.specs.Prelude.{◌≡◌, map, All, IfOk, OnErr};
+ghost use Rattle.perfdata_pprof.specs.Messages.{profile_value, sample_value};
+ghost use Rattle.perfdata_pprof.specs.Rows.{Identifies, IdentifiesBy, numbered};
+ghost use Rattle.perfdata_pprof.specs.Tables.{Builds, HasValues, function_row, known_id, location_row};
+ghost use Rattle.perfdata_pprof.specs.Tables.{mapping_row};
+
+use crate::profile::{Function, Label, Location, Mapping, Profile, Sample, ValueType};
+use crate::strings::StringTable;
+use indexmap::{IndexMap, IndexSet};
+use std::alloc::{AllocError, Global};
+use std::hash::Hash;
+
+/// A file that is mapped into memory. Its texts are indices of the table of strings.
+#[derive(Clone, Copy, PartialEq, Eq, Hash)]
+pub struct MappedFile {
+    /// The first address.
+    pub memory_start: u64,
+    /// The address after the last.
+    pub memory_limit: u64,
+    /// The offset in the file of the first address.
+    pub file_offset: u64,
+    /// The path of the file.
+    pub filename: u64,
+    /// The build id of the file in hexadecimal digits, or 0.
+    pub build_id: u64,
+}
+
+/// The names of a function, which are indices of the table of strings.
+#[derive(Clone, Copy, PartialEq, Eq, Hash)]
+pub struct FunctionNames {
+    /// The name.
+    pub name: u64,
+    /// The name as the file has it.
+    pub system_name: u64,
+}
+
+/// Where a frame of a stack is.
+#[derive(Clone, Copy, PartialEq, Eq, Hash)]
+pub struct Place {
+    /// The id of the mapping that contains the address, or 0.
+    pub mapping_id: u64,
+    /// The address.
+    pub address: u64,
+    /// The id of the function.
+    pub function_id: u64,
+}
+
+/// The thread of samples. Its name is an index of the table of strings.
+#[derive(Clone, Copy, PartialEq, Eq, Hash)]
+pub struct SampleThread {
+    /// The name.
+    pub name: u64,
+    /// The process, if processes are distinguished.
+    pub pid: Option<i32>,
+    /// The thread, if threads are distinguished.
+    pub tid: Option<i32>,
+}
+
+// What the samples of a row have in common.
+#[derive(PartialEq, Eq, Hash, Drop)]
+struct RowKey {
+    location_ids: Vec<u64>,
+    thread: SampleThread,
+}
+
+/// How samples of a profile are added up.
+#[derive(Clone, Copy)]
+pub struct Weight {
+    /// The number of samples.
+    pub samples: u64,
+    /// The index of the value to which the weight is added.
+    pub column: usize,
+    /// The sum of the weights.
+    pub weight: u64,
+}
+
+/// What a profile says of all its samples.
+#[derive(Clone, Copy)]
+pub struct Summary {
+    /// The duration in nanoseconds, or 0.
+    pub duration: u64,
+    /// What counts the events between two samples.
+    pub period_type: Option<ValueType>,
+    /// The number of events between two samples, or 0.
+    pub period: u64,
+    /// The name of the sample type that is shown first.
+    pub default_sample_type: u64,
+}
+
+/// Builds a profile: texts, mappings, functions, locations and samples. A row that was added before gets the
+/// id that it has.
+#[derive(Drop)]
+pub struct Builder {
+    alloc: Global,
+    strings: StringTable,
+    sample_types: IndexSet<ValueType>,
+    mappings: IndexSet<MappedFile>,
+    functions: IndexSet<FunctionNames>,
+    places: IndexSet<Place>,
+    rows: IndexMap<RowKey, Vec<u64>>,
+}
+
+impl Builder {
+    ghost use Rattle.perfdata_pprof.specs.Builders.{tables_of};
+
+    /// Creates a profile without samples, of these sample types.
+    ///
+    /// Fails if memory runs out.
+    pub fn new(alloc: Global) -> Result<Builder, AllocError> {
+        Ok(Builder {
+            alloc,
+            strings: StringTable::new(alloc)?,
+            sample_types: IndexSet::new(alloc),
+            mappings: IndexSet::new(alloc),
+            functions: IndexSet::new(alloc),
+            places: IndexSet::new(alloc),
+            rows: IndexMap::new(alloc),
+        })
+    }
+
+    /// Returns the index of a text. Bytes that aren't UTF-8 become U+FFFD.
+    ///
+    /// Fails if memory runs out.
+    pub fn text(&mut self, text: &[u8]) -> Result<u64, AllocError> {
+        self.strings.intern(text)
+    }
+
+    /// Returns the index of the values of a sample type, which is appended if it is new. Samples that are
+    /// there have 0 of it.
+    ///
+    /// Fails if memory runs out.
+    pub fn add_type(&mut self, value_type: ValueType) -> Result<usize, AllocError> {
+        let (index, _is_new) = self.sample_types.insert_full(value_type)?;
+        Ok(index)
+    }
+
+    /// Returns the number of sample types.
+    pub fn type_count(&self) -> usize {
+        self.sample_types.len()
+    }
+
+    /// Returns the sample type with an index.
+    pub fn type_at(&self, index: usize) -> Option<ValueType> {
+        self.sample_types.get_index(index).copied()
+    }
+
+    /// Returns the id of a mapping.
+    ///
+    /// Fails if memory runs out.
+    pub fn mapping(&mut self, file: MappedFile) -> Result<u64, AllocError>
+        ensures ok { IfOk result (λ id.
+            Identifies (tables_of self.old).mappings file id (tables_of self.new).mappings) }
+        ensures err { OnErr result (tables_of self.new ≡ tables_of self.old) }
+        ensures rest { tables_of self.new
+            ≡ record (tables_of self.old) { mappings = (tables_of self.new).mappings } }
+    {
+        id_of(&mut self.mappings, file)
+    }
+
+    /// Returns the id of a function.
+    ///
+    /// Fails if memory runs out.
+    pub fn function(&mut self, names: FunctionNames) -> Result<u64, AllocError>
+        ensures ok { IfOk result (λ id.
+            Identifies (tables_of self.old).functions names id (tables_of self.new).functions) }
+        ensures err { OnErr result (tables_of self.new ≡ tables_of self.old) }
+        ensures rest { tables_of self.new
+            ≡ record (tables_of self.old) { functions = (tables_of self.new).functions } }
+    {
+        id_of(&mut self.functions, names)
+    }
+
+    /// Returns the id of a location. The ids in it that no mapping or function has are 0 in the profile.
+    ///
+    /// Fails if memory runs out.
+    pub fn location(&mut self, place: Place) -> Result<u64, AllocError>
+        ensures ok { IfOk result (λ id.
+            Identifies (tables_of self.old).locations place id (tables_of self.new).locations) }
+        ensures err { OnErr result (tables_of self.new ≡ tables_of self.old) }
+        ensures rest { tables_of self.new
+            ≡ record (tables_of self.old) { locations = (tables_of self.new).locations } }
+    {
+        id_of(&mut self.places, place)
+    }
+
+    // Returns values that are 0.
+    fn zeros(&self) -> Result<Vec<u64>, AllocError> {
+        vec![in self.alloc; 0; self.sample_types.len()]
+    }
+
+    /// Adds samples of a thread with a stack of locations, leaf first.
+    ///
+    /// Fails if memory runs out.
+    pub fn add(
+        &mut self,
+        thread: SampleThread,
+        location_ids: Vec<u64>,
+        weight: Weight,
+    ) -> Result<(), AllocError> {
+        let key = RowKey {
+            location_ids,
+            thread,
+        };
+        let index = match self.rows.get_index_of(&key) {
+            Some(index) => index,
+            None => {
+                let zeros = self.zeros()?;
+                let index = self.rows.len();
+                self.rows.insert(key, zeros)?;
+                index
+            }
+        };
+        let type_count = self.sample_types.len();
+        if let Some(values) = self.rows.get_index_mut(index) {
+            values.resize(type_count, 0)?;
+            add_to(values, 0, weight.samples);
+            add_to(values, weight.column, weight.weight);
+        }
+        Ok(())
+    }
+
+    /// Returns the profile.
+    ///
+    /// Fails if memory runs out.
+    pub fn finish(self, summary: Summary) -> Result<Profile, AllocError>
+        ensures { IfOk result (λ profile. Builds (tables_of self) summary (profile_value profile)) }
+    {
+        let Builder {
+            alloc,
+            mut strings,
+            sample_types,
+            mappings,
+            functions,
+            places,
+            rows,
+        } = self;
+        let samples = samples_of(alloc, &mut strings, rows, sample_types.len())?;
+        let (mapping_count, function_count) = (mappings.len(), functions.len());
+        Ok(Profile {
+            sample_types: types_of(alloc, sample_types)?,
+            samples,
+            mappings: mappings_of(alloc, &mappings)?,
+            locations: locations_of(alloc, &places, mapping_count, function_count)?,
+            functions: functions_of(alloc, &functions)?,
+            strings: strings.finish()?,
+            duration: summary.duration,
+            period_type: summary.period_type,
+            period: summary.period,
+            default_sample_type: summary.default_sample_type,
+        })
+    }
+}
+
+// Returns the id of a row, which is added if it is new. Ids count from 1.
+fn id_of<T: Eq + Hash + Drop>(rows: &mut IndexSet<T>, row: T) -> Result<u64, AllocError>
+    ensures ok { IfOk result (λ id.
+        IdentifiesBy T.eq rows.old.keys row id rows.new.keys) }
+    ensures err { OnErr result (rows.new.keys ≡ rows.old.keys) }
+{
+    let (index, _is_new) = rows.insert_full(row)?;
+    let _count = rows.len(); // for the prover
+    Ok(index as u64 + 1)
+}
+
+// Adds a weight to a value, if there is one with this index.
+fn add_to(values: &mut Vec<u64>, index: usize, weight: u64) {
+    if let Some(value) = values.get_mut(index) {
+        *value = value.saturating_add(weight);
+    }
+}
+
+// Returns the sample types.
+fn types_of(alloc: Global, rows: IndexSet<ValueType>) -> Result<Vec<ValueType>, AllocError>
+    ensures { IfOk result (λ types. types.items ≡ rows.keys) }
+{
+    rows.into_iter().collect(alloc)
+}
+
+// Returns the mappings with their ids.
+fn mappings_of(alloc: Global, files: &IndexSet<MappedFile>) -> Result<Vec<Mapping>, AllocError>
+    ensures { IfOk result (λ mappings. mappings.items ≡ numbered mapping_row 1 files.now.keys) }
+{
+    let mut mappings = Vec::new(alloc);
+    'rows: for file in files {
+        mappings.push(Mapping {
+            id: mappings.len() as u64 + 1,
+            memory_start: file.memory_start,
+            memory_limit: file.memory_limit,
+            file_offset: file.file_offset,
+            filename: file.filename,
+            build_id: file.build_id,
+            has_functions: true,
+        })?;
+    }
+    Ok(mappings)
+}
+
+// Returns the functions with their ids.
+fn functions_of(alloc: Global, rows: &IndexSet<FunctionNames>) -> Result<Vec<Function>, AllocError>
+    ensures { IfOk result (λ functions. functions.items ≡ numbered function_row 1 rows.now.keys) }
+{
+    let mut functions = Vec::new(alloc);
+    'rows: for names in rows {
+        functions.push(Function {
+            id: functions.len() as u64 + 1,
+            name: names.name,
+            system_name: names.system_name,
+        })?;
+    }
+    Ok(functions)
+}
+
+// Returns an id, or 0 if none of some rows has it.
+fn known(id: u64, count: usize) -> u64
+    ensures { result ≡ known_id count id }
+{
+    if (count as u64) < id { 0 } else { id }
+}
+
+// Returns the locations with their ids.
+fn locations_of(
+    alloc: Global,
+    places: &IndexSet<Place>,
+    mapping_count: usize,
+    function_count: usize,
+) -> Result<Vec<Location>, AllocError>
+    ensures { IfOk result (λ locations.
+        locations.items ≡ numbered (location_row mapping_count function_count) 1 places.now.keys) }
+{
+    let mut locations = Vec::new(alloc);
+    'rows: for place in places {
+        locations.push(Location {
+            id: locations.len() as u64 + 1,
+            mapping_id: known(place.mapping_id, mapping_count),
+            address: place.address,
+            function_id: known(place.function_id, function_count),
+        })?;
+    }
+    Ok(locations)
+}
+
+// Appends a label with a number.
+fn push_number_label(
+    labels: &mut Vec<Label>,
+    strings: &mut StringTable,
+    key: &str,
+    number: Option<i32>,
+) -> Result<(), AllocError> {
+    if let Some(number) = number {
+        labels.push(Label {
+            key: strings.intern(key.as_bytes())?,
+            text: 0,
+            number: i64::from(number).cast_unsigned(),
+        })?;
+    }
+    Ok(())
+}
+
+// Returns the labels of a thread.
+fn labels_of(
+    alloc: Global,
+    strings: &mut StringTable,
+    thread: SampleThread,
+) -> Result<Vec<Label>, AllocError> {
+    let mut labels = Vec::new(alloc);
+    labels.push(Label {
+        key: strings.intern(b"comm")?,
+        text: thread.name,
+        number: 0,
+    })?;
+    push_number_label(&mut labels, strings, "pid", thread.pid)?;
+    push_number_label(&mut labels, strings, "tid", thread.tid)?;
+    Ok(labels)
+}
+
+// Returns the samples. Those that were added before a sample type have 0 of it.
+fn samples_of(
+    alloc: Global,
+    strings: &mut StringTable,
+    rows: IndexMap<RowKey, Vec<u64>>,
+    type_count: usize,
+) -> Result<Vec<Sample>, AllocError>
+    ensures { IfOk result (λ samples. All (HasValues type_count) (map sample_value samples.items)) }
+{
+    let mut samples = Vec::new(alloc);
+    'rows: for (key, mut values) in rows {
+        values.resize(type_count, 0)?;
+        let labels = labels_of(alloc, strings, key.thread)?;
+        samples.push(Sample {
+            location_ids: key.location_ids,
+            values,
+            labels,
+        })?;
+    }
+    Ok(samples)
+}

@@ -1,0 +1,77 @@
+//! What a process has mapped at the time of a sample.
+
+use crate::unwinding::code_files::{CodeFiles, LoadedPlace};
+use perfdata_events::call_chain::CallContext;
+use perfdata_spaces::address_spaces::AddressSpaces;
+use perfdata_spaces::mapping::PROTECTION_EXEC;
+use perfdata_unwind::{CodeMap, CodePlace, Machine};
+use std::alloc::AllocError;
+
+/// What a process has mapped at the time of a sample.
+#[derive(Drop)]
+pub(crate) struct ProcessCode<'b, 'a> {
+    files: &'b mut CodeFiles<'a>,
+    spaces: &'b AddressSpaces,
+    pid: i32,
+    machine: Machine,
+    /// What is at the address that was loaded last, if a file is there.
+    loaded: Option<LoadedPlace>,
+}
+
+impl<'b, 'a> ProcessCode<'b, 'a> {
+    pub(crate) fn new(
+        files: &'b mut CodeFiles<'a>,
+        spaces: &'b AddressSpaces,
+        pid: i32,
+        machine: Machine,
+    ) -> ProcessCode<'b, 'a> {
+        ProcessCode {
+            files,
+            spaces,
+            pid,
+            machine,
+            loaded: None,
+        }
+    }
+
+    // Returns what is at an address, if a file is there.
+    fn find(&mut self, address: u64) -> Result<Option<LoadedPlace>, AllocError> {
+        let context = CallContext::User;
+        let Some(index) = self.spaces.find_index(self.pid, address, context) else {
+            return Ok(None);
+        };
+        match self.spaces.mapping(index) {
+            Some(mapping) => self.files.find(self.machine, index, mapping, address),
+            None => Ok(None),
+        }
+    }
+
+    /// Returns the machine of the file at an address.
+    pub(crate) fn machine_at(&mut self, address: u64) -> Result<Option<Machine>, AllocError> {
+        match self.find(address)? {
+            Some(place) => Ok(self.files.machine(place)),
+            None => Ok(None),
+        }
+    }
+}
+
+impl CodeMap for ProcessCode<'_, '_> {
+    fn is_executable(&self, address: u64) -> bool {
+        match self.spaces.find(self.pid, address, CallContext::User) {
+            Some(mapping) => mapping.protection & PROTECTION_EXEC != 0,
+            None => false,
+        }
+    }
+
+    fn load(&mut self, address: u64) -> Result<(), AllocError> {
+        self.loaded = self.find(address)?;
+        Ok(())
+    }
+
+    fn place(&self, _address: u64) -> CodePlace<'_> {
+        match &self.loaded {
+            Some(place) => self.files.place(place),
+            None => CodePlace::Nothing,
+        }
+    }
+}
