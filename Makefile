@@ -1,7 +1,7 @@
 # The commands of this repository. Each calls rt or a script; `make` lists them.
 PREFIX ?= /usr/local
 DESTDIR ?=
-FILE ?= data/several.data
+FILE ?= tests/recordings/several.data
 export DESTDIR PREFIX
 
 .PHONY: help try test check programs lib install dist wheel clean

@@ -21,12 +21,12 @@ from dewikura.__main__ import main, record_line
 TOP = pathlib.Path(__file__).resolve().parent.parent.parent
 sys.path.insert(0, str(TOP / "tests"))
 import perfdata
-CALLS = TOP / "crates/perfinfo/data/calls.data"
-CALLS_PIPE = TOP / "crates/perfinfo/data/calls.pipe"
-FIRST = TOP / "crates/perflist/data/first.data"
-SEVERAL = TOP / "crates/perflist/data/several.data"
+CALLS = TOP / "tests/recordings/calls.data"
+CALLS_PIPE = TOP / "tests/recordings/calls.pipe"
+FIRST = TOP / "tests/recordings/first.data"
+SEVERAL = TOP / "tests/recordings/several.data"
 STREAM = TOP / "crates/perflist/stdin"
-DUMP = TOP / "crates/perflist/data/node.dump"
+DUMP = TOP / "tests/recordings/node.dump"
 HAS_NUMPY, HAS_PANDAS = (importlib.util.find_spec(name) is not None for name in ("numpy", "pandas"))
 PERFLIST = os.environ.get("PERFLIST")
 
@@ -552,7 +552,7 @@ class ProgramTest(unittest.TestCase):
     @unittest.skipUnless(PERFLIST, "PERFLIST isn't set")
     def test_same_as_perflist(self):
         """Each recording, truncations and random changes of them: the same records as perflist, and an error where it has one."""
-        paths = sorted(glob.glob(f"{TOP}/crates/*/data/*.data") + glob.glob(f"{TOP}/crates/*/data/*.pipe")) + [str(STREAM)]
+        paths = sorted(glob.glob(f"{TOP}/tests/recordings/*.data") + glob.glob(f"{TOP}/tests/recordings/*.pipe")) + [str(STREAM)]
         inputs = [pathlib.Path(path).read_bytes() for path in paths]
         first, stream, chance = FIRST.read_bytes(), STREAM.read_bytes(), random.Random(1)
         inputs += [data[:chance.randrange(len(data))] for data in (first, stream) for _ in range(60)]
