@@ -1,12 +1,18 @@
-# What the scripts share that run a program: the folder $room, which is removed at the end, and functions that set $failed to 1 where the program
-# does something else. Sourced by bash. The functions run $program.
+# What the scripts share that run a program: $recordings, the folder $room, which is removed at the end, and functions that set $failed to 1 where
+# the program does something else. Sourced by bash. The functions run $program.
 set -uo pipefail
 tests=$(dirname "$(realpath "${BASH_SOURCE[0]}")")
+recordings=$tests/recordings
 room=$(mktemp -d)
 trap 'rm -rf "$room"' EXIT
 failed=0
 # the file that the program reads through a pipe on standard input
 input=/dev/null
+
+# program_of NAME: the path of a program that `rt ci` or `rt run` built, or of the one in the folder that the variable PROGRAMS names
+program_of() {
+    realpath "${PROGRAMS:-$tests/../crates/$1/out}/$1"
+}
 
 # runs ARGUMENT..: runs the program; its exit status is in $status
 runs() {
