@@ -1,5 +1,5 @@
 -- The FDE at an address, by two searches in the order of the first addresses.
-use Rattle.std.proofs.Common.{◌≡◌, ℕ, ◌-◌, ◌<◌, ◌≤◌, List, [], ◌∷◌, ◌++◌, length, get_or, refl, sym, ap, ◌∙◌, subst, arith, leb, ltb, true, false, Option, Some, None, inl, inr}
+use Rattle.std.proofs.Common.{◌≡◌, ℕ, ◌+◌, ◌-◌, ◌<◌, ◌≤◌, List, [], ◌∷◌, ◌++◌, length, get_or, refl, sym, ap, ◌∙◌, subst, arith, leb, ltb, true, false, Option, Some, None, inl, inr}
 use Rattle.std.specs.List.Sorted.{IsPartitionPoint, IsNonDecreasingBy}
 use Rattle.std.proofs.lemmas.Bool.{cases_lt, leb-true, ltb-true, le-leb, lt-ltb, true≢false}
 use Rattle.std.proofs.lemmas.List.{get_or_default}
@@ -132,3 +132,27 @@ none_nearest fs x above i f low none a =
     let e : (get_or fs i f).start ≡ f.start = ap (λ (h : Fde). h.start) (sym a.fde_is) in
     let small = a.starts in
     not_low (get_or fs i f).start x (low.1 i f (omega (arith, none)) a.within) (omega (arith, e, small))
+
+-- an FDE that starts after the one before it, and up to the address, which is before the one after it
+pub nearest_between : (fs : List Fde) (x i : ℕ) (f : Fde) → IsNonDecreasingBy (λ (h : Fde). h.start) fs → i < length fs → f ≡ get_or fs i f → f.start ≤ x → (0 < i → (g : Fde) → (get_or fs (i - 1) g).start < f.start) → (i + 1 < length fs → (g : Fde) → x < (get_or fs (i + 1) g).start) → IsNearest fs x i f
+nearest_between fs x i f up within is starts before after = record {
+  within = within;
+  fde_is = is;
+  starts = starts;
+  greatest = λ k d k_within k_small. elim (cases_lt i k) [
+    | inl later ↦ (let next : i + 1 < length fs = omega (arith, later, k_within) in
+        let r = up (i + 1) k d (omega (arith, later)) k_within in
+        let s = after next d in
+        absurd (omega (arith, r, s, k_small)))
+    | inr earlier ↦ (let r = up k i d earlier within in
+        let e : (get_or fs i d).start ≡ f.start = ap (λ (h : Fde). h.start) (get_or_default fs i d f within ∙ sym is) in
+        omega (arith, r, e))
+  ];
+  first = λ k k_within k_start. elim (cases_lt k i) [
+    | inl less ↦ (let some : 0 < i = omega (arith, less) in
+        let b = before some f in
+        let r = up k (i - 1) f (omega (arith, less)) (omega (arith, within, some)) in
+        absurd (omega (arith, b, r, k_start)))
+    | inr h ↦ h
+  ];
+}

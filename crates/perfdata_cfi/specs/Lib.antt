@@ -7,4 +7,5 @@ pub mod Instructions
 pub mod Numbers
 pub mod Pointers
 pub mod Rows
+pub mod TableRows
 pub mod Tables

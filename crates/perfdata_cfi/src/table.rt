@@ -1,6 +1,7 @@
 //! The entries of a section, in the order of the addresses that they describe.
-ghost use Rattle.std.specs.Prelude.{◌≡◌, ◌≤◌, ◌<◌, ◌^◌, ℕ, length, slice_range, slice_index_or, true, IfOk};
-ghost use Rattle.std.specs.Prelude.{IfSome, OnOk, All, false, nat_le, nat_lt};
+ghost use Rattle.std.specs.Prelude.{◌≡◌, ◌≤◌, ◌<◌, ◌+◌, ◌-◌, ◌^◌, ℕ, length};
+ghost use Rattle.std.specs.Prelude.{slice_range, slice_index_or, true, IfOk};
+ghost use Rattle.std.specs.Prelude.{IfSome, OnOk, All, Some, false, nat_le, nat_lt};
 ghost use Rattle.std.specs.List.Sorted.{IsNonDecreasingBy, IsPartitionPoint, IsPermutation, IsStableByKey};
 ghost use Rattle.std.specs.Ordering.{nat_cmp};
 ghost use Rattle.perfdata_cfi.specs.Tables.{IsCieIn, IsCieOf, IsFdeIn, IsFdeOf, IsFdeAt, FdesOfSection};
@@ -16,9 +17,9 @@ use crate::program::{State, run};
 use crate::row::Row;
 use std::alloc::{AllocError, Global};
 
-/// The call frame information of a section.
+// The entries of a section.
 #[derive(Drop)]
-pub struct FrameTable {
+pub(crate) struct EntryTable {
     machine: Machine,
     address: u64,
     bytes: Vec<u8>,
@@ -38,35 +39,28 @@ pub struct FoundRow {
     pub is_signal: bool,
 }
 
-impl FrameTable {
-    ghost use Rattle.perfdata_cfi.specs.FrameTables.{fdes_of, cies_of, bytes_of, IsRowAt, encoding_of};
-    ghost use Rattle.perfdata_cfi.specs.FrameTables.{program_of};
+impl EntryTable {
+    ghost use Rattle.perfdata_cfi.specs.TableRows.{IsRowIn, encoding_in, program_in};
     ghost use Rattle.perfdata_cfi.specs.Rows.{Runs, moment_of};
 
-    /// Reads the entries of a section, whose first byte is at an address.
-    ///
-    /// An entry that is truncated ends the section. FDEs that can't be used are left out: those of size 0,
-    /// and those that can't be read or whose CIE can't.
-    ///
-    /// # Errors
-    ///
-    /// Returns `AllocError` if an allocation fails.
-    pub fn new(
+    // Reads the entries of a section, whose first byte is at an address.
+    pub(crate) fn new(
         alloc: Global,
         machine: Machine,
         section: FrameSection,
         address: u64,
         bytes: Vec<u8>,
-    ) -> Result<FrameTable, AllocError>
-        ensures cies { IfOk result (λ t. All (IsCieOf section bytes.items) (cies_of t)) }
-        ensures fdes { IfOk result (λ t. All (IsFdeOf section address bytes.items (cies_of t)) (fdes_of t)) }
-        ensures in_order { IfOk result (λ t. SortedFdesOf section address bytes.items (cies_of t)
-            (fdes_of t)) }
-        ensures bytes { IfOk result (λ t. bytes_of t ≡ bytes.items) }
+    ) -> Result<EntryTable, AllocError>
+        ensures cies { IfOk result (λ t. All (IsCieOf section bytes.items) t.cies.items) }
+        ensures fdes { IfOk result (λ t.
+            All (IsFdeOf section address bytes.items t.cies.items) t.fdes.items) }
+        ensures in_order { IfOk result (λ t. SortedFdesOf section address bytes.items t.cies.items
+            t.fdes.items) }
+        ensures bytes { IfOk result (λ t. t.bytes.items ≡ bytes.items) }
     {
         let cies = read_cies(alloc, section, &bytes)?;
         let fdes = read_sorted_fdes(alloc, section, address, &bytes, &cies)?;
-        Ok(FrameTable {
+        Ok(EntryTable {
             machine,
             address,
             bytes,
@@ -75,31 +69,31 @@ impl FrameTable {
         })
     }
 
-    /// Returns the FDEs, in the order of their first addresses.
-    pub fn fdes(&self) -> &[Fde]
-        ensures { result.now ≡ fdes_of self.now }
+    // The FDEs, in the order of their first addresses.
+    pub(crate) fn fdes(&self) -> &[Fde]
+        ensures { result.now ≡ self.now.fdes.items }
     {
         &self.fdes[..]
     }
 
-    /// Returns the CIEs, in the order of the section.
-    pub fn cies(&self) -> &[Cie]
-        ensures { result.now ≡ cies_of self.now }
+    // The CIEs, in the order of the section.
+    pub(crate) fn cies(&self) -> &[Cie]
+        ensures { result.now ≡ self.now.cies.items }
     {
         &self.cies[..]
     }
 
-    /// Returns the bytes of the section.
-    pub fn bytes(&self) -> &[u8]
-        ensures { result.now ≡ bytes_of self.now }
+    // The bytes of the section.
+    pub(crate) fn bytes(&self) -> &[u8]
+        ensures { result.now ≡ self.now.bytes.items }
     {
         &self.bytes[..]
     }
 
-    /// Returns the bytes at a span, or `None` if they aren't within the section.
-    pub fn bytes_at(&self, span: Span) -> Option<&[u8]>
+    // The bytes at a span, or `None` if they aren't within the section.
+    pub(crate) fn bytes_at(&self, span: Span) -> Option<&[u8]>
         ensures bytes { IfSome result (λ bytes. bytes.now
-            ≡ slice_range (bytes_of self.now) span.start span.end) }
+            ≡ slice_range self.now.bytes.items span.start span.end) }
         ensures len { IfSome result (λ bytes. length bytes.now ≤ span.end) }
     {
         if span.start <= span.end && span.end <= self.bytes.len() {
@@ -109,24 +103,28 @@ impl FrameTable {
         }
     }
 
-    /// Returns the index of the FDE at an address.
-    ///
-    /// That is the first one of the section of those with the greatest first address up to this one, if it
-    /// describes the address.
-    pub fn find(&self, address: u64) -> Option<usize>
-        ensures { IsFdeAt (fdes_of self.now) address result }
+    // The index of the FDE at an address.
+    pub(crate) fn find(&self, address: u64) -> Option<usize>
+        ensures { IsFdeAt self.now.fdes.items address result }
     {
         find_in(&self.fdes, address)
     }
 
-    /// Returns the row at an address that the FDE with an index describes.
-    ///
-    /// # Errors
-    ///
-    /// Returns the error of the first instruction that can't be read or carried out, and `Memory` if an
-    /// allocation fails, which only instructions that remember a row make.
-    pub fn row(&self, alloc: Global, index: usize, address: u64) -> Result<FoundRow, CfiError>
-        ensures { IfOk result (λ found. IsRowAt self.now index address found) }
+    // Whether the FDE with an index is that at an address. If others have its first address, this is false.
+    pub(crate) fn is_at(&self, index: usize, address: u64) -> bool
+        ensures { result ≡ true → IsFdeAt self.now.fdes.items address (Some index) }
+    {
+        is_at(&self.fdes, index, address)
+    }
+
+    // The row at an address that the FDE with an index describes.
+    pub(crate) fn row(
+        &self,
+        alloc: Global,
+        index: usize,
+        address: u64,
+    ) -> Result<FoundRow, CfiError>
+        ensures { IfOk result (λ found. IsRowIn self.now index address found) }
     {
         if index >= self.fdes.len() {
             return Err(CfiError::NoCie);
@@ -161,8 +159,8 @@ impl FrameTable {
         address: u64,
         state: &mut State,
     ) -> Result<(), CfiError>
-        ensures { OnOk result (Runs (encoding_of self.now cie.now span) cie.now initial.now address
-            (program_of self.now span) (moment_of state.old) (moment_of state.new)) }
+        ensures { OnOk result (Runs (encoding_in self.now cie.now span) cie.now initial.now address
+            (program_in self.now span) (moment_of state.old) (moment_of state.new)) }
     {
         let program = self.bytes_at(span).ok_or(CfiError::Truncated)?;
         let encoding = Encoding {
@@ -312,6 +310,46 @@ fn find_in(fdes: &[Fde], address: u64) -> Option<usize>
     } else {
         None
     }
+}
+
+// Whether the FDE with an index has another first address than the one before it.
+fn is_first(fdes: &[Fde], index: usize, start: u64) -> bool
+    requires { index < length fdes.now }
+    ensures { result ≡ true → 0 < index
+        → (f : Fde) → (slice_index_or fdes.now (index - 1) f).start < start }
+{
+    index == 0 || fdes[index - 1].start < start
+}
+
+// Whether the FDE after the one with an index has a first address above an address.
+fn is_last(fdes: &[Fde], index: usize, address: u64) -> bool
+    requires { index < length fdes.now }
+    ensures { result ≡ true → index + 1 < length fdes.now
+        → (f : Fde) → address < (slice_index_or fdes.now (index + 1) f).start }
+{
+    index + 1 >= fdes.len() || address < fdes[index + 1].start
+}
+
+// Whether the FDE with an index describes an address.
+fn describes(fdes: &[Fde], index: usize, address: u64) -> bool
+    requires { index < length fdes.now }
+    ensures { result ≡ true → (f : Fde) → ((slice_index_or fdes.now index f).start ≤ address)
+        × (address < (slice_index_or fdes.now index f).start + (slice_index_or fdes.now index f).size) }
+{
+    let fde = fde_at(fdes, index);
+    fde.start <= address && address - fde.start < fde.size
+}
+
+// Whether the FDE with an index is that at an address. If others have its first address, this is false.
+fn is_at(fdes: &[Fde], index: usize, address: u64) -> bool
+    requires { IsNonDecreasingBy (λ f. f.start) fdes.now }
+    ensures { result ≡ true → IsFdeAt fdes.now address (Some index) }
+{
+    if index >= fdes.len() || !describes(fdes, index, address) {
+        return false;
+    }
+    let start = fde_at(fdes, index).start;
+    is_first(fdes, index, start) && is_last(fdes, index, address)
 }
 
 // The FDEs of a section that can be used, in the order of their first addresses.

@@ -11,7 +11,7 @@ use linux_perf_data::input_kind::START_SIZE;
 use perfdata_base::source::CountedBuffer;
 use std::alloc::Global;
 use std::fs::File;
-use std::io::{BufReader, Cursor, Input as StandardInput, Read, Result, Seek};
+use std::io::{BufReader, Cursor, Input as StandardInput, Read, Result, Seek, copy};
 use std::os::unix::fs::FileTypeExt;
 use std::rt::Files;
 use std::{fs, result};
@@ -122,7 +122,7 @@ impl Input {
             mut unread,
             ..
         } = self;
-        unread.read_to_end(&mut start)?;
+        copy(&mut unread, &mut start)?;
         Ok(start)
     }
 

@@ -89,21 +89,24 @@ impl Tree {
         requires to { address ≤ all.last }
         ensures { result ≡ value_at all.first all.last self.now address }
     {
-        match self {
-            Tree::Empty => None,
-            Tree::Whole(value) => Some(*value),
-            Tree::Split(halves) => {
-                let AddressRange { first, last } = all;
-                let middle = all.middle();
-                if address <= middle {
-                    let all = AddressRange {
-                        first,
-                        last: middle,
-                    };
-                    halves.low.get(all, address)
-                } else {
-                    let first = middle + 1;
-                    halves.high.get(AddressRange { first, last }, address)
+        let mut tree = self;
+        let AddressRange {
+            mut first,
+            mut last,
+        } = all;
+        'halves: loop {
+            match tree {
+                Tree::Empty => return None,
+                Tree::Whole(value) => return Some(*value),
+                Tree::Split(halves) => {
+                    let middle = AddressRange { first, last }.middle();
+                    if address <= middle {
+                        last = middle;
+                        tree = &halves.low;
+                    } else {
+                        first = middle + 1;
+                        tree = &halves.high;
+                    }
                 }
             }
         }

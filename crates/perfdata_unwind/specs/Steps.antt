@@ -1,9 +1,11 @@
 -- A step from a frame: what is found of its caller.
 use Rattle.std.specs.Prelude.{◌≡◌, ◌⊎◌, ℕ, List, [], Bool, true, false, Option, Some, None, Err, if◌then◌else◌}
+use Rattle.std.specs.Option.{option_map}
 use Rattle.perfdata_cfi.specs.Tables.{IsFdeAt}
-use Rattle.perfdata_cfi.specs.FrameTables.{fdes_of, IsRowAt}
+use Rattle.perfdata_cfi.specs.FrameTables.{fdes_of, table_of, IsRowAt}
 use Rattle.perfdata_cfi.specs.declared.instruction.Machine.{Machine}
-use Rattle.perfdata_cfi.specs.declared.table.FrameTable.{FrameTable}
+use Rattle.perfdata_cfi.specs.declared.frame_table.FrameTable.{FrameTable}
+use Rattle.perfdata_cfi.specs.declared.table.EntryTable.{EntryTable}
 use Rattle.perfdata_cfi.specs.declared.table.FoundRow.{FoundRow}
 use Rattle.perfdata_unwind.specs.Callers.{Calls}
 use Rattle.perfdata_unwind.specs.Frames.{look_up_of}
@@ -25,6 +27,14 @@ use Rattle.perfdata_unwind.specs.declared.step.Step.{Step}
 -- the tables of a file
 abbrev pub file_tables : Option FrameTable → Option FrameTable → FileTables
 file_tables eh_frame debug_frame = record { eh_frame = eh_frame; debug_frame = debug_frame }
+
+-- the entries of a table, if there is a table
+abbrev pub entries_of : Option FrameTable → Option EntryTable
+entries_of table = option_map (λ t. table_of t) table
+
+-- two tables of a file have the same entries
+abbrev pub HasSameEntries : FileTables → FileTables → Type 0
+HasSameEntries old new = (entries_of new.eh_frame ≡ entries_of old.eh_frame) × (entries_of new.debug_frame ≡ entries_of old.debug_frame)
 
 -- the FDE of a table at an address in the file, if there is a table
 abbrev pub IsFdeIn : Option FrameTable → ℕ → Option ℕ → Type 0

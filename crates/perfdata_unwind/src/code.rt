@@ -3,9 +3,10 @@ ghost use Rattle.std.specs.Prelude.{◌≡◌, Some, None, MatchOption};
 ghost use Rattle.perfdata_cfi.specs.Tables.{IsFdeAt};
 ghost use Rattle.perfdata_cfi.specs.FrameTables.{fdes_of};
 ghost use Rattle.perfdata_unwind.specs.Steps.{file_tables, HasFde, HasNoFde, IsFdeIn};
+ghost use Rattle.perfdata_unwind.specs.Steps.{HasSameEntries, entries_of};
 
 use perfdata_cfi::FrameTable;
-use std::alloc::AllocError;
+use std::alloc::{AllocError, Global};
 
 /// The call frame information of a file.
 #[derive(Drop)]
@@ -25,6 +26,18 @@ impl FileTables {
         }
     }
 
+    /// Keeps the row of each table at an address in the file, if there is one, for faster steps from there.
+    ///
+    /// # Errors
+    ///
+    /// Returns `AllocError` if an allocation fails.
+    pub fn keep(&mut self, alloc: Global, address: u64) -> Result<(), AllocError>
+        ensures { HasSameEntries self.old self.new }
+    {
+        keep_in(alloc, &mut self.eh_frame, address)?;
+        keep_in(alloc, &mut self.debug_frame, address)
+    }
+
     /// Returns the first table that has an FDE at an address in the file, and the FDE's index.
     pub fn find(&self, address: u64) -> Option<(&FrameTable, usize)>
         ensures { MatchOption result (HasNoFde self.now address)
@@ -34,6 +47,16 @@ impl FileTables {
             Some(found) => Some(found),
             None => find_in(&self.debug_frame, address),
         }
+    }
+}
+
+// Keeps the row at an address, if there is one.
+fn keep_in(alloc: Global, table: &mut Option<FrameTable>, address: u64) -> Result<(), AllocError>
+    ensures { entries_of table.new ≡ entries_of table.old }
+{
+    match table {
+        Some(table) => table.keep(alloc, address),
+        None => Ok(()),
     }
 }
 

@@ -1,7 +1,9 @@
 //! From a frame to its caller.
 ghost use Rattle.std.specs.Prelude.{◌≡◌, ℕ, Bool, IfOk, MatchOption};
 ghost use Rattle.perfdata_unwind.specs.Expressions.{remaining_of};
-ghost use Rattle.perfdata_unwind.specs.Steps.{Finds, FoundByFde, by_code, by_bytes, by_place, IsStep};
+ghost use Rattle.perfdata_cfi.specs.FrameTables.{IsRowAt};
+ghost use Rattle.perfdata_unwind.specs.Steps.{Finds, FoundByFde, FoundByRow, IsStep};
+ghost use Rattle.perfdata_unwind.specs.Steps.{by_code, by_bytes, by_place};
 ghost use Rattle.perfdata_unwind.specs.Steps.{PlaceHasFde, PlaceHasNoFde, IsCallee, origin_by_row};
 ghost use Rattle.perfdata_unwind.specs.declared.code.CodePlace.{CodePlace as Place};
 ghost use Rattle.perfdata_unwind.specs.Callers.{Calls, Makes, address_of as address_in, may_follow};
@@ -17,7 +19,7 @@ use crate::known::{
 use crate::machine::{pc_number, stack_pointer};
 use crate::registers::Registers;
 use crate::rules::{Callee, registers_by_row};
-use perfdata_cfi::{CfiError, FrameTable, Machine};
+use perfdata_cfi::{CfiError, FoundRow, FrameTable, Machine};
 use std::alloc::{AllocError, Global};
 
 // The number of addresses of AArch64. Higher bits of a program counter may have a signature.
@@ -72,6 +74,27 @@ fn origin_of(is_signal: bool) -> FrameOrigin
     }
 }
 
+// The registers of the caller by a row of a table.
+fn find_by_row(
+    sample: &Sample<'_>,
+    frame: &Frame,
+    table: &FrameTable,
+    row: &FoundRow,
+    evaluator: &mut Evaluator,
+) -> Found
+    ensures { (index address : ℕ) → IsRowAt table.now index address row.now →
+        FoundByRow sample.now.machine sample.now.copy frame.now table.now index address
+        (remaining_of evaluator.old) result (remaining_of evaluator.new) }
+{
+    let callee = callee_of(sample, frame, table);
+    let registers = registers_by_row(&callee, row, evaluator);
+    Found {
+        is_signal: row.is_signal,
+        origin: origin_of(row.is_signal),
+        registers,
+    }
+}
+
 // The registers of the caller by an FDE of a table.
 fn find_by_table(
     sample: &Sample<'_>,
@@ -84,24 +107,18 @@ fn find_by_table(
     ensures { IfOk result (λ found. FoundByFde sample.now.machine sample.now.copy frame.now table.now index
         address (remaining_of evaluator.old) found (remaining_of evaluator.new)) }
 {
-    let row = match table.row(sample.alloc, index, address) {
-        Ok(row) => row,
-        Err(CfiError::Memory) => return Err(AllocError),
-        Err(_) => {
-            return Ok(Found {
-                is_signal: false,
-                origin: FrameOrigin::Cfi,
-                registers: Err(ChainEnd::BadCfi),
-            });
-        }
-    };
-    let callee = callee_of(sample, frame, table);
-    let registers = registers_by_row(&callee, &row, evaluator);
-    Ok(Found {
-        is_signal: row.is_signal,
-        origin: origin_of(row.is_signal),
-        registers,
-    })
+    if let Some(row) = table.kept_row(index, address) {
+        return Ok(find_by_row(sample, frame, table, row, evaluator));
+    }
+    match table.row(sample.alloc, index, address) {
+        Ok(row) => Ok(find_by_row(sample, frame, table, &row, evaluator)),
+        Err(CfiError::Memory) => Err(AllocError),
+        Err(_) => Ok(Found {
+            is_signal: false,
+            origin: FrameOrigin::Cfi,
+            registers: Err(ChainEnd::BadCfi),
+        }),
+    }
 }
 
 // The registers of the caller of code that isn't in a procedure linkage table.
@@ -286,8 +303,10 @@ fn caller_of<C: CodeMap>(
 ) -> Result<Frame, ChainEnd>
     ensures { Calls (C.executable code.now) sample.now.machine frame.now found.now result }
 {
-    let registers = found.registers?;
-    caller_with(sample, code, frame, found, &registers)
+    match &found.registers {
+        Ok(registers) => caller_with(sample, code, frame, found, registers),
+        Err(end) => Err(*end),
+    }
 }
 
 // Finds the caller of a frame.

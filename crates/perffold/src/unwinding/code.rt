@@ -3,9 +3,17 @@
 use crate::unwinding::code_files::{CodeFiles, LoadedPlace};
 use perfdata_events::call_chain::CallContext;
 use perfdata_spaces::address_spaces::AddressSpaces;
-use perfdata_spaces::mapping::PROTECTION_EXEC;
+use perfdata_spaces::mapping::{Mapping, PROTECTION_EXEC};
 use perfdata_unwind::{CodeMap, CodePlace, Machine};
 use std::alloc::AllocError;
+use std::cell::Cell;
+
+// The index of the mapping at an address, if one is there.
+#[derive(Clone, Copy)]
+struct FoundMapping {
+    address: u64,
+    index: Option<usize>,
+}
 
 /// What a process has mapped at the time of a sample.
 #[derive(Drop)]
@@ -14,6 +22,8 @@ pub(crate) struct ProcessCode<'b, 'a> {
     spaces: &'b AddressSpaces,
     pid: i32,
     machine: Machine,
+    /// The mapping at the address that was looked up last: a caller's address is first examined, then loaded.
+    found: Cell<Option<FoundMapping>>,
     /// What is at the address that was loaded last, if a file is there.
     loaded: Option<LoadedPlace>,
 }
@@ -30,14 +40,30 @@ impl<'b, 'a> ProcessCode<'b, 'a> {
             spaces,
             pid,
             machine,
+            found: Cell::new(None),
             loaded: None,
         }
     }
 
+    // Returns the index of the mapping at an address, if one is there.
+    fn mapping_index(&self, address: u64) -> Option<usize> {
+        match self.found.get() {
+            Some(found) if found.address == address => return found.index,
+            _ => {}
+        }
+        let index = self.spaces.find_index(self.pid, address, CallContext::User);
+        self.found.set(Some(FoundMapping { address, index }));
+        index
+    }
+
+    // Returns the mapping at an address, if one is there.
+    fn mapping(&self, address: u64) -> Option<&Mapping> {
+        self.spaces.mapping(self.mapping_index(address)?)
+    }
+
     // Returns what is at an address, if a file is there.
     fn find(&mut self, address: u64) -> Result<Option<LoadedPlace>, AllocError> {
-        let context = CallContext::User;
-        let Some(index) = self.spaces.find_index(self.pid, address, context) else {
+        let Some(index) = self.mapping_index(address) else {
             return Ok(None);
         };
         match self.spaces.mapping(index) {
@@ -57,7 +83,7 @@ impl<'b, 'a> ProcessCode<'b, 'a> {
 
 impl CodeMap for ProcessCode<'_, '_> {
     fn is_executable(&self, address: u64) -> bool {
-        match self.spaces.find(self.pid, address, CallContext::User) {
+        match self.mapping(address) {
             Some(mapping) => mapping.protection & PROTECTION_EXEC != 0,
             None => false,
         }

@@ -27,6 +27,14 @@ const PAGE_SIZE: u64 = 4096;
 // The number of bytes of code that show the return from a signal handler.
 const CODE_SIZE: usize = 9;
 
+// The number of places that are kept at most, and the shift that leaves as many bits of a mixed address.
+const SLOTS: usize = 4096;
+
+const SLOT_SHIFT: u32 = 52;
+
+// A factor that mixes the bits of addresses: 2^64 divided by the golden ratio.
+const MIXER: u64 = 0x9e37_79b9_7f4a_7c15;
+
 // The machines of ELF files (`e_machine`).
 const EM_X86_64: u16 = 62;
 
@@ -54,6 +62,14 @@ pub(crate) struct LoadedPlace {
     code: Code,
 }
 
+/// The place in a file of an address in the mapping with an index.
+#[derive(Clone, Copy)]
+struct KeptPlace {
+    index: usize,
+    address: u64,
+    place: Option<LoadedPlace>,
+}
+
 // A mapped file.
 #[derive(Drop)]
 struct CodeFile {
@@ -79,6 +95,9 @@ pub(crate) struct CodeFiles<'a> {
     of_mappings: HashMap<usize, Option<usize>>,
     /// The indices of the files by path and build id, with a NUL between them.
     of_files: HashMap<Vec<u8>, Option<usize>>,
+    /// The places that were looked up last, each in the slot of its address. There is no slot before the
+    /// first one.
+    places: Vec<Option<KeptPlace>>,
 }
 
 // Returns whether the pages of a segment contain an offset in the file.
@@ -111,6 +130,11 @@ fn plt_at(ranges: &[PltRange], address: u64) -> Option<Plt> {
         }
     }
     None
+}
+
+// Returns the slot of an address.
+fn slot_of(address: u64) -> usize {
+    (address.wrapping_mul(MIXER) >> SLOT_SHIFT) as usize
 }
 
 // Returns the call frame information of a section, unless it is compressed.
@@ -183,6 +207,7 @@ impl<'a> CodeFiles<'a> {
             files: Vec::new(alloc),
             of_mappings: HashMap::new(alloc),
             of_files: HashMap::new(alloc),
+            places: Vec::new(alloc),
         })
     }
 
@@ -312,8 +337,8 @@ impl<'a> CodeFiles<'a> {
         Ok(file)
     }
 
-    /// Returns the place in a file of an address in a mapping, if there is one.
-    pub(crate) fn find(
+    // Finds the place in a file of an address in a mapping, if there is one.
+    fn find_new(
         &mut self,
         machine: Machine,
         index: usize,
@@ -340,6 +365,67 @@ impl<'a> CodeFiles<'a> {
             plt: plt_at(file.linkage_tables.as_slice(), address),
             code,
         }))
+    }
+
+    // Returns the place that is kept of an address in the mapping with an index.
+    fn kept(&self, index: usize, address: u64) -> Option<Option<LoadedPlace>> {
+        match self.places.get(slot_of(address)) {
+            Some(Some(kept)) if kept.index == index && kept.address == address => Some(kept.place),
+            _ => None,
+        }
+    }
+
+    // Keeps a place.
+    fn keep(&mut self, kept: KeptPlace) -> Result<(), AllocError> {
+        if self.places.is_empty() {
+            self.places.resize(SLOTS, None)?;
+        }
+        if let Some(slot) = self.places.get_mut(slot_of(kept.address)) {
+            *slot = Some(kept);
+        }
+        Ok(())
+    }
+
+    // Keeps the row at a place.
+    fn keep_row(&mut self, place: Option<LoadedPlace>) -> Result<(), AllocError> {
+        let Some(place) = place else { return Ok(()) };
+        match self.files.get_mut(place.file) {
+            Some(file) => file.tables.keep(self.rt.alloc(), place.address),
+            None => Ok(()),
+        }
+    }
+
+    // Returns the place in a file of an address in a mapping, if there is one.
+    fn find_place(
+        &mut self,
+        machine: Machine,
+        index: usize,
+        mapping: &Mapping,
+        address: u64,
+    ) -> Result<Option<LoadedPlace>, AllocError> {
+        if let Some(place) = self.kept(index, address) {
+            return Ok(place);
+        }
+        let place = self.find_new(machine, index, mapping, address)?;
+        self.keep(KeptPlace {
+            index,
+            address,
+            place,
+        })?;
+        Ok(place)
+    }
+
+    /// Returns the place in a file of an address in a mapping, if there is one.
+    pub(crate) fn find(
+        &mut self,
+        machine: Machine,
+        index: usize,
+        mapping: &Mapping,
+        address: u64,
+    ) -> Result<Option<LoadedPlace>, AllocError> {
+        let place = self.find_place(machine, index, mapping, address)?;
+        self.keep_row(place)?;
+        Ok(place)
     }
 
     /// Returns what is at a place.

@@ -1,0 +1,47 @@
+-- The row at an address.
+use Rattle.std.specs.Prelude.{◌≡◌, ℕ, ◌-◌, ◌^◌, ◌<◌, List, [], length, Option, Some, None, slice_index_or, slice_range}
+use Rattle.perfdata_cfi.specs.Rows.{Moment, IsMoment, Runs, empty_row}
+use Rattle.std.specs.Option.{ForSome}
+use Rattle.perfdata_cfi.specs.declared.numbers.Span.{Span}
+use Rattle.perfdata_cfi.specs.declared.instruction.Encoding.{Encoding}
+use Rattle.perfdata_cfi.specs.declared.cie.Cie.{Cie}
+use Rattle.perfdata_cfi.specs.declared.fde.Fde.{Fde}
+use Rattle.perfdata_cfi.specs.declared.frame_table.KeptRow.{KeptRow}
+use Rattle.perfdata_cfi.specs.declared.table.EntryTable.{EntryTable}
+use Rattle.perfdata_cfi.specs.declared.table.FoundRow.{FoundRow}
+
+-- the instructions of an entry: where they are, and what they are read for
+abbrev pub program_in : EntryTable → Span → List ℕ
+program_in t span = slice_range t.bytes.items span.start span.end
+
+abbrev pub encoding_in : EntryTable → Cie → Span → Encoding
+encoding_in t c span = record { machine = t.machine; pointers = c.augmentation.pointer_encoding; address = t.address; end = span.end }
+
+-- the row at an address that the FDE at the index describes: the CIE's instructions run first, then the FDE's from its first
+-- address on
+pub record RowIn (t : EntryTable) (index address : ℕ) (found : FoundRow) : Type 0 where
+  pub fde : Fde
+  pub cie : Cie
+  pub first : Moment
+  pub middle : Moment
+  pub second : Moment
+  pub last : Moment
+  pub index_within : index < length t.fdes.items
+  pub fde_is : fde ≡ slice_index_or t.fdes.items index fde
+  pub cie_within : fde.cie < length t.cies.items
+  pub cie_is : cie ≡ slice_index_or t.cies.items fde.cie cie
+  pub first_is : IsMoment first 0 empty_row []
+  pub cie_runs : Runs (encoding_in t cie cie.instructions) cie None (2 ^ 64 - 1) (program_in t cie.instructions) first middle
+  pub second_is : IsMoment second fde.start middle.row middle.remembered
+  pub fde_runs : Runs (encoding_in t cie fde.instructions) cie (Some middle.row) address (program_in t fde.instructions) second last
+  pub row_is : found.row ≡ last.row
+  pub register_is : found.return_address ≡ cie.return_address
+  pub signal_is : found.is_signal ≡ cie.augmentation.is_signal
+
+-- there is such a row
+abbrev pub IsRowIn : EntryTable → ℕ → ℕ → FoundRow → Type 0
+IsRowIn t index address found = ∥ RowIn t index address found ∥₁
+
+-- a row that is kept is one that its FDE describes
+abbrev pub IsKept : EntryTable → Option KeptRow → Type 0
+IsKept t kept = ForSome kept (λ row. IsRowIn t row.index row.address row.found)

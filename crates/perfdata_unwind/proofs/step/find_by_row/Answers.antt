@@ -1,0 +1,13 @@
+use Rattle.std.proofs.Common.{refl}
+use Rattle.perfdata_unwind.proofs.step.find_by_row.Goals as goal
+
+pub returns : goal.returns
+returns c = λ index address at. record {
+  row = c.args.row.now;
+  row_at = at;
+  callee = c.callee_of-callee.result;
+  callee_is = c.callee_of-callee.ensures;
+  by_row = c.registers_by_row-registers.ensures;
+  signal_is = refl;
+  origin_is = c.origin_of.ensures;
+}
