@@ -1,8 +1,7 @@
 -- What a profile has when it is built.
-use Rattle.std.proofs.Common.{◌≡◌, ◌∙◌, ℕ, List, All, ap, subst}
-use Rattle.perfdata_pprof.specs.Messages.{SampleValue}
+use Rattle.std.proofs.Common.{◌≡◌, ◌∙◌, ℕ, List, ap}
 use Rattle.perfdata_pprof.specs.Rows.{numbered}
-use Rattle.perfdata_pprof.specs.Tables.{HasValues, location_row}
+use Rattle.perfdata_pprof.specs.Tables.{location_row}
 use Rattle.perfdata_pprof.specs.declared.builder.Place.{Place}
 use Rattle.perfdata_pprof.specs.declared.profile.Location.{Location}
 
@@ -13,9 +12,3 @@ pub located : (places : List Place) (locations : List Location) (mapping_count f
 located places locations mapping_count function_count mappings functions are counted also =
     are ∙ (ap (λ (n : ℕ). numbered (location_row n function_count) 1 places) counted
     ∙ ap (λ (n : ℕ). numbered (location_row mappings n) 1 places) also)
-
--- Samples with a count of values have the same number of them.
-pub valued : (samples : List SampleValue) (count types : ℕ) → count ≡ types → All (HasValues count) samples → All (HasValues types) samples
-valued samples count types counted have =
-    let P : ℕ → Type 0 = λ n. All (HasValues n) samples in
-    subst P counted have

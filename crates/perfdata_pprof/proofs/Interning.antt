@@ -9,15 +9,15 @@ use Rattle.indexmap.specs.IndexSet.{insert_key}
 use Rattle.perfdata_pprof.specs.Rows.{Interns}
 use Rattle.perfdata_pprof.specs.Texts.{AreStrings}
 
-some_same : {A : Type 0} (x y : A) → Some x ≡ Some y → x ≡ y
+pub some_same : {A : Type 0} (x y : A) → Some x ≡ Some y → x ≡ y
 some_same {A} x y is = ap (λ (o : Option A). unwrap_or o x) is
 
-at_map : {A B : Type 0} → (f : A → B) (xs : List A) (index : ℕ) (x : A) → slice_get xs index ≡ Some x → slice_get (map f xs) index ≡ Some (f x)
+pub at_map : {A B : Type 0} → (f : A → B) (xs : List A) (index : ℕ) (x : A) → slice_get xs index ≡ Some x → slice_get (map f xs) index ≡ Some (f x)
 at_map f [] index x is = cc
 at_map {A} {B} f (y ∷ xs) zero x is = ap (λ (v : A). Some (f v)) (some_same y x is)
 at_map f (y ∷ xs) (suc index) x is = at_map f xs index x is
 
-at_more : {A : Type 0} → (xs ys : List A) (index : ℕ) (x : A) → slice_get xs index ≡ Some x → slice_get (xs ++ ys) index ≡ Some x
+pub at_more : {A : Type 0} → (xs ys : List A) (index : ℕ) (x : A) → slice_get xs index ≡ Some x → slice_get (xs ++ ys) index ≡ Some x
 at_more [] ys index x is = cc
 at_more (y ∷ xs) ys zero x is = is
 at_more (y ∷ xs) ys (suc index) x is = at_more xs ys index x is

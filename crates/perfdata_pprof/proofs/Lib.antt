@@ -1,6 +1,10 @@
 mod Building
+mod Counting
 mod Decoding
+mod Distinct
+mod Growing
 mod Interning
+mod Keys
 mod Numbering
 mod Numbers
 mod Reading

@@ -11,6 +11,10 @@ pub record Interns {A : Type 0} (old : List A) (row : A) (index : ℕ) (new : Li
   pub is_at : slice_get new index ≡ Some row
   pub adds : (new ≡ old) ⊎ (new ≡ old ++ row ∷ [])
 
+-- Rows may be appended, so the others keep their indices.
+abbrev pub Grows : {A : Type 0} → List A → List A → Type 0
+Grows {A} old new = (more : List A) × (new ≡ old ++ more)
+
 -- A number is the id of one of some rows.
 pub record IsId (id count : ℕ) : Type 0 where
   pub positive : 0 < id

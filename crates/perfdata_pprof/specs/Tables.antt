@@ -1,7 +1,8 @@
 -- The tables of a builder, and those of its profile.
-use Rattle.std.specs.Prelude.{◌≡◌, ℕ, nat_lt, if◌then◌else◌, List, length, All, true}
-use Rattle.perfdata_pprof.specs.Messages.{ProfileValue, SampleValue}
+use Rattle.std.specs.Prelude.{◌≡◌, ℕ, nat_lt, if◌then◌else◌, List, [], ◌∷◌, length, map, true}
+use Rattle.perfdata_pprof.specs.Messages.{ProfileValue}
 use Rattle.perfdata_pprof.specs.Rows.{numbered}
+use Rattle.perfdata_pprof.specs.Samples.{Row, sample_row}
 use Rattle.perfdata_pprof.specs.Texts.{AreStrings}
 use Rattle.perfdata_pprof.specs.declared.builder.FunctionNames.{FunctionNames}
 use Rattle.perfdata_pprof.specs.declared.builder.MappedFile.{MappedFile}
@@ -19,6 +20,11 @@ pub record Tables : Type 0 where
   pub mappings : List MappedFile
   pub functions : List FunctionNames
   pub locations : List Place
+  pub samples : List Row
+
+-- The only text is the empty one, and there are no rows.
+abbrev pub no_rows : Tables
+no_rows = record { strings = [] ∷ []; types = []; mappings = []; functions = []; locations = []; samples = [] }
 
 -- The messages of rows with an id.
 abbrev pub mapping_row : ℕ → MappedFile → Mapping
@@ -47,18 +53,15 @@ location_row mapping_count function_count id place = record {
   function_id = known_id function_count place.function_id;
 }
 
--- A sample has as many values as there are types.
-abbrev pub HasValues : ℕ → SampleValue → Type 0
-HasValues type_count sample = length sample.values ≡ type_count
-
 -- A profile has the rows of tables, in their order, and what a summary says. Ids count from 1.
 pub record Builds (tables : Tables) (summary : Summary) (profile : ProfileValue) : Type 0 where
   pub sample_types : profile.sample_types ≡ tables.types
   pub mappings : profile.mappings ≡ numbered mapping_row 1 tables.mappings
   pub functions : profile.functions ≡ numbered function_row 1 tables.functions
   pub locations : profile.locations ≡ numbered (location_row (length tables.mappings) (length tables.functions)) 1 tables.locations
-  pub values : All (HasValues (length tables.types)) profile.samples
-  pub strings : AreStrings profile.strings
+  pub samples : profile.samples ≡ map (sample_row (length tables.types)) tables.samples
+  pub strings : profile.strings ≡ tables.strings
+  pub once : AreStrings profile.strings
   pub duration : profile.duration ≡ summary.duration
   pub period_type : profile.period_type ≡ summary.period_type
   pub period : profile.period ≡ summary.period

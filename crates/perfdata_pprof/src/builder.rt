@@ -1,9 +1,17 @@
 //! Builds a profile of mappings, functions, locations and samples.
-ghost use Rattle.std.specs.Prelude.{◌≡◌, map, All, IfOk, OnErr};
+ghost use Rattle.std.specs.Prelude.{◌≡◌, ◌<◌, ◌++◌, length, map, replicate, slice_get, IfOk, OnErr, OnOk};
+ghost use Rattle.std.specs.Str.Lossy.{utf8_lossy};
+ghost use Rattle.indexmap.specs.IndexMap.{index_map_len};
+ghost use Rattle.indexmap.specs.IndexSet.{IsUnique};
+ghost use Rattle.perfdata_pprof.specs.Builders.{rows_of};
+ghost use Rattle.perfdata_pprof.specs.Labels.{HasLabels, IsKeyOf, number_labels, thread_labels};
 ghost use Rattle.perfdata_pprof.specs.Messages.{profile_value, sample_value};
-ghost use Rattle.perfdata_pprof.specs.Rows.{Identifies, IdentifiesBy, numbered};
-ghost use Rattle.perfdata_pprof.specs.Tables.{Builds, HasValues, function_row, known_id, location_row};
-ghost use Rattle.perfdata_pprof.specs.Tables.{mapping_row};
+ghost use Rattle.perfdata_pprof.specs.Rows.{AreDistinct, Grows, Identifies, IdentifiesBy, Interns, numbered};
+ghost use Rattle.perfdata_pprof.specs.Samples.{AddsSamples, RaisesRow, raised, sample_row, weighted};
+ghost use Rattle.perfdata_pprof.specs.Strings.{texts_of};
+ghost use Rattle.perfdata_pprof.specs.Tables.{Builds, function_row, known_id, location_row, mapping_row};
+ghost use Rattle.perfdata_pprof.specs.Tables.{no_rows};
+ghost use Rattle.perfdata_pprof.specs.Texts.{AreStrings};
 
 use crate::profile::{Function, Label, Location, Mapping, Profile, Sample, ValueType};
 use crate::strings::StringTable;
@@ -61,7 +69,7 @@ pub struct SampleThread {
 #[derive(PartialEq, Eq, Hash, Drop)]
 struct RowKey {
     location_ids: Vec<u64>,
-    thread: SampleThread,
+    labels: Vec<Label>,
 }
 
 /// How samples of a profile are added up.
@@ -104,10 +112,12 @@ pub struct Builder {
 impl Builder {
     ghost use Rattle.perfdata_pprof.specs.Builders.{tables_of};
 
-    /// Creates a profile without samples, of these sample types.
+    /// Creates a profile without samples and without sample types.
     ///
     /// Fails if memory runs out.
-    pub fn new(alloc: Global) -> Result<Builder, AllocError> {
+    pub fn new(alloc: Global) -> Result<Builder, AllocError>
+        ensures { IfOk result (λ builder. tables_of builder ≡ no_rows) }
+    {
         Ok(Builder {
             alloc,
             strings: StringTable::new(alloc)?,
@@ -122,7 +132,14 @@ impl Builder {
     /// Returns the index of a text. Bytes that aren't UTF-8 become U+FFFD.
     ///
     /// Fails if memory runs out.
-    pub fn text(&mut self, text: &[u8]) -> Result<u64, AllocError> {
+    pub fn text(&mut self, text: &[u8]) -> Result<u64, AllocError>
+        ensures ok { IfOk result (λ index.
+            Interns (tables_of self.old).strings (utf8_lossy text.now) index (tables_of self.new).strings) }
+        ensures once { AreStrings (tables_of self.new).strings }
+        ensures err { OnErr result (tables_of self.new ≡ tables_of self.old) }
+        ensures rest { tables_of self.new
+            ≡ record (tables_of self.old) { strings = (tables_of self.new).strings } }
+    {
         self.strings.intern(text)
     }
 
@@ -130,18 +147,29 @@ impl Builder {
     /// there have 0 of it.
     ///
     /// Fails if memory runs out.
-    pub fn add_type(&mut self, value_type: ValueType) -> Result<usize, AllocError> {
+    pub fn add_type(&mut self, value_type: ValueType) -> Result<usize, AllocError>
+        ensures ok { IfOk result (λ index.
+            Interns (tables_of self.old).types value_type index (tables_of self.new).types) }
+        ensures once { AreDistinct (tables_of self.new).types }
+        ensures err { OnErr result (tables_of self.new ≡ tables_of self.old) }
+        ensures rest { tables_of self.new
+            ≡ record (tables_of self.old) { types = (tables_of self.new).types } }
+    {
         let (index, _is_new) = self.sample_types.insert_full(value_type)?;
         Ok(index)
     }
 
     /// Returns the number of sample types.
-    pub fn type_count(&self) -> usize {
+    pub fn type_count(&self) -> usize
+        ensures { result ≡ length (tables_of self.now).types }
+    {
         self.sample_types.len()
     }
 
     /// Returns the sample type with an index.
-    pub fn type_at(&self, index: usize) -> Option<ValueType> {
+    pub fn type_at(&self, index: usize) -> Option<ValueType>
+        ensures { result ≡ slice_get (tables_of self.now).types index }
+    {
         self.sample_types.get_index(index).copied()
     }
 
@@ -151,6 +179,7 @@ impl Builder {
     pub fn mapping(&mut self, file: MappedFile) -> Result<u64, AllocError>
         ensures ok { IfOk result (λ id.
             Identifies (tables_of self.old).mappings file id (tables_of self.new).mappings) }
+        ensures once { AreDistinct (tables_of self.new).mappings }
         ensures err { OnErr result (tables_of self.new ≡ tables_of self.old) }
         ensures rest { tables_of self.new
             ≡ record (tables_of self.old) { mappings = (tables_of self.new).mappings } }
@@ -164,6 +193,7 @@ impl Builder {
     pub fn function(&mut self, names: FunctionNames) -> Result<u64, AllocError>
         ensures ok { IfOk result (λ id.
             Identifies (tables_of self.old).functions names id (tables_of self.new).functions) }
+        ensures once { AreDistinct (tables_of self.new).functions }
         ensures err { OnErr result (tables_of self.new ≡ tables_of self.old) }
         ensures rest { tables_of self.new
             ≡ record (tables_of self.old) { functions = (tables_of self.new).functions } }
@@ -177,6 +207,7 @@ impl Builder {
     pub fn location(&mut self, place: Place) -> Result<u64, AllocError>
         ensures ok { IfOk result (λ id.
             Identifies (tables_of self.old).locations place id (tables_of self.new).locations) }
+        ensures once { AreDistinct (tables_of self.new).locations }
         ensures err { OnErr result (tables_of self.new ≡ tables_of self.old) }
         ensures rest { tables_of self.new
             ≡ record (tables_of self.old) { locations = (tables_of self.new).locations } }
@@ -184,39 +215,48 @@ impl Builder {
         id_of(&mut self.places, place)
     }
 
-    // Returns values that are 0.
-    fn zeros(&self) -> Result<Vec<u64>, AllocError> {
-        vec![in self.alloc; 0; self.sample_types.len()]
+    /// Returns the labels of a thread: its name and, where they are distinguished, the ids of the process and
+    /// of the thread.
+    ///
+    /// Fails if memory runs out.
+    pub fn labels(&mut self, thread: SampleThread) -> Result<Vec<Label>, AllocError>
+        ensures ok { IfOk result (λ labels. HasLabels (tables_of self.new).strings thread labels.items) }
+        ensures once { AreStrings (tables_of self.new).strings }
+        ensures texts { Grows (tables_of self.old).strings (tables_of self.new).strings }
+        ensures rest { tables_of self.new
+            ≡ record (tables_of self.old) { strings = (tables_of self.new).strings } }
+    {
+        let comm = self.strings.intern_text("comm")?;
+        let pid = key_of(&mut self.strings, "pid", thread.pid)?;
+        let tid = key_of(&mut self.strings, "tid", thread.tid)?;
+        labels_of(self.alloc, comm, pid, tid, thread)
     }
 
-    /// Adds samples of a thread with a stack of locations, leaf first.
+    /// Adds samples with labels and a stack of locations, leaf first.
     ///
     /// Fails if memory runs out.
     pub fn add(
         &mut self,
-        thread: SampleThread,
+        labels: Vec<Label>,
         location_ids: Vec<u64>,
         weight: Weight,
-    ) -> Result<(), AllocError> {
+    ) -> Result<(), AllocError>
+        ensures ok { OnOk result (AddsSamples (length (tables_of self.old).types) (tables_of self.old).samples
+            labels.items location_ids.items weight (tables_of self.new).samples) }
+        ensures err { OnErr result (tables_of self.new ≡ tables_of self.old) }
+        ensures rest { tables_of self.new
+            ≡ record (tables_of self.old) { samples = (tables_of self.new).samples } }
+    {
+        let type_count = self.sample_types.len();
         let key = RowKey {
             location_ids,
-            thread,
+            labels,
         };
-        let index = match self.rows.get_index_of(&key) {
-            Some(index) => index,
-            None => {
-                let zeros = self.zeros()?;
-                let index = self.rows.len();
-                self.rows.insert(key, zeros)?;
-                index
-            }
-        };
-        let type_count = self.sample_types.len();
-        if let Some(values) = self.rows.get_index_mut(index) {
-            values.resize(type_count, 0)?;
-            add_to(values, 0, weight.samples);
-            add_to(values, weight.column, weight.weight);
+        if let Some(index) = self.rows.get_index_of(&key) {
+            return raise(&mut self.rows, index, type_count, weight);
         }
+        let values = values_of(self.alloc, type_count, weight)?;
+        self.rows.insert(key, values)?;
         Ok(())
     }
 
@@ -228,14 +268,14 @@ impl Builder {
     {
         let Builder {
             alloc,
-            mut strings,
+            strings,
             sample_types,
             mappings,
             functions,
             places,
             rows,
         } = self;
-        let samples = samples_of(alloc, &mut strings, rows, sample_types.len())?;
+        let samples = samples_of(alloc, rows, sample_types.len())?;
         let (mapping_count, function_count) = (mappings.len(), functions.len());
         Ok(Profile {
             sample_types: types_of(alloc, sample_types)?,
@@ -257,17 +297,57 @@ fn id_of<T: Eq + Hash + Drop>(rows: &mut IndexSet<T>, row: T) -> Result<u64, All
     ensures ok { IfOk result (λ id.
         IdentifiesBy T.eq rows.old.keys row id rows.new.keys) }
     ensures err { OnErr result (rows.new.keys ≡ rows.old.keys) }
+    ensures once { IsUnique T.eq rows.new }
 {
     let (index, _is_new) = rows.insert_full(row)?;
     let _count = rows.len(); // for the prover
     Ok(index as u64 + 1)
 }
 
-// Adds a weight to a value, if there is one with this index.
-fn add_to(values: &mut Vec<u64>, index: usize, weight: u64) {
+// Adds a number to the value with an index, if there is one.
+fn add_to(values: &mut Vec<u64>, index: usize, number: u64)
+    ensures { values.new.items ≡ raised index number values.old.items }
+{
     if let Some(value) = values.get_mut(index) {
-        *value = value.saturating_add(weight);
+        *value = value.saturating_add(number);
     }
+}
+
+// Adds a weight to values.
+fn add_weight(values: &mut Vec<u64>, weight: Weight)
+    ensures { values.new.items ≡ weighted weight values.old.items }
+{
+    add_to(values, 0, weight.samples);
+    add_to(values, weight.column, weight.weight);
+}
+
+// Returns the values of the first samples of a row.
+fn values_of(alloc: Global, type_count: usize, weight: Weight) -> Result<Vec<u64>, AllocError>
+    ensures { IfOk result (λ values. values.items ≡ weighted weight (replicate type_count 0)) }
+{
+    let mut values = vec![in alloc; 0; type_count]?;
+    add_weight(&mut values, weight);
+    Ok(values)
+}
+
+// Adds a weight to the values of the row with an index.
+fn raise(
+    rows: &mut IndexMap<RowKey, Vec<u64>>,
+    index: usize,
+    type_count: usize,
+    weight: Weight,
+) -> Result<(), AllocError>
+    requires { index < index_map_len rows.old }
+    ensures ok { OnOk result (RaisesRow (rows_of rows.old.entries) index type_count weight
+        (rows_of rows.new.entries)) }
+    ensures err { OnErr result (rows_of rows.new.entries ≡ rows_of rows.old.entries) }
+{
+    let Some(values) = rows.get_index_mut(index) else {
+        return Ok(());
+    };
+    values.resize(type_count, 0)?;
+    add_weight(values, weight);
+    Ok(())
 }
 
 // Returns the sample types.
@@ -340,16 +420,24 @@ fn locations_of(
     Ok(locations)
 }
 
-// Appends a label with a number.
-fn push_number_label(
-    labels: &mut Vec<Label>,
-    strings: &mut StringTable,
-    key: &str,
-    number: Option<i32>,
-) -> Result<(), AllocError> {
+// Returns the index of the key of a label with a number, or 0 if there is none.
+fn key_of(strings: &mut StringTable, key: &str, number: Option<i32>) -> Result<u64, AllocError>
+    ensures ok { IfOk result (λ index. IsKeyOf (texts_of strings.new) key.now number index) }
+    ensures texts { Grows (texts_of strings.old) (texts_of strings.new) }
+{
+    match number {
+        Some(_) => strings.intern_text(key),
+        None => Ok(0),
+    }
+}
+
+// Appends a label with a number, if there is one.
+fn push_number(labels: &mut Vec<Label>, key: u64, number: Option<i32>) -> Result<(), AllocError>
+    ensures { OnOk result (labels.new.items ≡ labels.old.items ++ number_labels key number) }
+{
     if let Some(number) = number {
         labels.push(Label {
-            key: strings.intern(key.as_bytes())?,
+            key,
             text: 0,
             number: i64::from(number).cast_unsigned(),
         })?;
@@ -360,37 +448,40 @@ fn push_number_label(
 // Returns the labels of a thread.
 fn labels_of(
     alloc: Global,
-    strings: &mut StringTable,
+    comm: u64,
+    pid: u64,
+    tid: u64,
     thread: SampleThread,
-) -> Result<Vec<Label>, AllocError> {
+) -> Result<Vec<Label>, AllocError>
+    ensures { IfOk result (λ labels. labels.items ≡ thread_labels comm pid tid thread) }
+{
     let mut labels = Vec::new(alloc);
     labels.push(Label {
-        key: strings.intern(b"comm")?,
+        key: comm,
         text: thread.name,
         number: 0,
     })?;
-    push_number_label(&mut labels, strings, "pid", thread.pid)?;
-    push_number_label(&mut labels, strings, "tid", thread.tid)?;
+    push_number(&mut labels, pid, thread.pid)?;
+    push_number(&mut labels, tid, thread.tid)?;
     Ok(labels)
 }
 
 // Returns the samples. Those that were added before a sample type have 0 of it.
 fn samples_of(
     alloc: Global,
-    strings: &mut StringTable,
     rows: IndexMap<RowKey, Vec<u64>>,
     type_count: usize,
 ) -> Result<Vec<Sample>, AllocError>
-    ensures { IfOk result (λ samples. All (HasValues type_count) (map sample_value samples.items)) }
+    ensures { IfOk result (λ samples.
+        map sample_value samples.items ≡ map (sample_row type_count) (rows_of rows.entries)) }
 {
     let mut samples = Vec::new(alloc);
     'rows: for (key, mut values) in rows {
         values.resize(type_count, 0)?;
-        let labels = labels_of(alloc, strings, key.thread)?;
         samples.push(Sample {
             location_ids: key.location_ids,
             values,
-            labels,
+            labels: key.labels,
         })?;
     }
     Ok(samples)

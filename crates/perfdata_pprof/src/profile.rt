@@ -13,7 +13,7 @@ pub struct ValueType {
 }
 
 /// A key of a sample with its value: a text or a number.
-#[derive(Clone, Copy)]
+#[derive(Clone, Copy, PartialEq, Eq, Hash)]
 pub struct Label {
     /// The name of the key.
     pub key: u64,

@@ -2,7 +2,7 @@
 ghost use Rattle.std.specs.Prelude.{◌≡◌, [], ◌∷◌, ℕ, List, map, IfOk, OnErr};
 ghost use Rattle.std.specs.Str.Lossy.{utf8_lossy};
 ghost use Rattle.std.specs.String.{string_bytes};
-ghost use Rattle.perfdata_pprof.specs.Rows.{Interns};
+ghost use Rattle.perfdata_pprof.specs.Rows.{Grows, Interns};
 ghost use Rattle.perfdata_pprof.specs.Texts.{AreStrings};
 
 use indexmap::IndexSet;
@@ -43,12 +43,25 @@ impl StringTable {
         Ok(index as u64)
     }
 
+    /// Returns the index of a text, which is added if it is new.
+    ///
+    /// Fails if memory runs out. Then no text is added.
+    pub fn intern_text(&mut self, text: &str) -> Result<u64, AllocError>
+        ensures ok { IfOk result (λ index. Interns (texts_of self.old) text.now index (texts_of self.new)) }
+        ensures texts { Grows (texts_of self.old) (texts_of self.new) }
+        ensures err { OnErr result (texts_of self.new ≡ texts_of self.old) }
+    {
+        let text = String::from_str(self.alloc, text)?;
+        let (index, _is_new) = self.texts.insert_full(text)?;
+        Ok(index as u64)
+    }
+
     /// Returns the texts, in the order in which they were added.
     ///
     /// Fails if memory runs out.
     pub fn finish(self) -> Result<Vec<String>, AllocError>
         ensures texts { IfOk result (λ texts. map string_bytes texts.items ≡ texts_of self) }
-        ensures strings { IfOk result (λ texts. AreStrings (map string_bytes texts.items)) }
+        ensures once { IfOk result (λ texts. AreStrings (map string_bytes texts.items)) }
     {
         let StringTable { texts, alloc } = self;
         texts.into_iter().collect(alloc)

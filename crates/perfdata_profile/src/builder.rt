@@ -184,20 +184,20 @@ impl<R: Resolver> ProfileBuilder<R> {
     }
 
     // Applies a record that isn't a sample.
-    fn apply(&mut self, misc: u16, record: &EventRecord<'_>) -> Result<(), AllocError>
-        requires { applied_as misc «record».now ≡ record { misc = misc; event = «record».now } ∷ [] }
+    fn apply(&mut self, misc: u16, event: &EventRecord<'_>) -> Result<(), AllocError>
+        requires { applied_as misc event.now ≡ record { misc = misc; event = event.now } ∷ [] }
         ensures ok { OnOk result ((options : ProfileOptions) (given : List Given)
             (weight : Option SampleWeight) → Builds R.meaning options given self.old →
             Builds R.meaning options (given ++ record {
               misc = misc;
-              event = «record».now;
+              event = event.now;
               weight = weight;
             } ∷ []) self.new) }
         ensures err { OnErr result (KeepsSums self.old.sums self.new.sums) }
     {
-        let index = self.spaces.apply(misc, record)?;
+        let index = self.spaces.apply(misc, event)?;
         self.resolver
-            .apply(misc, record, mapping_at(&self.spaces, index))
+            .apply(misc, event, mapping_at(&self.spaces, index))
     }
 
     /// Counts a sample with its weight, if it is selected, or applies another record. `misc` is that of the
@@ -208,21 +208,21 @@ impl<R: Resolver> ProfileBuilder<R> {
     pub fn add_record(
         &mut self,
         misc: u16,
-        record: &EventRecord<'_>,
+        event: &EventRecord<'_>,
         weight: Option<SampleWeight>,
     ) -> Result<(), CountError>
         ensures ok { OnOk result ((options : ProfileOptions) (given : List Given) →
             Builds R.meaning options given self.old → Builds R.meaning options (given ++ record {
               misc = misc;
-              event = «record».now;
+              event = event.now;
               weight = weight;
             } ∷ []) self.new) }
         ensures err { OnErr result (KeepsSums self.old.sums self.new.sums) }
     {
-        match (record, weight) {
+        match (event, weight) {
             (EventRecord::Sample(sample), Some(weight)) => self.count(misc, sample, weight),
             (EventRecord::Sample(_), None) => Ok(()),
-            _ => match self.apply(misc, record) {
+            _ => match self.apply(misc, event) {
                 Ok(()) => Ok(()),
                 Err(AllocError) => Err(CountError::Memory),
             },

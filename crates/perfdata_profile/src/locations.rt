@@ -1,6 +1,6 @@
 //! The locations of a profile, each stored once.
 
-ghost use Rattle.std.specs.Prelude.{◌≡◌, [], slice_get, IfOk, OnErr};
+ghost use Rattle.std.specs.Prelude.{◌≡◌, [], length, slice_get, IfOk, OnErr};
 ghost use Rattle.perfdata_profile.specs.Interning.{Interns, IsOnce};
 
 use crate::mappings::MappingId;
@@ -75,7 +75,9 @@ impl Locations {
     }
 
     /// Returns the number of locations.
-    pub fn len(&self) -> usize {
+    pub fn len(&self) -> usize
+        ensures { result ≡ length (locations_of self.now) }
+    {
         self.locations.len()
     }
 }

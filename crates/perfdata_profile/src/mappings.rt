@@ -1,6 +1,6 @@
 //! The mappings of a profile, each stored once.
 
-ghost use Rattle.std.specs.Prelude.{◌≡◌, [], slice_get, IfOk, OnErr};
+ghost use Rattle.std.specs.Prelude.{◌≡◌, [], length, slice_get, IfOk, OnErr};
 ghost use Rattle.perfdata_profile.specs.Interning.{Interns, IsOnce};
 
 use crate::names::NameId;
@@ -76,7 +76,9 @@ impl Mappings {
     }
 
     /// Returns the number of mappings.
-    pub fn len(&self) -> usize {
+    pub fn len(&self) -> usize
+        ensures { result ≡ length (ranges_of self.now) }
+    {
         self.ranges.len()
     }
 }

@@ -1,6 +1,6 @@
 //! The stacks of a profile, each stored once.
 
-ghost use Rattle.std.specs.Prelude.{◌≡◌, [], map, slice_get, IfOk, OnErr};
+ghost use Rattle.std.specs.Prelude.{◌≡◌, [], length, map, slice_get, IfOk, OnErr};
 ghost use Rattle.std.specs.Option.{option_map};
 ghost use Rattle.perfdata_profile.specs.Interning.{Interns, IsOnce};
 
@@ -72,7 +72,9 @@ impl Stacks {
     }
 
     /// Returns the number of stacks.
-    pub fn len(&self) -> usize {
+    pub fn len(&self) -> usize
+        ensures { result ≡ length (stacks_of self.now) }
+    {
         self.stacks.len()
     }
 }

@@ -1,9 +1,9 @@
 -- The widths of the boxes in a box.
-use Rattle.std.proofs.Common.{◌≡◌, ◌∙◌, ◌+◌, ◌-◌, ◌≤◌, ap, refl, sym, arith, ℕ, List, [], ◌∷◌, ◌++◌, append_assoc}
+use Rattle.std.proofs.Common.{◌≡◌, ◌∙◌, ◌+◌, ◌≤◌, ap, refl, sym, arith, ℕ, List, [], ◌∷◌, ◌++◌, append_assoc}
 use Rattle.std.specs.List.{sum_by}
-use Rattle.std.proofs.lemmas.List.{append_cancel_left, append-nil}
+use Rattle.std.proofs.lemmas.List.{append_cancel_left}
 use Rattle.std.proofs.lemmas.List.Sums.{sum_by_push}
-use Rattle.perfdata_stacks.specs.BoxWidths.{AddsSamples, ClosesBox, FillsBox, OpensBox, begins, opens, adds, closes, closes_inner, WidthsFit, width_of}
+use Rattle.perfdata_stacks.specs.BoxWidths.{FillsBox, begins, opens, adds, closes, closes_inner, WidthsFit, width_of}
 use Rattle.perfdata_stacks.specs.OpenBoxes.{position_of, starts_of}
 use Rattle.perfdata_stacks.specs.declared.flame.open_boxes.OpenBoxes.{OpenBoxes}
 use Rattle.perfdata_stacks.specs.declared.flame.span.Span.{Span}

@@ -1,5 +1,5 @@
 -- The widths of the boxes in a box.
-use Rattle.std.specs.Prelude.{◌≡◌, ℕ, ◌+◌, ◌-◌, ◌≤◌, List, [], ◌∷◌, ◌++◌}
+use Rattle.std.specs.Prelude.{◌≡◌, ℕ, ◌-◌, ◌≤◌, List, [], ◌∷◌, ◌++◌}
 use Rattle.std.specs.List.{sum_by}
 use Rattle.perfdata_stacks.specs.OpenBoxes.{position_of, starts_of}
 use Rattle.perfdata_stacks.specs.declared.flame.open_boxes.OpenBoxes.{OpenBoxes}

@@ -5,7 +5,6 @@ use Rattle.perfdata_events.specs.Words.{remaining_u64s}
 use Rattle.perfdata_events.specs.declared.fields.call_chain.CallChain.{CallChain}
 use Rattle.perfdata_events.specs.declared.fields.call_chain.CallContext.{CallContext}
 use Rattle.perfdata_events.specs.declared.fields.call_chain.CallContext.TheVariants.{User}
-use Rattle.perfdata_events.specs.declared.fields.call_chain.Frame.{Frame}
 use Rattle.perfdata_events.specs.declared.sample.SampleRecord.{SampleRecord}
 use Rattle.perfdata_stacks.specs.declared.frames.ChainFrames.{ChainFrames}
 use Rattle.perfdata_stacks.specs.declared.frames.SampleFrame.{SampleFrame}

@@ -1,8 +1,8 @@
-//! Samples as lines of names, how many samples each line has, and the picture of the lines.
+//! Samples as lines of names, how many samples each line has, and a picture of stacks.
 //!
 //! [`frames::SampleFrames`] returns the frames of a sample, [`line::push_name`] and [`line::push_comm`] write
 //! the names of a line, [`counts::StackCounts`] counts lines, and [`flame::svg::write_flame_graph`] draws
-//! them.
+//! stacks of names.
 #![tactic(auto)]
 
 pub mod counts;

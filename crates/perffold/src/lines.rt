@@ -13,8 +13,12 @@ fn push_number(line: &mut Vec<u8>, before: char, number: i32) -> Result<(), Allo
     write!(line, "{before}{number}").map_err(|_| AllocError)
 }
 
-// Sets a line to the name of a thread and its ids, if they are distinguished.
-fn set_thread(line: &mut Vec<u8>, profile: &Profile, thread: Thread) -> Result<(), AllocError> {
+/// Sets a line to the name of a thread and its ids, if they are distinguished.
+pub(crate) fn set_thread(
+    line: &mut Vec<u8>,
+    profile: &Profile,
+    thread: Thread,
+) -> Result<(), AllocError> {
     line.clear();
     let name = profile.tables.names.get(thread.name);
     push_comm(line, name.unwrap_or(b""))?;
@@ -57,8 +61,8 @@ fn count_lines(alloc: Global, profile: &Profile) -> Result<StackCounts, CountErr
     Ok(counts)
 }
 
-/// Returns the lines of a profile with their counts, each once, ascending by bytes.
-pub(crate) fn lines_of(alloc: Global, profile: &Profile) -> io::Result<StackCounts> {
+// Returns the lines of a profile with their counts, each once, ascending by bytes.
+fn lines_of(alloc: Global, profile: &Profile) -> io::Result<StackCounts> {
     match count_lines(alloc, profile) {
         Ok(counts) => Ok(counts),
         Err(CountError::Memory) => Err(ErrorKind::OutOfMemory.into()),

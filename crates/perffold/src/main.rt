@@ -3,6 +3,7 @@
 
 mod big_endian;
 mod counter;
+mod flame;
 mod lines;
 mod options;
 mod output;
@@ -18,6 +19,7 @@ mod top;
 mod unwinding;
 
 use counter::SampleCounter;
+use linux_perf_data::in_memory::InMemoryReader;
 use options::{Arguments, Options, OutputFormat, parse};
 use output::{
     FoldError, detail_of, format_of, is_for_terminal, print_notes, weight_in, write_counted,
@@ -27,9 +29,9 @@ use perfdata_cli::command_line::{
 };
 use perfdata_cli::error::{InputError, ProgramError, print_error};
 use perfdata_cli::input::{Input, display_name, open_in_memory, path_of};
-use perfdata_profile::options::Detail;
 use records::Records;
 use resolver::FrameResolver;
+use std::alloc::Global;
 use std::process::ExitCode;
 use symbols::directories::PathError;
 
@@ -44,36 +46,66 @@ fn read_input(rt: &HostRuntime, path: &str) -> Result<(bool, Vec<u8>), InputErro
     Ok((is_pipe, bytes))
 }
 
-// Writes the profile of the input at a path: also of the samples before an error.
-fn fold<'a>(
+// Opens what the options name frames by, with what a format needs.
+fn open_resolver<'a>(
     rt: &'a HostRuntime,
+    options: &Options<'a>,
+    format: OutputFormat,
+) -> Result<FrameResolver<'a>, PathError<'a>> {
+    let mut resolver = FrameResolver::open(rt, options)?;
+    match format {
+        OutputFormat::Frames => resolver.list_frames(rt.alloc()),
+        OutputFormat::Pprof | OutputFormat::Html => resolver.keep_files(rt.alloc()),
+        OutputFormat::Svg => resolver.keep_codes(rt.alloc()),
+        OutputFormat::Lines | OutputFormat::Top => {}
+    }
+    Ok(resolver)
+}
+
+// Creates what counts the samples for a format.
+fn counter_for<'a>(
+    alloc: Global,
+    options: &Options<'a>,
+    format: OutputFormat,
+    resolver: FrameResolver<'a>,
+) -> SampleCounter<'a> {
+    let options = Options {
+        weight: weight_in(format, options.weight),
+        ..*options
+    };
+    SampleCounter::new(alloc, &options, detail_of(format), resolver)
+}
+
+// Writes the profile of an input: also of the samples before an error.
+fn fold_records<'a>(
+    rt: &HostRuntime,
     arguments: &Arguments<'a>,
-    path: &str,
+    format: OutputFormat,
+    reader: InMemoryReader<'_>,
+    resolver: FrameResolver<'a>,
 ) -> Result<(), FoldError<'a>> {
-    let mut resolver = FrameResolver::open(rt, &arguments.options)?;
-    let (is_pipe, bytes) = read_input(rt, path)?;
-    let reader = open_in_memory(rt.alloc(), &bytes, is_pipe)?;
     let mut perf_file = reader.perf_file;
     let mut records = Records::new(rt.alloc(), &perf_file, reader.records);
-    let format = format_of(rt, arguments);
-    let detail = detail_of(format);
-    if format == OutputFormat::Frames {
-        resolver.list_frames(rt.alloc());
-    }
-    if detail == Detail::Locations {
-        resolver.keep_files(rt.alloc());
-    }
-    let options = Options {
-        weight: weight_in(format, arguments.options.weight),
-        ..arguments.options
-    };
-    let mut counter = SampleCounter::new(rt.alloc(), &options, detail, resolver);
+    let mut counter = counter_for(rt.alloc(), &arguments.options, format, resolver);
     let read = counter.add_all(&mut records, &mut perf_file);
     let counted = counter.finish();
     write_counted(rt, arguments, format, &perf_file, &counted)?;
     print_notes(rt, NAME, &counted);
     read?;
     Ok(counted.check_event()?)
+}
+
+// Writes the profile of the input at a path.
+fn fold<'a>(
+    rt: &'a HostRuntime,
+    arguments: &Arguments<'a>,
+    path: &str,
+) -> Result<(), FoldError<'a>> {
+    let format = format_of(rt, arguments);
+    let resolver = open_resolver(rt, &arguments.options, format)?;
+    let (is_pipe, bytes) = read_input(rt, path)?;
+    let reader = open_in_memory(rt.alloc(), &bytes, is_pipe)?;
+    fold_records(rt, arguments, format, reader, resolver)
 }
 
 // Folds the input that the options name. Returns the exit status.

@@ -69,6 +69,142 @@ const FRAMES: &str = "frames";
 
 const FORMATS: &[&str] = &["folded", SVG, PPROF, HTML, TOP, FRAMES];
 
+// An option of the command line.
+#[derive(Clone, Copy)]
+struct OptionText {
+    name: &'static str,
+    /// The name of its value, unless it is a flag.
+    value: Option<&'static str>,
+    /// The options that it can't be given with.
+    conflicts: &'static [&'static str],
+    help: &'static str,
+}
+
+// The options: of the output, of what is counted, of where symbols are, and of the names in lines.
+const OPTIONS: &[OptionText] = &[
+    OptionText {
+        name: SVG,
+        value: None,
+        conflicts: &[FORMAT],
+        help: "Write a flame graph, an SVG file for a browser",
+    },
+    OptionText {
+        name: FORMAT,
+        value: Some("FORMAT"),
+        conflicts: &[],
+        help: concat!(
+            "Write lines, a flame graph, a profile for pprof, a page that shows it, the functions with the most ",
+            "samples or the frames of each sample [default: top on a terminal, that of a FILE.svg, FILE.pb or ",
+            "FILE.html, else folded]"
+        ),
+    },
+    OptionText {
+        name: OUTPUT,
+        value: Some("FILE"),
+        conflicts: &[],
+        help: "Write FILE in place of standard output",
+    },
+    OptionText {
+        name: EVENT,
+        value: Some("EVENT"),
+        conflicts: &[],
+        help: concat!(
+            "Count the samples of the event with this name or index ",
+            "[default: that of the first sample]"
+        ),
+    },
+    OptionText {
+        name: ALL_EVENTS,
+        value: None,
+        conflicts: &[EVENT],
+        help: "Count the samples of all events",
+    },
+    OptionText {
+        name: WEIGHT,
+        value: Some("WEIGHT"),
+        conflicts: &[],
+        help: "What a sample counts: one, or its period",
+    },
+    OptionText {
+        name: SYMFS,
+        value: Some("DIR"),
+        conflicts: &[],
+        help: concat!(
+            "Look for mapped files, debug files and perf-PID.map files below DIR, ",
+            "which no link may leave"
+        ),
+    },
+    OptionText {
+        name: DEBUG_DIR,
+        value: Some("DIR"),
+        conflicts: &[],
+        help: "Look for debug files in DIR [default: /usr/lib/debug]",
+    },
+    OptionText {
+        name: KALLSYMS,
+        value: Some("FILE"),
+        conflicts: &[],
+        help: concat!(
+            "Name the kernel's functions by FILE, a copy of /proc/kallsyms, or by nothing if it is none ",
+            "[default: /proc/kallsyms if the running kernel is the recorded one]"
+        ),
+    },
+    OptionText {
+        name: MAPS,
+        value: Some("DIR"),
+        conflicts: &[],
+        help: "Look for perf-PID.map files in DIR [default: /tmp]",
+    },
+    OptionText {
+        name: VDSO,
+        value: Some("FILE"),
+        conflicts: &[],
+        help: "Unwind the code that the kernel maps as [vdso] by FILE, a copy of it",
+    },
+    OptionText {
+        name: NO_UNWIND,
+        value: None,
+        conflicts: &[],
+        help: "Don't unwind the stacks that samples have a copy of",
+    },
+    OptionText {
+        name: PID,
+        value: None,
+        conflicts: &[],
+        help: "Add the process id to the name of the thread",
+    },
+    OptionText {
+        name: TID,
+        value: None,
+        conflicts: &[],
+        help: "Add the process id and the thread id to the name of the thread",
+    },
+    OptionText {
+        name: NO_SYMBOLS,
+        value: None,
+        conflicts: &[],
+        help: "Name frames by their files",
+    },
+    OptionText {
+        name: RAW,
+        value: None,
+        conflicts: &[NO_SYMBOLS, SYMFS],
+        help: "Name frames by their addresses",
+    },
+    OptionText {
+        name: NO_DEMANGLE,
+        value: None,
+        conflicts: &[],
+        help: "Leave the mangled names of symbols as they are",
+    },
+    OptionText {
+        name: PARAMETERS,
+        value: None,
+        conflicts: &[NO_DEMANGLE],
+        help: "Add the parameters of C++ functions to their names",
+    },
+];
+
 /// What a sample counts.
 #[derive(Clone, Copy, PartialEq, Eq)]
 pub(crate) enum Weight {
@@ -161,89 +297,36 @@ pub(crate) struct Arguments<'a> {
     pub(crate) output: Option<&'a str>,
 }
 
-// Returns a flag.
-fn flag<'a>(alloc: Global, name: &'a str, help: &'a str) -> Arg<'a> {
-    Arg::new(alloc, name)
-        .long(name)
-        .action(ArgAction::SetTrue)
-        .help(help)
+// Returns an option with its help, and the options that it can't be given with.
+fn argument(alloc: Global, option: &OptionText) -> Result<Arg<'static>, AllocError> {
+    let arg = Arg::new(alloc, option.name)
+        .long(option.name)
+        .help(option.help);
+    let arg = match option.value {
+        Some(value) => arg.value_name(value),
+        None => arg.action(ArgAction::SetTrue),
+    };
+    arg.conflicts_with_all(option.conflicts)
 }
 
-// Returns an option with a value.
-fn option<'a>(alloc: Global, name: &'a str, value: &'a str, help: &'a str) -> Arg<'a> {
-    Arg::new(alloc, name)
-        .long(name)
-        .value_name(value)
-        .help(help)
-}
-
-// Adds the options that select samples and what they count.
-fn with_selection<'a>(alloc: Global, command: Command<'a>) -> Result<Command<'a>, AllocError> {
-    let event =
-        "Count the samples of the event with this name or index [default: that of the first sample]";
-    let weight = "What a sample counts: one, or its period";
-    command
-        .arg(option(alloc, EVENT, "EVENT", event))?
-        .arg(flag(alloc, ALL_EVENTS, "Count the samples of all events").conflicts_with(EVENT)?)?
-        .arg(option(alloc, WEIGHT, "WEIGHT", weight).value_parser(WEIGHTS))
-}
-
-// Adds the options that say where symbols are.
-fn with_symbols<'a>(alloc: Global, command: Command<'a>) -> Result<Command<'a>, AllocError> {
-    let symfs =
-        "Look for mapped files, debug files and perf-PID.map files below DIR, which no link may leave";
-    let kallsyms = concat!(
-        "Name the kernel's functions by FILE, a copy of /proc/kallsyms, or by nothing if it is none ",
-        "[default: /proc/kallsyms if the running kernel is the recorded one]"
-    );
-    let debug_dir = "Look for debug files in DIR [default: /usr/lib/debug]";
-    let maps = "Look for perf-PID.map files in DIR [default: /tmp]";
-    let vdso = "Unwind the code that the kernel maps as [vdso] by FILE, a copy of it";
-    let no_unwind = "Don't unwind the stacks that samples have a copy of";
-    command
-        .arg(option(alloc, SYMFS, "DIR", symfs))?
-        .arg(option(alloc, DEBUG_DIR, "DIR", debug_dir))?
-        .arg(option(alloc, KALLSYMS, "FILE", kallsyms))?
-        .arg(option(alloc, MAPS, "DIR", maps))?
-        .arg(option(alloc, VDSO, "FILE", vdso))?
-        .arg(flag(alloc, NO_UNWIND, no_unwind))
-}
-
-// Adds the flags for the names in lines.
-fn with_names<'a>(alloc: Global, command: Command<'a>) -> Result<Command<'a>, AllocError> {
-    let tid = "Add the process id and the thread id to the name of the thread";
-    let raw = flag(alloc, RAW, "Name frames by their addresses").conflicts_with(NO_SYMBOLS)?;
-    let parameters = "Add the parameters of C++ functions to their names";
-    let no_demangle = "Leave the mangled names of symbols as they are";
-    command
-        .arg(flag(alloc, PID, "Add the process id to the name of the thread"))?
-        .arg(flag(alloc, TID, tid))?
-        .arg(flag(alloc, NO_SYMBOLS, "Name frames by their files"))?
-        .arg(raw.conflicts_with(SYMFS)?)?
-        .arg(flag(alloc, NO_DEMANGLE, no_demangle))?
-        .arg(flag(alloc, PARAMETERS, parameters).conflicts_with(NO_DEMANGLE)?)
-}
-
-// Adds the options of the output.
-fn with_output<'a>(alloc: Global, command: Command<'a>) -> Result<Command<'a>, AllocError> {
-    let format = concat!(
-        "Write lines, a flame graph, a profile for pprof, a page that shows it, the functions with the most ",
-        "samples or the frames of each sample [default: top on a terminal, that of a FILE.svg, FILE.pb or ",
-        "FILE.html, else folded]"
-    );
-    let svg = flag(alloc, SVG, "Write a flame graph, an SVG file for a browser");
-    let output = "Write FILE in place of standard output";
-    command
-        .arg(svg.conflicts_with(FORMAT)?)?
-        .arg(option(alloc, FORMAT, "FORMAT", format).value_parser(FORMATS))?
-        .arg(option(alloc, OUTPUT, "FILE", output).short('o'))
+// Returns an option with the values that it can have, or with its short name.
+fn with_values<'a>(name: &str, arg: Arg<'a>) -> Arg<'a> {
+    match name {
+        WEIGHT => arg.value_parser(WEIGHTS),
+        FORMAT => arg.value_parser(FORMATS),
+        OUTPUT => arg.short('o'),
+        _ => arg,
+    }
 }
 
 // Returns the command with its options.
 fn command_with_options<'a>(alloc: Global, name: &'a str) -> Result<Command<'a>, AllocError> {
-    let command = with_output(alloc, command(alloc, name, ABOUT, RECORDING_HELP)?)?;
-    let command = with_selection(alloc, command)?;
-    with_names(alloc, with_symbols(alloc, command)?)
+    let mut command = command(alloc, name, ABOUT, RECORDING_HELP)?;
+    for option in OPTIONS {
+        let arg = argument(alloc, option)?;
+        command = command.arg(with_values(option.name, arg))?;
+    }
+    Ok(command)
 }
 
 // Returns which samples are counted.

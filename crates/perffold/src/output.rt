@@ -1,9 +1,11 @@
 //! Writes a profile, and what isn't in it on standard error.
 
 use crate::counter::CountedSamples;
-use crate::lines::{lines_of, write_lines};
+use crate::flame::write_svg;
+use crate::lines::write_lines;
 use crate::options::{Arguments, OutputFormat, Weight};
 use crate::pprof::{Recorded, write_page, write_pprof};
+use crate::resolver::codes::Codes;
 use crate::symbols::FileCounts;
 use crate::symbols::directories::PathError;
 use crate::title::title_of;
@@ -12,7 +14,7 @@ use crate::unwinding::EndCounts;
 use linux_perf_data::PerfFile;
 use perfdata_cli::error::{InputError, ProgramError};
 use perfdata_profile::options::Detail;
-use perfdata_stacks::flame::svg::{Caption, write_flame_graph};
+use perfdata_stacks::flame::svg::Caption;
 use std::fs::File;
 use std::io::{BufWriter, IsTerminal, Write};
 use std::{fs, io};
@@ -51,6 +53,8 @@ struct Outcome<'a> {
     format: OutputFormat,
     recorded: Recorded<'a>,
     caption: Caption<'a>,
+    /// What code functions are, if it is shown.
+    codes: Option<&'a Codes>,
     /// The lines of the frames of each sample, if they are written.
     frames: &'a [u8],
 }
@@ -114,12 +118,13 @@ fn write_profile<W: Write>(rt: &HostRuntime, outcome: Outcome<'_>, out: &mut W) 
         format,
         recorded,
         caption,
+        codes,
         frames,
     } = outcome;
     let profile = recorded.profile;
     match format {
         OutputFormat::Lines => write_lines(alloc, profile, out)?,
-        OutputFormat::Svg => write_flame_graph(alloc, &lines_of(alloc, profile)?, caption, out)?,
+        OutputFormat::Svg => write_svg(alloc, profile, codes, caption, out)?,
         OutputFormat::Pprof => write_pprof(alloc, recorded, out)?,
         OutputFormat::Html => write_page(alloc, recorded, out)?,
         OutputFormat::Top => write_top(alloc, profile, caption.unit, out)?,
@@ -196,6 +201,7 @@ pub(crate) fn write_counted<'a>(
         format,
         recorded,
         caption,
+        codes: counted.resolver.codes(),
         frames: counted.resolver.listed_frames(),
     };
     write_outcome(rt, arguments.output, outcome)

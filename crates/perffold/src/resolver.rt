@@ -25,9 +25,11 @@ use perfdata_stacks::line::push_name;
 use std::alloc::{AllocError, Global};
 use std::collections::HashMap;
 
+pub(crate) mod codes;
 mod listing;
 pub(crate) mod mapped_files;
 
+use codes::Codes;
 use listing::Listing;
 use mapped_files::MappedFiles;
 
@@ -46,6 +48,16 @@ enum NameSource<'a> {
     Files,
     /// Addresses.
     Addresses,
+}
+
+// What is kept of frames beside their names.
+#[derive(Drop)]
+enum Kept {
+    Nothing,
+    /// What a profile says of the mapped files.
+    Files(MappedFiles),
+    /// What code the functions are.
+    Codes(Codes),
 }
 
 // What names a frame.
@@ -75,8 +87,7 @@ pub(crate) struct FrameResolver<'a> {
     unwinding: Option<Unwinding<'a>>,
     /// The lines of the frames of each sample, if they are written.
     listing: Option<Listing>,
-    /// The mapped files, if they are written.
-    files: Option<MappedFiles>,
+    kept: Kept,
 }
 
 // Returns which names frames have.
@@ -140,18 +151,34 @@ impl<'a> FrameResolver<'a> {
             text: Vec::new(alloc),
             unwinding: open_unwinding(rt, options)?,
             listing: None,
-            files: None,
+            kept: Kept::Nothing,
         })
     }
 
     /// Keeps from now on what a profile says of mapped files.
     pub(crate) fn keep_files(&mut self, alloc: Global) {
-        self.files = Some(MappedFiles::new(alloc));
+        self.kept = Kept::Files(MappedFiles::new(alloc));
     }
 
     /// Returns what a profile says of mapped files, if it is kept.
     pub(crate) fn files(&self) -> Option<&MappedFiles> {
-        self.files.as_ref()
+        match &self.kept {
+            Kept::Files(files) => Some(files),
+            _ => None,
+        }
+    }
+
+    /// Keeps from now on what code functions are.
+    pub(crate) fn keep_codes(&mut self, alloc: Global) {
+        self.kept = Kept::Codes(Codes::new(alloc));
+    }
+
+    /// Returns what code functions are, if it is kept.
+    pub(crate) fn codes(&self) -> Option<&Codes> {
+        match &self.kept {
+            Kept::Codes(codes) => Some(codes),
+            _ => None,
+        }
     }
 
     /// Returns how the chains of samples end, if samples are unwound.
@@ -197,7 +224,7 @@ impl<'a> FrameResolver<'a> {
         if let Some(unwinding) = &mut self.unwinding {
             unwinding.read_metadata(perf_file)?;
         }
-        if let Some(files) = &mut self.files {
+        if let Kept::Files(files) = &mut self.kept {
             files.read_metadata(perf_file)?;
         }
         match &mut self.source {
@@ -211,7 +238,7 @@ impl<'a> FrameResolver<'a> {
         if let Some(unwinding) = &mut self.unwinding {
             unwinding.add_build_id(record)?;
         }
-        if let Some(files) = &mut self.files {
+        if let Kept::Files(files) = &mut self.kept {
             files.add_build_id(record)?;
         }
         match &mut self.source {
@@ -304,6 +331,9 @@ impl<'a> FrameResolver<'a> {
         if name != FrameName::Address {
             self.ids.insert(name, id)?;
         }
+        if let Kept::Codes(codes) = &mut self.kept {
+            codes.add(id, frame)?;
+        }
         Ok(id)
     }
 }
@@ -335,7 +365,7 @@ impl Resolver for FrameResolver<'_> {
         record: &EventRecord<'_>,
         mapping: Option<&Mapping>,
     ) -> Result<(), AllocError> {
-        if let (Some(files), Some(mapping)) = (&mut self.files, mapping) {
+        if let (Kept::Files(files), Some(mapping)) = (&mut self.kept, mapping) {
             files.add_mapping(mapping)?;
         }
         match &mut self.source {
@@ -386,9 +416,9 @@ impl Resolver for FrameResolver<'_> {
     }
 
     fn file(&mut self, mapping: &Mapping, names: &mut Names) -> Result<FileNames, AllocError> {
-        let build_id = match &self.files {
-            Some(files) => files.build_id(mapping),
-            None => mapping.build_id.as_slice(),
+        let build_id = match &self.kept {
+            Kept::Files(files) => files.build_id(mapping),
+            _ => mapping.build_id.as_slice(),
         };
         self.text.clear();
         push_path(&mut self.text, mapping)?;

@@ -48,15 +48,21 @@ pub(crate) fn push_address(text: &mut Vec<u8>, address: u64) -> Result<(), Alloc
     write!(text, "{address:#x}").map_err(|_| AllocError)
 }
 
-/// Appends the path of a mapping's file, or in brackets what is no file. The path of the kernel loses its
-/// symbol.
-pub(crate) fn push_path(text: &mut Vec<u8>, mapping: &Mapping) -> Result<(), AllocError> {
+/// Returns the path of a mapping. That of the kernel loses the symbol that follows it.
+pub(crate) fn path_without_symbol(mapping: &Mapping) -> &[u8] {
     let path = mapping.path.as_slice();
-    let is_path = path.starts_with(b"/") && !is_anonymous(mapping);
-    let is_bracketed = path.starts_with(b"[") && !is_generated(mapping);
     if path.starts_with(KERNEL_PATH) {
-        text.extend_from_slice(KERNEL_PATH)
-    } else if is_path || is_bracketed {
+        KERNEL_PATH
+    } else {
+        path
+    }
+}
+
+/// Appends the path of a mapping's file, or in brackets what is no file.
+pub(crate) fn push_path(text: &mut Vec<u8>, mapping: &Mapping) -> Result<(), AllocError> {
+    let path = path_without_symbol(mapping);
+    let is_path = path.starts_with(b"/") && !is_anonymous(mapping);
+    if is_path || path.starts_with(b"[") && !is_generated(mapping) {
         text.extend_from_slice(path)
     } else {
         push_file_name(text, mapping)
@@ -64,18 +70,13 @@ pub(crate) fn push_path(text: &mut Vec<u8>, mapping: &Mapping) -> Result<(), All
 }
 
 /// Appends the name of a mapping's file in brackets, or that of the process's map file for executable memory
-/// without a file. The path of the kernel loses its symbol.
+/// without a file.
 pub(crate) fn push_file_name(text: &mut Vec<u8>, mapping: &Mapping) -> Result<(), AllocError> {
-    let (path, pid) = (mapping.path.as_slice(), mapping.pid);
     if is_generated(mapping) {
-        return write!(text, "[perf-{pid}.map]").map_err(|_| AllocError);
+        return write!(text, "[perf-{}.map]", mapping.pid).map_err(|_| AllocError);
     }
     text.push(b'[')?;
-    if path.starts_with(KERNEL_PATH) {
-        text.extend_from_slice(KERNEL_PATH)?;
-    } else {
-        push_name(text, base_name(path))?;
-    }
+    push_name(text, base_name(path_without_symbol(mapping)))?;
     text.push(b']')?;
     Ok(())
 }

@@ -26,7 +26,7 @@ h1 { font-size: 15px; margin: 0; }
 footer { border-top: 1px solid var(--edge); height: 48px; overflow: auto;
  font: 12px monospace; white-space: pre-wrap; }
 select { max-width: 220px; }
-#scroll { overflow: auto; position: relative; }
+#scroll { overflow: hidden auto; position: relative; }
 #graph { position: sticky; top: 0; display: block; cursor: pointer; outline-offset: -2px; }
 aside { overflow: auto; border-left: 1px solid var(--edge); padding: 4px; }
 table { border-collapse: collapse; font: 12px monospace; white-space: pre; }
@@ -316,9 +316,9 @@ pub(crate) const END: &str = r##"</script>
   }
   let ink = "#000";
   function draw() {
-    const width = area.clientWidth, height = area.clientHeight, top = area.scrollTop;
-    const ratio = devicePixelRatio || 1;
+    const height = area.clientHeight, ratio = devicePixelRatio || 1;
     element("space").style.height = Math.max(0, tree.rows * ROW - height) + "px";
+    const width = area.clientWidth, top = area.scrollTop; // a scroll bar may be there now
     canvas.style.width = width + "px";
     canvas.style.height = height + "px";
     canvas.width = width * ratio;

@@ -1,155 +1,181 @@
-//! The boxes of the frames of lines.
+//! The boxes of the frames of stacks.
 
-use crate::counts::StackCounts;
 use crate::flame::open_boxes::OpenBoxes;
 use crate::flame::span::Span;
+use crate::flame::stacks::{FlameStacks, FrameName};
 use std::alloc::{AllocError, Global};
 
-// What is between the names of a sorted line. No name contains it, and it sorts before all of their bytes.
-const SEPARATOR: u8 = 0;
-
-/// A line with its count, in which `SEPARATOR` is between the names.
-#[derive(Drop)]
-pub(crate) struct SortedLine {
-    names: Vec<u8>,
-    count: u64,
-}
-
-/// The name of a frame: a range of the bytes of a line.
-#[derive(Clone, Copy)]
-pub(crate) struct FrameName {
-    line: usize,
-    start: usize,
-    end: usize,
-}
-
-/// A box: the samples of lines that start alike up to this frame.
+/// A box: the samples of stacks that start alike up to this frame.
 #[derive(Clone, Copy)]
 pub(crate) struct FlameBox {
-    pub(crate) name: FrameName,
+    /// The rank of the name.
+    pub(crate) rank: usize,
     /// The number of frames before it.
     pub(crate) depth: usize,
     pub(crate) span: Span,
 }
 
-/// The lines, in the order in which their boxes are beside each other, and the boxes.
+// The names in the order of their texts.
+#[derive(Drop)]
+struct Ranks {
+    /// The rank of each name. Those with one text have one rank.
+    of_name: Vec<usize>,
+    /// The first name of each rank.
+    first: Vec<usize>,
+}
+
+// A stack as ranks of names, the root's first.
+#[derive(Drop)]
+struct RankedStack {
+    ranks: Vec<usize>,
+    weight: u64,
+}
+
+/// The boxes, in the order in which they end.
 #[derive(Drop)]
 pub(crate) struct FlameBoxes {
-    lines: Vec<SortedLine>,
     pub(crate) boxes: Vec<FlameBox>,
-    names: Vec<FrameName>,
+    /// The first name of each rank.
+    first: Vec<usize>,
+    // The ranks of the open boxes.
+    ranks: Vec<usize>,
     open: OpenBoxes,
+    /// The sum of all weights.
+    pub(crate) total: u64,
 }
 
-// Returns a line with the separator between the names.
-fn sorted_line(alloc: Global, line: &[u8], count: u64) -> Result<SortedLine, AllocError> {
-    let mut names = line.to_vec(alloc)?;
-    for byte in names.iter_mut() {
-        if *byte == b';' {
-            *byte = SEPARATOR;
+// Returns the text of a name.
+fn text_of(names: &[FrameName], number: usize) -> &[u8] {
+    match names.get(number) {
+        Some(name) => name.text.as_slice(),
+        None => &[],
+    }
+}
+
+// Returns the numbers of names in the order of their texts.
+fn sorted_numbers(alloc: Global, names: &[FrameName]) -> Result<Vec<usize>, AllocError> {
+    let mut numbers = Vec::new(alloc);
+    for number in 0..names.len() {
+        numbers.push(number)?;
+    }
+    numbers.sort_by(|a: &usize, b: &usize| text_of(names, *a).cmp(text_of(names, *b)))?;
+    Ok(numbers)
+}
+
+// Returns the ranks of names.
+fn ranks_of(alloc: Global, names: &[FrameName]) -> Result<Ranks, AllocError> {
+    let mut ranks = Ranks {
+        of_name: vec![in alloc; 0; names.len()]?,
+        first: Vec::new(alloc),
+    };
+    for number in sorted_numbers(alloc, names)?.iter() {
+        let is_last = match ranks.first.last() {
+            Some(last) => text_of(names, *last) == text_of(names, *number),
+            None => false,
+        };
+        if !is_last {
+            ranks.first.push(*number)?;
+        }
+        if let Some(rank) = ranks.of_name.get_mut(*number) {
+            *rank = ranks.first.len().saturating_sub(1);
         }
     }
-    Ok(SortedLine { names, count })
+    Ok(ranks)
 }
 
-// Returns the lines, ordered by the names of their frames.
-fn sorted_lines(alloc: Global, counts: &StackCounts) -> Result<Vec<SortedLine>, AllocError> {
-    let mut lines = Vec::new(alloc);
-    for (line, count) in counts.iter() {
-        lines.push(sorted_line(alloc, line.as_slice(), *count)?)?;
+// Returns the ranks of the names of a stack.
+fn ranks_in(alloc: Global, ranks: &Ranks, names: &[usize]) -> Result<Vec<usize>, AllocError> {
+    let mut in_stack = Vec::new(alloc);
+    for name in names {
+        if let Some(rank) = ranks.of_name.get(*name) {
+            in_stack.push(*rank)?;
+        }
     }
-    lines.sort_by(|a: &SortedLine, b: &SortedLine| a.names.cmp(&b.names))?;
-    Ok(lines)
+    Ok(in_stack)
 }
 
-// Returns the number of names with which both lines start.
-fn shared_names(first: &[u8], second: &[u8]) -> usize {
-    let first_names = first.split(|byte| *byte == SEPARATOR);
-    let second_names = second.split(|byte| *byte == SEPARATOR);
-    first_names
-        .zip(second_names)
-        .take_while(|(a, b)| a == b)
+// Returns the stacks in the order in which their boxes are beside each other.
+fn sorted_stacks(
+    alloc: Global,
+    stacks: &FlameStacks,
+    ranks: &Ranks,
+) -> Result<Vec<RankedStack>, AllocError> {
+    let mut sorted = Vec::new(alloc);
+    for stack in stacks.stacks() {
+        sorted.push(RankedStack {
+            ranks: ranks_in(alloc, ranks, stack.names.as_slice())?,
+            weight: stack.weight,
+        })?;
+    }
+    sorted.sort_by(|a: &RankedStack, b: &RankedStack| a.ranks.cmp(&b.ranks))?;
+    Ok(sorted)
+}
+
+// Returns the number of ranks with which both lists start.
+fn shared_ranks(first: &[usize], second: &[usize]) -> usize {
+    first
+        .iter()
+        .zip(second.iter())
+        .take_while(|(a, b)| **a == **b)
         .count()
 }
 
 impl FlameBoxes {
-    /// Returns the boxes of lines.
-    pub(crate) fn new(alloc: Global, counts: &StackCounts) -> Result<FlameBoxes, AllocError> {
+    /// Returns the boxes of stacks.
+    pub(crate) fn new(alloc: Global, stacks: &FlameStacks) -> Result<FlameBoxes, AllocError> {
+        let ranks = ranks_of(alloc, stacks.names())?;
+        let sorted = sorted_stacks(alloc, stacks, &ranks)?;
         let mut boxes = FlameBoxes {
-            lines: sorted_lines(alloc, counts)?,
             boxes: Vec::new(alloc),
-            names: Vec::new(alloc),
+            first: ranks.first,
+            ranks: Vec::new(alloc),
             open: OpenBoxes::new(alloc),
+            total: 0,
         };
-        for line in 0..boxes.lines.len() {
-            boxes.add_line(line)?;
+        for stack in sorted.iter() {
+            boxes.add_stack(stack)?;
         }
         boxes.close_down_to(0)?;
         Ok(boxes)
     }
 
-    // Returns the number of names that a line shares with the line before it.
-    fn shared_with_previous(&self, line: usize) -> usize {
-        let previous = line.checked_sub(1).and_then(|index| self.lines.get(index));
-        match (previous, self.lines.get(line)) {
-            (Some(previous), Some(line)) => shared_names(&previous.names, &line.names),
-            _ => 0,
-        }
-    }
-
     // Closes the boxes inside the outermost ones, of which `depth` stay open.
     fn close_down_to(&mut self, depth: usize) -> Result<(), AllocError> {
         for _ in depth..self.open.len() {
-            if let (Some(span), Some(name)) = (self.open.close(), self.names.pop()) {
+            if let (Some(span), Some(rank)) = (self.open.close(), self.ranks.pop()) {
                 let depth = self.open.len();
-                self.boxes.push(FlameBox { name, depth, span })?;
+                self.boxes.push(FlameBox { rank, depth, span })?;
             }
         }
         Ok(())
     }
 
-    // Opens the boxes of the names of a line after the first `shared` ones.
-    fn open_from(&mut self, line: usize, shared: usize) -> Result<(), AllocError> {
-        let Some(sorted) = self.lines.get(line) else {
-            return Ok(());
-        };
-        let mut start = 0usize;
-        for (index, name) in sorted.names.split(|byte| *byte == SEPARATOR).enumerate() {
-            let end = start.saturating_add(name.len());
-            if index >= shared {
-                self.names.push(FrameName { line, start, end })?;
-                self.open.open()?;
-            }
-            start = end.saturating_add(1);
+    // Opens the boxes of ranks.
+    fn open(&mut self, ranks: &[usize]) -> Result<(), AllocError> {
+        for rank in ranks {
+            self.ranks.push(*rank)?;
+            self.open.open()?;
         }
         Ok(())
     }
 
-    // Adds a line: closes the boxes that don't contain it, and opens its own.
-    fn add_line(&mut self, line: usize) -> Result<(), AllocError> {
-        let shared = self.shared_with_previous(line);
+    // Adds a stack: closes the boxes that don't contain it, and opens its own.
+    fn add_stack(&mut self, stack: &RankedStack) -> Result<(), AllocError> {
+        let shared = shared_ranks(&self.ranks, &stack.ranks);
         self.close_down_to(shared)?;
-        self.open_from(line, shared)?;
-        if let Some(sorted) = self.lines.get(line) {
-            self.open.advance(sorted.count);
-        }
+        self.open(stack.ranks.get(shared..).unwrap_or(&[]))?;
+        self.open.advance(stack.weight);
+        self.total = self.total.saturating_add(stack.weight);
         Ok(())
     }
 
-    /// Returns the bytes of a name.
-    pub(crate) fn name(&self, name: FrameName) -> &[u8] {
-        match self.lines.get(name.line) {
-            Some(line) => line.names.get(name.start..name.end).unwrap_or(&[]),
-            None => &[],
-        }
-    }
-
-    /// Returns the largest number of frames of a line.
-    pub(crate) fn height(&self) -> usize {
-        let mut height = 0;
-        for flame_box in self.boxes.iter() {
-            height = flame_box.depth.saturating_add(1).max(height);
-        }
-        height
+    /// Returns the name of a box.
+    pub(crate) fn name<'a>(
+        &self,
+        stacks: &'a FlameStacks,
+        flame_box: &FlameBox,
+    ) -> Option<&'a FrameName> {
+        let number = self.first.get(flame_box.rank)?;
+        stacks.names().get(*number)
     }
 }

@@ -16,11 +16,19 @@ svg > text { fill: var(--ink); }
 #boxes g.outer { opacity: 0.6; }
 .searching #boxes g:not(.found) rect { opacity: 0.25; }
 .searching #boxes g:not(.found) text { fill: var(--ink); }
+.thread { fill: #c4c4d0; } .user { fill: #f0a038; } .kernel { fill: #88b8ec; }
+.generated { fill: #84c878; } .unknown { fill: #d4a8dc; }
 .bar input, .bar button { font: inherit; color: var(--ink); background: var(--button); border: 1px solid #888;
   border-radius: 3px; height: 24px; box-sizing: border-box; }
 @media (prefers-color-scheme: dark) { svg { --background: #1c1c1c; --ink: #e0e0e0; --button: #383838; } }
 </style>
 <rect id="background" width="100%" height="100%"/>
+"##;
+
+/// What the hues mean.
+pub(crate) const LEGEND: &str = r##"<text x="100%" dx="-10" y="43" text-anchor="end">
+<tspan class="user">&#9632;</tspan> user <tspan class="kernel">&#9632;</tspan> kernel
+<tspan class="generated">&#9632;</tspan> generated <tspan class="unknown">&#9632;</tspan> unknown</text>
 "##;
 
 /// Zooms, searches and says what a box is. It reads names as text, and makes elements without markup.
@@ -41,11 +49,13 @@ pub(crate) const SCRIPT: &str = r##"
   // A box: its elements, its name, what else its title says, and its place in percent of the graph's width,
   // before any zoom and now.
   graph.querySelectorAll("g").forEach(function (group) {
-    var rect = group.querySelector("rect"), title = group.querySelector("title").textContent, end = title.lastIndexOf("\n");
+    var rect = group.querySelector("rect"), title = group.querySelector("title").textContent;
+    var end = title.lastIndexOf("\n");
     var left = number(rect, "x"), width = number(rect, "width");
     var box = {
-      group: group, rect: rect, text: group.querySelector("text"), name: title.slice(0, end), weight: title.slice(end + 1),
-      left: left, width: width, top: number(rect, "y"), shownLeft: left, shownWidth: width
+      group: group, rect: rect, text: group.querySelector("text"), name: title.slice(0, end),
+      weight: title.slice(end + 1), left: left, width: width, top: number(rect, "y"), shownLeft: left,
+      shownWidth: width
     };
     boxes.push(box);
     boxOf.set(group, box);
@@ -54,7 +64,8 @@ pub(crate) const SCRIPT: &str = r##"
 
   // Writes as much of the name as fits.
   function setName(box) {
-    var width = box.shownWidth / 100 * graphWidth, limit = Math.floor((width - 2 * NAME_MARGIN + 0.001) / CHARACTER_WIDTH);
+    var width = box.shownWidth / 100 * graphWidth;
+    var limit = Math.floor((width - 2 * NAME_MARGIN + 0.001) / CHARACTER_WIDTH);
     if (limit < 3 && !box.text) {
       return;
     }
@@ -156,7 +167,8 @@ pub(crate) const SCRIPT: &str = r##"
 
   function showSearch() {
     var found = search(input.value), functions = found.names === 1 ? " function, " : " functions, ";
-    result.textContent = input.value === "" ? "" : found.names + functions + (100 * found.share).toFixed(2) + " %";
+    var share = (100 * found.share).toFixed(2) + " %";
+    result.textContent = input.value === "" ? "" : found.names + functions + share;
   }
 
   // Keeps the term in the address, where that is allowed.

@@ -1,9 +1,12 @@
 //! The SVG of a flame graph.
+ghost use Rattle.std.specs.Prelude.{ℕ, List, OnOk};
+ghost use Rattle.std.specs.Io.KnownBytes.{Appends};
 
-use crate::counts::StackCounts;
-use crate::flame::boxes::{FlameBox, FlameBoxes};
-use crate::flame::script::{SCRIPT, START, STYLE};
+use crate::flame::boxes::FlameBoxes;
+use crate::flame::colors::color_of;
+use crate::flame::script::{LEGEND, SCRIPT, START, STYLE};
 use crate::flame::span::{Span, share};
+use crate::flame::stacks::{FlameStacks, FrameKind};
 use crate::flame::xml_text::XmlText;
 use bstr::ByteSlice;
 use std::alloc::Global;
@@ -41,8 +44,12 @@ const NAME_MARGIN: u64 = 3;
 // The smallest number of characters of a name for which it is written into its box.
 const MIN_CHARACTERS: u64 = 3;
 
-// The name of the box of all samples.
-const ALL: &[u8] = b"all";
+// The box of all samples.
+const ALL: Label<'static> = Label {
+    kind: FrameKind::Thread,
+    text: b"all",
+    file: b"",
+};
 
 /// What a flame graph says of itself.
 #[derive(Clone, Copy)]
@@ -93,16 +100,12 @@ struct Picture<'a> {
     unit: &'a str,
 }
 
-// Returns a color between yellow and red, which depends on the name alone (FNV-1a).
-fn color_of(name: &[u8]) -> u32 {
-    let mut hash = 0x811c_9dc5u32;
-    for byte in name {
-        hash = (hash ^ *byte as u32).wrapping_mul(0x0100_0193);
-    }
-    let green = 80 + hash % 140;
-    let blue = hash / 256 % 56;
-    let red = 210 + hash / 65536 % 46;
-    red * 65536 + green * 256 + blue
+// What is written in a box, and of it.
+#[derive(Clone, Copy)]
+struct Label<'a> {
+    kind: FrameKind,
+    text: &'a [u8],
+    file: &'a [u8],
 }
 
 impl Picture<'_> {
@@ -122,34 +125,52 @@ impl Picture<'_> {
         }
     }
 
-    // Writes what is shown for a box under the pointer: its name, its weight and its share of all weights.
-    fn write_title<W: Write>(&self, name: &[u8], weight: u64, out: &mut W) -> io::Result<()> {
-        let text = XmlText::whole(name);
+    // Writes what is shown for a box under the pointer: its name, its weight, its share of all weights and
+    // its file.
+    fn write_title(&self, label: Label<'_>, weight: u64, out: &mut Vec<u8>) -> io::Result<()> {
+        let text = XmlText::whole(label.text);
         let percent = Hundredths(share(weight, self.total, 10_000));
         let unit = self.unit;
-        write!(out, "<g><title>{text}\n{weight} {unit}, {percent}%</title>")
+        write!(out, "<g><title>{text}\n{weight} {unit}, {percent}%")?;
+        if !label.file.is_empty() {
+            let file = XmlText::whole(label.file);
+            write!(out, ", {file}")?;
+        }
+        out.write_all(b"</title>")
     }
 
     // Writes a box, unless it is too narrow.
-    fn write_box<W: Write>(
+    fn write_box(
         &self,
-        name: &[u8],
+        label: Label<'_>,
         span: Span,
         row: u64,
-        out: &mut W,
+        out: &mut Vec<u8>,
     ) -> io::Result<()> {
         if self.is_narrow(span) {
             return Ok(());
         }
         let place = self.place(span, row);
-        self.write_title(name, span.weight(), out)?;
-        write_rectangle(place, color_of(name), out)?;
-        write_name(place, name, out)?;
+        self.write_title(label, span.weight(), out)?;
+        write_rectangle(place, color_of(label.kind, label.text), out)?;
+        write_name(place, label.text, out)?;
         out.write_all(b"</g>\n")
     }
 
+    // Returns the number of rows of boxes: that of all samples, and those below it with boxes that are wide
+    // enough.
+    fn rows(&self, boxes: &FlameBoxes) -> u64 {
+        let mut rows = 1u64;
+        for flame_box in boxes.boxes.iter() {
+            if !self.is_narrow(flame_box.span) {
+                rows = rows.max((flame_box.depth as u64).saturating_add(2));
+            }
+        }
+        rows
+    }
+
     // Writes how many boxes are left out, if there are any.
-    fn write_omissions<W: Write>(&self, boxes: &FlameBoxes, out: &mut W) -> io::Result<()> {
+    fn write_omissions(&self, boxes: &FlameBoxes, out: &mut Vec<u8>) -> io::Result<()> {
         let all = boxes.boxes.len();
         let narrow = boxes
             .boxes
@@ -161,21 +182,33 @@ impl Picture<'_> {
         }
         writeln!(
             out,
-            "<!-- {narrow} of {all} boxes are left out: they are narrower than a tenth of a pixel of {GRAPH_WIDTH} -->"
-        )
+            "<!-- {narrow} of {all} boxes are left out: they are narrower than"
+        )?;
+        writeln!(out, "a tenth of a pixel of {GRAPH_WIDTH} -->")
     }
 
     // Writes the boxes.
-    fn write_boxes<W: Write>(&self, boxes: &FlameBoxes, out: &mut W) -> io::Result<()> {
+    fn write_boxes(
+        &self,
+        stacks: &FlameStacks,
+        boxes: &FlameBoxes,
+        out: &mut Vec<u8>,
+    ) -> io::Result<()> {
         let all = Span {
             start: 0,
             end: self.total,
         };
         self.write_box(ALL, all, 0, out)?;
         for flame_box in boxes.boxes.iter() {
-            let FlameBox { name, depth, span } = *flame_box;
-            let row = (depth as u64).saturating_add(1);
-            self.write_box(boxes.name(name), span, row, out)?;
+            let row = (flame_box.depth as u64).saturating_add(1);
+            if let Some(name) = boxes.name(stacks, flame_box) {
+                let label = Label {
+                    kind: name.kind,
+                    text: name.text.as_slice(),
+                    file: name.file.as_slice(),
+                };
+                self.write_box(label, flame_box.span, row, out)?;
+            }
         }
         Ok(())
     }
@@ -187,13 +220,15 @@ fn top_of(row: u64) -> u64 {
 }
 
 // Writes the rectangle of a box.
-fn write_rectangle<W: Write>(place: Place, color: u32, out: &mut W) -> io::Result<()> {
+fn write_rectangle(place: Place, color: [u8; 3], out: &mut Vec<u8>) -> io::Result<()> {
     let (x, y) = (WidthParts(place.left), top_of(place.row));
     let (width, height) = (WidthParts(place.width), ROW_HEIGHT - 1);
+    let (red, green, blue) = (color[0], color[1], color[2]);
     write!(
         out,
-        r##"<rect x="{x}" y="{y}" width="{width}" height="{height}" fill="#{color:06x}"/>"##
-    )
+        r#"<rect x="{x}" y="{y}" width="{width}" height="{height}""#
+    )?;
+    write!(out, r##" fill="#{red:02x}{green:02x}{blue:02x}"/>"##)
 }
 
 // Returns the number of characters that fit into a box.
@@ -203,7 +238,7 @@ fn characters_in(place: Place) -> u64 {
 }
 
 // Writes as much of the name of a box as fits, if that is enough.
-fn write_name<W: Write>(place: Place, name: &[u8], out: &mut W) -> io::Result<()> {
+fn write_name(place: Place, name: &[u8], out: &mut Vec<u8>) -> io::Result<()> {
     let limit = characters_in(place);
     if limit < MIN_CHARACTERS {
         return Ok(());
@@ -216,12 +251,12 @@ fn write_name<W: Write>(place: Place, name: &[u8], out: &mut W) -> io::Result<()
 }
 
 // Writes the first characters of a name, and what follows them.
-fn write_text<W: Write>(
+fn write_text(
     place: Place,
     name: &[u8],
     length: u64,
     end: &str,
-    out: &mut W,
+    out: &mut Vec<u8>,
 ) -> io::Result<()> {
     let text = XmlText {
         bytes: name,
@@ -236,39 +271,39 @@ fn write_text<W: Write>(
 }
 
 // Writes what precedes the boxes: the size of the picture, its title and its look.
-fn write_start<W: Write>(title: &[u8], height: u64, out: &mut W) -> io::Result<()> {
+fn write_start(title: &[u8], height: u64, out: &mut Vec<u8>) -> io::Result<()> {
     let title = XmlText::whole(title);
     let width = GRAPH_WIDTH + 2 * MARGIN;
     out.write_all(START.as_bytes())?;
-    writeln!(
+    write!(
         out,
-        r#" width="{width}" height="{height}" viewBox="0 0 {width} {height}" aria-label="Flame graph of {title}">"#
+        r#" width="{width}" height="{height}" viewBox="0 0 {width} {height}""#
     )?;
+    writeln!(out, r#" aria-label="Flame graph of {title}">"#)?;
     out.write_all(STYLE.as_bytes())?;
-    writeln!(
-        out,
-        r#"<text x="50%" y="18" text-anchor="middle">{title}</text>"#
-    )
+    writeln!(out, r#"<text x="{MARGIN}" y="18">{title}</text>"#)?;
+    out.write_all(LEGEND.as_bytes())
 }
 
 // Writes the graph: its place, and the boxes.
-fn write_graph<W: Write>(
+fn write_graph(
     picture: &Picture<'_>,
+    stacks: &FlameStacks,
     boxes: &FlameBoxes,
     height: u64,
-    out: &mut W,
+    out: &mut Vec<u8>,
 ) -> io::Result<()> {
     picture.write_omissions(boxes, out)?;
     writeln!(
         out,
         r#"<svg id="boxes" x="{MARGIN}" y="{TOP}" width="{GRAPH_WIDTH}" height="{height}">"#
     )?;
-    picture.write_boxes(boxes, out)?;
+    picture.write_boxes(stacks, boxes, out)?;
     out.write_all(b"</svg>\n")
 }
 
 // Writes what follows the boxes: the line at the foot, and the script.
-fn write_end<W: Write>(height: u64, out: &mut W) -> io::Result<()> {
+fn write_end(height: u64, out: &mut Vec<u8>) -> io::Result<()> {
     let y = height.saturating_sub(8);
     writeln!(out, r#"<text id="details" x="{MARGIN}" y="{y}"></text>"#)?;
     out.write_all(b"<script><![CDATA[")?;
@@ -276,25 +311,34 @@ fn write_end<W: Write>(height: u64, out: &mut W) -> io::Result<()> {
     out.write_all(b"]]></script>\n</svg>\n")
 }
 
-/// Writes the flame graph of lines as an SVG file: a box for each frame of the lines that start alike, as
+// Returns the flame graph of stacks.
+fn flame_graph(alloc: Global, stacks: &FlameStacks, caption: Caption<'_>) -> io::Result<Vec<u8>> {
+    let boxes = FlameBoxes::new(alloc, stacks)?;
+    let picture = Picture {
+        total: boxes.total,
+        unit: caption.unit,
+    };
+    let graph_height = top_of(picture.rows(&boxes));
+    let height = graph_height.saturating_add(TOP + BOTTOM);
+    let mut out = Vec::new(alloc);
+    write_start(caption.title, height, &mut out)?;
+    write_graph(&picture, stacks, &boxes, graph_height, &mut out)?;
+    write_end(height, &mut out)?;
+    Ok(out)
+}
+
+/// Writes the flame graph of stacks as an SVG file: a box for each frame of the stacks that start alike, as
 /// wide as its share of all weights, below that of its caller. Boxes below a tenth of a pixel at a width of
 /// 1,180 pixels are left out, and a comment says how many.
 ///
 /// Fails if memory runs out or if the output can't be written.
 pub fn write_flame_graph<W: Write>(
     alloc: Global,
-    counts: &StackCounts,
+    stacks: &FlameStacks,
     caption: Caption<'_>,
     out: &mut W,
-) -> io::Result<()> {
-    let boxes = FlameBoxes::new(alloc, counts)?;
-    let graph_height = top_of((boxes.height() as u64).saturating_add(1));
-    let height = graph_height.saturating_add(TOP + BOTTOM);
-    let picture = Picture {
-        total: counts.total(),
-        unit: caption.unit,
-    };
-    write_start(caption.title, height, out)?;
-    write_graph(&picture, &boxes, graph_height, out)?;
-    write_end(height, out)
+) -> io::Result<()>
+    ensures { OnOk result ((picture : List ℕ) × Appends (W.contents out.old) (W.contents out.new) picture) }
+{
+    out.write_all(flame_graph(alloc, stacks, caption)?.as_slice())
 }

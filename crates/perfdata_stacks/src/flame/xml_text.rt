@@ -4,8 +4,8 @@ use bstr::ByteSlice;
 use std::fmt;
 use std::fmt::{Display, Formatter, Write};
 
-/// Displays bytes as text of an element: what isn't UTF-8 as U+FFFD, and characters that XML forbids as
-/// blanks.
+/// Displays bytes as text of an element, on one line: what isn't UTF-8 as U+FFFD, and control characters and
+/// others that XML forbids as blanks.
 #[derive(Clone, Copy)]
 pub(crate) struct XmlText<'a> {
     pub(crate) bytes: &'a [u8],
@@ -23,13 +23,9 @@ impl<'a> XmlText<'a> {
     }
 }
 
-// Returns whether no XML document may contain a character.
+// Returns whether a character isn't written: one that no XML document may contain, or that ends a line.
 fn is_forbidden(character: char) -> bool {
-    match character {
-        '\t' | '\n' | '\r' => false,
-        '\u{fffe}' | '\u{ffff}' => true,
-        character => character.is_control(),
-    }
+    character.is_control() || matches!(character, '\u{fffe}' | '\u{ffff}')
 }
 
 // Writes a character.

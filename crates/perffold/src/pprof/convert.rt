@@ -259,14 +259,14 @@ impl<'a> Converter<'a> {
     fn add(&mut self, key: SampleKey, sums: Sums, column: usize) -> Result<(), AllocError> {
         let Thread { name, pid, tid } = key.thread;
         let name = self.text(name)?;
+        let labels = self.builder.labels(SampleThread { name, pid, tid })?;
         let location_ids = self.stack(self.tables.stacks.get(key.stack).unwrap_or(&[]))?;
         let weight = Weight {
             samples: sums.samples,
             column,
             weight: sums.weight,
         };
-        self.builder
-            .add(SampleThread { name, pid, tid }, location_ids, weight)
+        self.builder.add(labels, location_ids, weight)
     }
 
     // Adds all samples. `values` has the index of the values of each column.

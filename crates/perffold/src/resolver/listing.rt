@@ -1,8 +1,7 @@
 //! The frames of each sample as lines.
 
 use crate::resolver::{FrameName, FrameResolver};
-use crate::symbols::kernel::KERNEL_PATH;
-use crate::text::is_generated;
+use crate::text::{is_generated, path_without_symbol};
 use crate::unwinding::NO_CHAIN;
 use perfdata_events::call_chain::CallContext;
 use perfdata_events::fields::task::Task;
@@ -67,18 +66,16 @@ fn push_time(lines: &mut Vec<u8>, time: Option<u64>) -> io::Result<()> {
     }
 }
 
-// Appends the path of what is mapped at a frame.
-fn push_path(lines: &mut Vec<u8>, mapping: Option<&Mapping>) -> Result<(), AllocError> {
+// Appends the path of the DSO of a frame as perf names it: for executable memory without a file it is the
+// process's map file.
+fn push_dso(lines: &mut Vec<u8>, mapping: Option<&Mapping>) -> Result<(), AllocError> {
     let Some(mapping) = mapping else {
         return lines.extend_from_slice(UNKNOWN.as_bytes());
     };
-    let (path, pid) = (mapping.path.as_slice(), mapping.pid);
     if is_generated(mapping) {
-        write!(lines, "/tmp/perf-{pid}.map").map_err(|_| AllocError)
-    } else if path.starts_with(KERNEL_PATH) {
-        lines.extend_from_slice(KERNEL_PATH)
+        write!(lines, "/tmp/perf-{}.map", mapping.pid).map_err(|_| AllocError)
     } else {
-        push_name(lines, path)
+        push_name(lines, path_without_symbol(mapping))
     }
 }
 
@@ -135,7 +132,7 @@ impl Listing {
             write!(lines, "+{offset:#x}").map_err(|_| AllocError)?;
         }
         lines.extend_from_slice(b" (")?;
-        push_path(lines, frame.mapping)?;
+        push_dso(lines, frame.mapping)?;
         writeln!(lines, ") {}", letter_of(own.context, origin)).map_err(|_| AllocError)
     }
 

@@ -1,8 +1,21 @@
-use Rattle.std.proofs.Common.{◌≡◌, length, arith}
+use Rattle.std.proofs.Common.{◌≡◌, ◌∙◌, ◌-◌, ◌++◌, ap, length, map, replicate, rules, sym, take, vec_len}
+use Rattle.std.proofs.lemmas.List.{append-nil}
+use Rattle.perfdata_pprof.specs.Builders.{rows_of}
+use Rattle.perfdata_pprof.specs.Messages.{sample_value}
+use Rattle.perfdata_pprof.specs.Samples.{sample_row}
 use Rattle.perfdata_pprof.proofs.Sampling.{samples_more}
 use Rattle.perfdata_pprof.proofs.builder.samples_of.Goals as goal
 
 pub rows-preserved : goal.rows-preserved
 rows-preserved c =
-    let has : length c.resize.new.self.items ≡ c.args.type_count = omega (arith, c.in_ok-resize.ensures.len) in
-    samples_more c.args.type_count c.rows.samples.items c.push.new.self.items _ c.in_ok-push.ensures.items has c.rows.invariant
+    let key = c.in-Some.key in
+    let before = c.in-Some.values in
+    let counted : vec_len before ≡ length before.items = search rules in
+    let whole = c.in_ok-resize.ensures.items ∙ ap (λ n. take c.args.type_count before.items ++ replicate (c.args.type_count - n) 0) counted in
+    samples_more c.args.type_count c.rows.samples.items c.push.new.self.items _ (key, before) c.rows.key-iterator c.next.new.self c.args.rows.entries
+    c.in-Some.ensures.steps c.in_ok-push.ensures.items (λ i. record { location_ids = key.location_ids.items; values = whole i; labels = key.labels.items }) c.rows.invariant
+
+pub returns : goal.returns
+returns c =
+    let old = map sample_value c.rows.samples.items in
+    sym (append-nil old) ∙ ap (λ rest. old ++ map (sample_row c.args.type_count) (rows_of rest)) (sym c.in-None.ensures.steps.0) ∙ c.rows.invariant

@@ -1,6 +1,8 @@
 use Rattle.std.proofs.Common.{length, map, refl}
+use Rattle.perfdata_pprof.specs.Builders.{rows_of}
 use Rattle.perfdata_pprof.specs.Messages.{sample_value}
-use Rattle.perfdata_pprof.proofs.Building.{located, valued}
+use Rattle.perfdata_pprof.proofs.Building.{located}
+use Rattle.perfdata_pprof.proofs.Sampling.{counted_samples}
 use Rattle.perfdata_pprof.proofs.builder.Builder.finish.Goals as goal
 
 pub returns : goal.returns
@@ -12,8 +14,9 @@ returns c =
       functions = c.in_ok-functions_of.ensures;
       locations = located self.places.keys c.in_ok-locations_of.field-0.items c.len-mapping_count.result c.len-function_count.result
           (length self.mappings.keys) (length self.functions.keys) c.in_ok-locations_of.ensures c.len-mapping_count.ensures.len c.len-function_count.ensures.len;
-      values = valued (map sample_value c.in_ok-samples.samples.items) c.len.result (length self.sample_types.keys) c.len.ensures.len c.in_ok-samples.ensures;
-      strings = c.in_ok-finish.ensures.strings;
+      samples = counted_samples (map sample_value c.in_ok-samples.samples.items) (rows_of self.rows.entries) c.len.result (length self.sample_types.keys) c.len.ensures.len c.in_ok-samples.ensures;
+      strings = c.in_ok-finish.ensures.texts;
+      once = c.in_ok-finish.ensures.once;
       duration = refl;
       period_type = refl;
       period = refl;

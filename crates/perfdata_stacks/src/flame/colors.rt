@@ -1,0 +1,52 @@
+//! The colors of boxes.
+
+use crate::flame::stacks::FrameKind;
+
+// The number of shades of a hue, less one.
+const SHADES: u32 = 63;
+
+// The first and the last shade of a hue: red, green and blue.
+#[derive(Clone, Copy)]
+struct Hue {
+    first: [u8; 3],
+    last: [u8; 3],
+}
+
+// Returns the hue of a kind of frames.
+fn hue_of(kind: FrameKind) -> Hue {
+    let (first, last) = match kind {
+        FrameKind::Thread => ([184, 184, 196], [208, 208, 216]),
+        FrameKind::User => ([222, 92, 32], [250, 216, 72]),
+        FrameKind::Kernel => ([112, 164, 220], [164, 206, 250]),
+        FrameKind::Generated => ([100, 182, 96], [168, 226, 144]),
+        FrameKind::Unknown => ([196, 148, 204], [228, 190, 234]),
+    };
+    Hue { first, last }
+}
+
+// Returns the shade of a name (FNV-1a).
+fn shade_of(name: &[u8]) -> u32 {
+    let mut hash = 0x811c_9dc5u32;
+    for byte in name {
+        hash = (hash ^ *byte as u32).wrapping_mul(0x0100_0193);
+    }
+    hash % (SHADES + 1)
+}
+
+// Returns a part of a color: that of a shade between the first and the last.
+fn part_of(first: u8, last: u8, shade: u32) -> u8 {
+    let range = last.saturating_sub(first) as u32;
+    let lighter = range * shade.min(SHADES) / SHADES;
+    first.saturating_add(u8::try_from(lighter).unwrap_or(u8::MAX))
+}
+
+/// Returns the color of a frame: the hue of its kind, in a shade that depends on its name alone.
+pub(crate) fn color_of(kind: FrameKind, name: &[u8]) -> [u8; 3] {
+    let Hue { first, last } = hue_of(kind);
+    let shade = shade_of(name);
+    [
+        part_of(first[0], last[0], shade),
+        part_of(first[1], last[1], shade),
+        part_of(first[2], last[2], shade),
+    ]
+}
