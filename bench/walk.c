@@ -2,7 +2,7 @@
 // of 4,096 records again and again, and `walk own PATH` fills the same array by plain C: the identifiers of the attributes are in a sorted
 // array, and time and identifier at fixed offsets. These print the number of records. `walk compare PATH` compares both arrays. `walk samples
 // PATH` and `walk own-samples PATH` fill arrays of samples and their frames, and print the number of samples; `walk compare-samples PATH`
-// compares them.
+// compares them. `walk stacks PATH` fills arrays of stacks, frames, mappings and texts, and prints the number of stacks.
 #include "../tests/contexts.h"
 #include "dewikura.h"
 #include <fcntl.h>
@@ -212,6 +212,17 @@ static uint64_t read_samples(const char *mode, const uint8_t *bytes, size_t size
     return found.count;
 }
 
+// ---- stacks
+
+static uint64_t read_stacks(const uint8_t *bytes, size_t size) {
+    struct dewikura_stack *stacks = reserve(size / 8 * sizeof *stacks);
+    struct dewikura_stack_frame *frames = reserve(size / 8 * sizeof *frames);
+    struct dewikura_stack_mapping *mappings = reserve(size / 8 * sizeof *mappings);
+    struct dewikura_stack_totals totals;
+    if (dewikura_read_file_stacks(bytes, size, stacks, size / 8, frames, size / 8, mappings, size / 8, reserve(size), size, &totals)) exit(2);
+    return totals.stack_count;
+}
+
 int main(int argc, char **argv) {
     struct stat file_stat;
     int file = argc == 3 ? open(argv[2], O_RDONLY) : -1;
@@ -223,6 +234,7 @@ int main(int argc, char **argv) {
     uint64_t total = 0;
     if (bytes == MAP_FAILED || records == MAP_FAILED) return 1;
     if (strstr(argv[1], "samples")) total = read_samples(argv[1], bytes, size);
+    else if (!strcmp(argv[1], "stacks")) total = read_stacks(bytes, size);
     else if (!strcmp(argv[1], "own")) total = own(bytes, records);
     else if (!strcmp(argv[1], "compare")) {
         struct dewikura_record *others = calloc(total = own(bytes, records), sizeof *others);

@@ -217,6 +217,58 @@ struct dewikura_counter {
     uint64_t offset;       // of the record header, in bytes from the first record, as in dewikura_record
 };
 
+// A sample as a stack: its frames, and the name of its thread. What it doesn't have is 0.
+struct dewikura_stack {
+    uint64_t offset;       // of the record header, in bytes from the first record, as in dewikura_sample
+    uint64_t timestamp;    // in nanoseconds of the recording's clock
+    uint64_t period;       // events since the previous sample
+    uint64_t attr_index;   // index of its attribute
+    uint64_t frames_start; // index of its first frame in the array of frames
+    uint64_t frames_count; // its frames, innermost first: those of its call chain, else the one of its instruction
+    uint64_t name_offset;  // of the name of its thread at its time, in bytes from the start of the text
+    uint64_t name_size;    // in bytes, no NUL
+    int32_t pid;           // -1 if the sample has none
+    int32_t tid;           // -1 if the sample has none
+    uint16_t misc;         // misc bits of the record header; `misc & 7` is a DEWIKURA_MODE_*
+    uint8_t has_name;      // 1 if a record names the thread, otherwise 0
+    uint8_t reserved[5];   // 0
+};
+
+// A frame of a stack. Look it up at `address`, and a caller at `address - 1`: `address` is the recorded one, which the
+// call returns to, and the code there may be another function's. `mapping` and `file_offset` are those of the look-up
+// address.
+struct dewikura_stack_frame {
+    uint64_t address;     // of an instruction, or of a caller the one that its call returns to
+    uint64_t file_offset; // of the look-up address in the mapped file, in bytes, modulo 2^64; 0 without a mapping
+    uint64_t mapping;     // index in the array of mappings, or DEWIKURA_NO_MAPPING
+    uint32_t context;     // DEWIKURA_CONTEXT_*
+    uint32_t is_caller;   // 1 for a caller: the value before it in the call chain is a frame; 0 for an instruction
+};
+
+// What is mapped: a file or memory (DEWIKURA_RECORD_MMAP or DEWIKURA_RECORD_MMAP2), or a function that the kernel
+// generated (DEWIKURA_RECORD_KSYMBOL). What it doesn't have is 0.
+struct dewikura_stack_mapping {
+    uint64_t start;         // address
+    uint64_t length;        // in bytes
+    uint64_t page_offset;   // of the start in the mapped file, in bytes
+    uint64_t path_offset;   // of the path, or of the function's name, in bytes from the start of the text
+    uint64_t path_size;     // in bytes, no NUL
+    int32_t pid;
+    uint32_t kind;          // DEWIKURA_MAPPING_*
+    uint32_t protection;    // PROT_* bits; of a MMAP record PROT_EXEC (4) for code, otherwise 0
+    uint32_t flags;         // MAP_* bits, of a MMAP2 record
+    uint8_t build_id[20];   // of the mapped file, if its MMAP2 record has it, and zeros after it
+    uint32_t build_id_size; // in bytes; 0 without a build id
+};
+
+// The totals over all stacks of a recording.
+struct dewikura_stack_totals {
+    uint64_t stack_count;   // stacks: samples
+    uint64_t frame_count;   // frames of all stacks
+    uint64_t mapping_count; // mappings
+    uint64_t text_size;     // bytes of all names and paths
+};
+
 // An event attribute: perf_event_attr, by the kernel's names.
 struct dewikura_attr {
     uint64_t config;                // which event of its type
@@ -397,6 +449,10 @@ DEWIKURA_CHECK_SIZE(dewikura_sample_details, 192);
 DEWIKURA_CHECK_SIZE(dewikura_task, 56);
 DEWIKURA_CHECK_SIZE(dewikura_mapping, 128);
 DEWIKURA_CHECK_SIZE(dewikura_counter, 48);
+DEWIKURA_CHECK_SIZE(dewikura_stack, 80);
+DEWIKURA_CHECK_SIZE(dewikura_stack_frame, 32);
+DEWIKURA_CHECK_SIZE(dewikura_stack_mapping, 80);
+DEWIKURA_CHECK_SIZE(dewikura_stack_totals, 32);
 DEWIKURA_CHECK_SIZE(dewikura_attr, 168);
 DEWIKURA_CHECK_SIZE(dewikura_attr_totals, 24);
 DEWIKURA_CHECK_SIZE(dewikura_feature_set, 32);
@@ -672,6 +728,18 @@ enum dewikura_body_error {
     DEWIKURA_BODY_UNKNOWN_FIELDS = 2 // the attribute selects a field that isn't known
 };
 
+// ---- stacks
+
+// No mapping contains the address of the frame (dewikura_stack_frame.mapping).
+#define DEWIKURA_NO_MAPPING UINT64_MAX
+
+// What is mapped (dewikura_stack_mapping.kind).
+enum dewikura_mapping_kind {
+    DEWIKURA_MAPPING_CODE = 0,
+    DEWIKURA_MAPPING_DATA = 1,         // isn't executable
+    DEWIKURA_MAPPING_KERNEL_SYMBOL = 2 // a function that the kernel generated, as of a BPF program; `path` is its name
+};
+
 // ---- jitdump record types (dewikura_jit_record.type)
 
 enum dewikura_jit_record_type {
@@ -711,6 +779,14 @@ DEWIKURA_NONNULL dewikura_status dewikura_read_file_counters_raw(const void *dat
     struct dewikura_cursor *cursor, struct dewikura_counter *counters, size_t capacity, uint64_t *count);
 DEWIKURA_NONNULL dewikura_status dewikura_read_pipe_counters_raw(const void *data, size_t size,
     struct dewikura_counter *counters, size_t capacity, uint64_t *total);
+DEWIKURA_NONNULL dewikura_status dewikura_read_file_stacks_raw(const void *data, size_t size,
+    struct dewikura_stack *stacks, size_t stacks_capacity, struct dewikura_stack_frame *frames, size_t frames_capacity,
+    struct dewikura_stack_mapping *mappings, size_t mappings_capacity, char *text, size_t text_capacity,
+    struct dewikura_stack_totals *totals);
+DEWIKURA_NONNULL dewikura_status dewikura_read_pipe_stacks_raw(const void *data, size_t size,
+    struct dewikura_stack *stacks, size_t stacks_capacity, struct dewikura_stack_frame *frames, size_t frames_capacity,
+    struct dewikura_stack_mapping *mappings, size_t mappings_capacity, char *text, size_t text_capacity,
+    struct dewikura_stack_totals *totals);
 DEWIKURA_NONNULL dewikura_status dewikura_sort_records_raw(struct dewikura_record *records, size_t count);
 DEWIKURA_NONNULL dewikura_status dewikura_read_file_attrs_raw(const void *data, size_t size,
     struct dewikura_attr *attrs, size_t attrs_capacity, char *names, size_t names_capacity, uint64_t *ids,
@@ -964,6 +1040,63 @@ DEWIKURA_NODISCARD static inline dewikura_status dewikura_read_pipe_counters(con
     uint64_t unused;
     return dewikura_read_pipe_counters_raw(data ? data : &no_data, size, counters ? counters : &no_counter, capacity,
         total ? total : &unused);
+}
+
+// Writes the stacks of a perf.data file: its samples in order of time, their frames, what was mapped, and a text with
+// the names of threads and the paths of mappings without a separator, each up to the capacity of its array. `data` is
+// the whole file. *totals counts all of them; `totals` may be NULL. Pass arrays large enough for all, since each call
+// reads the file.
+//
+// The records apply in order of time: a frame has the mapping that contained its address at the time of its sample, and
+// a stack the name that its thread had then. A fork gives the new process the mappings of its parent and the new thread
+// the name of the forking one, an exec removes the mappings of the process. Records without a time, as those that perf
+// makes of what it finds at its start, apply when they are read. If the attributes have no DEWIKURA_ATTR_SAMPLE_ID_ALL,
+// only samples have a time; then, and in a big-endian file, the records apply in the order of the file.
+//
+// A frame has its mapping and the offset in the mapped file, which symbolizers take with the build id or the path; both
+// are of the address at which it is looked up (struct dewikura_stack_frame). The mappings are all those that records
+// make, in the order in which they apply.
+//
+// No stack is unwound, since that takes the mapped files: a sample with a copy of its user stack (`perf record
+// --call-graph dwarf`) has the frames of its call chain, which are the kernel's, or without one that of its
+// instruction. dewikura_read_sample_details finds its registers and the copy. `perffold` unwinds.
+//
+// A record that can't be decoded is left out. After an error *totals counts what the records before it add, and nothing
+// if the file doesn't open. The errors are those of dewikura_read_file_records. Memory is allocated for the records of
+// two rounds (for all, if the recording has no rounds), for the mappings, and for the names of threads. If it runs out,
+// the status is DEWIKURA_OUT_OF_MEMORY.
+DEWIKURA_NODISCARD static inline dewikura_status dewikura_read_file_stacks(const void *data, size_t size,
+    struct dewikura_stack *stacks, size_t stacks_capacity, struct dewikura_stack_frame *frames, size_t frames_capacity,
+    struct dewikura_stack_mapping *mappings, size_t mappings_capacity, char *text, size_t text_capacity,
+    struct dewikura_stack_totals *totals)
+{
+    const char no_data = 0;
+    struct dewikura_stack no_stack;
+    struct dewikura_stack_frame no_frame;
+    struct dewikura_stack_mapping no_mapping;
+    char no_text;
+    struct dewikura_stack_totals unused;
+    return dewikura_read_file_stacks_raw(data ? data : &no_data, size, stacks ? stacks : &no_stack, stacks_capacity,
+        frames ? frames : &no_frame, frames_capacity, mappings ? mappings : &no_mapping, mappings_capacity,
+        text ? text : &no_text, text_capacity, totals ? totals : &unused);
+}
+
+// Does the same for a pipe. `data` is the whole pipe. A truncated record ends a pipe without an error. The errors are
+// those of dewikura_read_pipe_records.
+DEWIKURA_NODISCARD static inline dewikura_status dewikura_read_pipe_stacks(const void *data, size_t size,
+    struct dewikura_stack *stacks, size_t stacks_capacity, struct dewikura_stack_frame *frames, size_t frames_capacity,
+    struct dewikura_stack_mapping *mappings, size_t mappings_capacity, char *text, size_t text_capacity,
+    struct dewikura_stack_totals *totals)
+{
+    const char no_data = 0;
+    struct dewikura_stack no_stack;
+    struct dewikura_stack_frame no_frame;
+    struct dewikura_stack_mapping no_mapping;
+    char no_text;
+    struct dewikura_stack_totals unused;
+    return dewikura_read_pipe_stacks_raw(data ? data : &no_data, size, stacks ? stacks : &no_stack, stacks_capacity,
+        frames ? frames : &no_frame, frames_capacity, mappings ? mappings : &no_mapping, mappings_capacity,
+        text ? text : &no_text, text_capacity, totals ? totals : &unused);
 }
 
 // Sorts records by time. Records without a time come first, and records with one time keep their order; the times 0 and

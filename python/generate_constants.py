@@ -16,6 +16,7 @@ ENUMS = [
     ("SymbolFileType", "dewikura_symbol_file_type", "DEWIKURA_SYMBOL_FILE_", "The type of a file in simpleperf's symbol tables."),
     ("CpuMode", "dewikura_cpu_mode", "DEWIKURA_MODE_", "The mode of the processor at a record."),
     ("FrameContext", "dewikura_frame_context", "DEWIKURA_CONTEXT_", "The context of a frame."),
+    ("MappingKind", "dewikura_mapping_kind", "DEWIKURA_MAPPING_", "What is mapped."),
     ("BodyError", "dewikura_body_error", "DEWIKURA_BODY_", "Whether the fields of a sample up to its call chain are decoded."),
     ("JitRecordType", "dewikura_jit_record_type", "DEWIKURA_JIT_", "The type of a jitdump record."),
 ]

@@ -9,27 +9,14 @@ import collections
 import dewikura
 
 
-def file_of(recording, spaces, sample):
-    """The path of the last mapping that contains the address of a sample."""
-    mappings = spaces[-1 if sample.cpu_mode == dewikura.CpuMode.KERNEL else sample.pid]
-    found = next((mapping for mapping in reversed(mappings) if 0 <= sample.ip - mapping.address < mapping.length), None)
-    return "[unknown]" if found is None else recording.path(found).decode("utf-8", "replace")
-
-
-def counts_of(recording, samples):
-    """The number of samples of each event and file. A new process has the mappings of its parent, until it executes another program."""
+def counts_of(recording, stacks):
+    """The number of samples of each event and file: that of the innermost frame."""
     names = [attribute.name or "unnamed" for attribute in recording.attributes]
-    changes = [*recording.partial_mappings()[0], *recording.partial_tasks()[0]]
-    spaces, counts = collections.defaultdict(list), collections.Counter()
-    for entry in sorted([*samples, *changes], key=lambda entry: (entry.timestamp, entry.offset)):
-        if isinstance(entry, dewikura.Sample):
-            counts[names[entry.attr_index], file_of(recording, spaces, entry)] += 1
-        elif isinstance(entry, dewikura.Mapping):
-            spaces[entry.pid].append(entry)
-        elif entry.is_execve:
-            spaces[entry.pid].clear()
-        elif entry.type == dewikura.RecordType.FORK and entry.pid != entry.ppid:
-            spaces[entry.pid] = spaces[entry.ppid].copy()
+    files = [recording.path(mapping).decode("utf-8", "replace") for mapping in stacks.mappings]
+    counts = collections.Counter()
+    for stack in stacks:
+        mapping = next((frame.mapping for frame in stacks.frames_of(stack)[:1]), None)
+        counts[names[stack.attr_index], "[unknown]" if mapping is None else files[mapping]] += 1
     return counts
 
 
@@ -37,8 +24,8 @@ def count(path):
     """The counts of a recording, and its error, or None."""
     try:
         with dewikura.open(path) as recording:
-            samples, error = recording.partial_samples()
-            return path, counts_of(recording, samples), error and str(error)
+            stacks, error = recording.partial_stacks()
+            return path, counts_of(recording, stacks), error and str(error)
     except (dewikura.PerfDataError, OSError) as error:
         return path, collections.Counter(), str(error)
 

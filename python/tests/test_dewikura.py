@@ -1,6 +1,7 @@
 """Tests of the package over the recordings of the repository. With the variable PERFLIST, which names perflist's program, the records
 are also compared with its lines. The tests of arrays and of data frames run where numpy and pandas are installed."""
 
+import collections
 import contextlib
 import glob
 import importlib.util
@@ -27,6 +28,9 @@ FIRST = TOP / "tests/recordings/first.data"
 SEVERAL = TOP / "tests/recordings/several.data"
 STREAM = TOP / "crates/perflist/stdin"
 DUMP = TOP / "tests/recordings/node.dump"
+FOLD_CHAIN = TOP / "tests/recordings/chain.data"
+FOLD_THREADS = TOP / "tests/recordings/threads.data"
+BUILD_ID = TOP / "tests/recordings/buildid.data"
 HAS_NUMPY, HAS_PANDAS = (importlib.util.find_spec(name) is not None for name in ("numpy", "pandas"))
 PERFLIST = os.environ.get("PERFLIST")
 
@@ -322,6 +326,102 @@ class SampleTest(unittest.TestCase):
             self.assertEqual(frames["address"].tolist(), [frame.address for frame in recording.frames])
             self.assertEqual((samples.itemsize, frames.itemsize), (88, 16))
             self.assertIs(samples.flags.owndata, False)
+
+
+class StackTest(unittest.TestCase):
+    """The mappings and names are found among those of `mappings` and `tasks`, by the rules of processes and threads."""
+
+    def stacks_of(self, recording):
+        """Each stack by the offset of its record: the name of the thread, and of each frame path, offset in the file and build id."""
+        changes = [*recording.mappings, *recording.tasks]
+        spaces, names, found = collections.defaultdict(list), {}, {}
+        for entry in sorted([*recording.samples, *changes], key=lambda entry: (entry.timestamp, entry.offset)):
+            if isinstance(entry, dewikura.Sample):
+                found[entry.offset] = names.get(entry.tid), [self.place(recording, spaces, entry, *frame) for frame in self.frames_of(recording, entry)]
+            elif isinstance(entry, dewikura.Mapping):
+                spaces[-1 if entry.cpu_mode == dewikura.CpuMode.KERNEL else entry.pid].append(entry)
+            elif entry.type == dewikura.RecordType.COMM:
+                names[entry.tid] = recording.name(entry)
+                if entry.is_execve:
+                    spaces[entry.pid].clear()
+            elif entry.type == dewikura.RecordType.FORK:
+                names[entry.tid] = names.get(entry.ptid)
+                if entry.pid != entry.ppid:
+                    spaces[entry.pid] = spaces[entry.ppid].copy()
+        return found
+
+    def frames_of(self, recording, sample):
+        frames = [(frame.address, frame.context) for frame in recording.samples.frames_of(sample)]
+        callers = [0, *(before[1] == after[1] for before, after in zip(frames, frames[1:]))]
+        mode = dewikura.FrameContext.KERNEL if sample.cpu_mode == dewikura.CpuMode.KERNEL else dewikura.FrameContext.USER
+        has_ip = recording.attributes[sample.attr_index].sample_type & 1
+        return [(*frame, int(is_caller)) for frame, is_caller in zip(frames, callers)] or [(sample.ip, mode, 0)] * has_ip
+
+    def place(self, recording, spaces, sample, address, context, is_caller):
+        looked_up = address - is_caller
+        mappings = spaces[-1 if context == dewikura.FrameContext.KERNEL else sample.pid]
+        mapping = next((mapping for mapping in reversed(mappings) if 0 <= looked_up - mapping.address < mapping.length), None)
+        if mapping is None:
+            return address, bool(is_caller), None
+        return address, bool(is_caller), (recording.path(mapping), (looked_up - mapping.address + mapping.page_offset) % 2**64, mapping.build_id)
+
+    def test_stacks(self):
+        for path in (CALLS, CALLS_PIPE, FIRST, SEVERAL, FOLD_CHAIN, FOLD_THREADS, BUILD_ID):
+            with dewikura.open(path) as recording:
+                stacks, wanted = recording.stacks, self.stacks_of(recording)
+                self.assertEqual(len(stacks), len(wanted))
+                if path != FIRST:  # only its samples have times, so it is in the order of the file
+                    self.assertEqual([stack.timestamp for stack in stacks], sorted(stack.timestamp for stack in stacks))
+                for stack in stacks:
+                    places = []
+                    for frame in stacks.frames_of(stack):
+                        mapping = recording.mapping_of(frame)
+                        places.append((frame.address, frame.is_caller, mapping and (recording.path(mapping), frame.file_offset, mapping.build_id)))
+                    self.assertEqual((stacks.name(stack), places), wanted[stack.offset])
+                self.assertIs(recording.stacks, stacks)
+                self.assertEqual([bytes(stack) for stack in stacks[3:1:-1]], [bytes(stacks[index]) for index in (3, 2) if index < len(stacks)])
+
+    def test_errors(self):
+        data = bytearray(SEVERAL.read_bytes())
+        with dewikura.from_buffer(data) as recording:
+            last = recording.samples[-1]
+        start = int.from_bytes(data[40:48], "little")
+        data[start + last.offset + 6:start + last.offset + 8] = b"\1\0"
+        with dewikura.from_buffer(data) as recording:
+            stacks, error = recording.partial_stacks()
+            self.assertEqual((len(stacks), error.status), (34, dewikura.Status.BAD_RECORD_SIZE))
+            self.assertRaises(dewikura.FormatError, lambda: recording.stacks)
+        with dewikura.from_buffer(b"") as recording:
+            self.assertRaises(dewikura.TruncatedError, lambda: recording.stacks)
+
+    def test_many_frames(self):
+        # Chains with more frames than the first array has elements, and a thread that no record names.
+        chain = perfdata.u64s(100, *range(100))
+        with dewikura.from_buffer(perfdata.file(20 * perfdata.record(9, 2, chain), perfdata.attribute(1 << 5, event_type=1))) as recording:
+            stacks = recording.stacks
+            self.assertEqual((len(stacks), len(stacks.frames), len(stacks.mappings)), (20, 2000, 0))
+            self.assertEqual({(stacks.name(stack), stack.pid, stack.tid) for stack in stacks}, {(None, -1, -1)})
+            self.assertEqual([frame.address for frame in stacks.frames_of(19)], list(range(100)))
+            self.assertEqual([frame.lookup_address for frame in stacks.frames_of(19)], [0, *range(99)])
+            self.assertEqual({recording.mapping_of(frame) for frame in stacks.frames}, {None})
+
+    @unittest.skipUnless(HAS_NUMPY, "numpy isn't installed")
+    def test_numpy(self):
+        with dewikura.open(CALLS) as recording:
+            stacks, frames, mappings = (sequence.to_numpy() for sequence in (recording.stacks, recording.stacks.frames, recording.stacks.mappings))
+            self.assertEqual((stacks.itemsize, frames.itemsize, mappings.itemsize), (80, 32, 80))
+            self.assertEqual(frames["file_offset"].tolist(), [frame.file_offset for frame in recording.stacks.frames])
+            self.assertEqual(mappings["start"].tolist(), [mapping.start for mapping in recording.stacks.mappings])
+
+    @unittest.skipUnless(HAS_PANDAS, "pandas isn't installed")
+    def test_pandas(self):
+        with dewikura.open(CALLS) as recording:
+            found = recording.stacks.to_pandas()
+            self.assertEqual(found["name"].tolist(), [recording.stacks.name(stack).decode() for stack in recording.stacks])
+            self.assertEqual(found["event"].tolist(), [recording.attributes[stack.attr_index].name for stack in recording.stacks])
+            paths = recording.stacks.mappings.to_pandas()["path"]
+            self.assertEqual(paths.tolist(), [recording.path(mapping).decode() for mapping in recording.stacks.mappings])
+            self.assertEqual(recording.stacks.frames.to_pandas()["is_caller"].tolist(), [frame.is_caller for frame in recording.stacks.frames])
 
 
 class TaskTest(unittest.TestCase):

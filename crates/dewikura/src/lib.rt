@@ -1,5 +1,5 @@
-//! C exports of the calls of `perfdata_arrays`, `perfdata_samples` and `perfdata_demangle`;
-//! `include/dewikura.h` declares them.
+//! C exports of the calls of `perfdata_arrays`, `perfdata_samples`, `perfdata_stack_arrays` and
+//! `perfdata_demangle`; `include/dewikura.h` declares them.
 //!
 //! The names end in `_raw` where a call takes pointers: no pointer may be NULL. The functions of the header
 //! that have the names without `_raw` accept NULL.
@@ -33,6 +33,7 @@ ghost use Rattle.perfdata_samples.specs.Pages.{ReadsSamplePage};
 ghost use Rattle.perfdata_samples.specs.Pipes.{ReadsPipeSamples};
 ghost use Rattle.perfdata_samples.specs.Status.{IsSamplesCodeOf, all_code_text};
 ghost use Rattle.perfdata_samples.specs.TaskPages.{ReadsPipeTasks, ReadsTaskPage};
+ghost use Rattle.perfdata_stack_arrays.specs.Reading.{ReadsFileStacks, ReadsPipeStacks};
 ghost use Rattle.dewikura.specs.Demangling.{Demangles};
 ghost use Rattle.dewikura.specs.Numbers.{endian_from, number_of_bool, IsNumberOfKind};
 
@@ -63,6 +64,11 @@ use perfdata_samples::mappings::MappingEntry;
 use perfdata_samples::sample::Sample;
 use perfdata_samples::tasks::TaskEntry;
 use perfdata_samples::{counters, details, mappings, pages, pipes, status, tasks};
+use perfdata_stack_arrays::frame::StackFrame;
+use perfdata_stack_arrays::mapping::StackMapping;
+use perfdata_stack_arrays::stack::Stack;
+use perfdata_stack_arrays::stacks as stack_arrays;
+use perfdata_stack_arrays::totals::StackTotals;
 use std::alloc::Global;
 
 // The version of the library: 10,000 times the major number, 100 times the minor number, and the patch
@@ -314,6 +320,48 @@ pub extern "C" fn dewikura_read_pipe_counters_raw(
 {
     let outcome = counters::pipe_counters(alloc, input, entries);
     *total = outcome.count;
+    outcome.status.code()
+}
+
+/// Reads the stacks of a perf.data file, as `stacks::file_stacks` does.
+#[unsafe(no_mangle)]
+pub extern "C" fn dewikura_read_file_stacks_raw(
+    alloc: Global,
+    input: &[u8],
+    stacks: &mut [Stack],
+    frames: &mut [StackFrame],
+    mappings: &mut [StackMapping],
+    text: &mut [u8],
+    totals: &mut StackTotals,
+) -> u32
+    ensures { IsCodeOf result (λ s. ReadsFileStacks input.now
+        (record { stacks = stacks.old; frames = frames.old; mappings = mappings.old; text = text.old })
+        (record { totals = totals.new; status = s })
+        (record { stacks = stacks.new; frames = frames.new; mappings = mappings.new; text = text.new })) }
+{
+    let outcome = stack_arrays::file_stacks(alloc, input, stacks, frames, mappings, text);
+    *totals = outcome.totals;
+    outcome.status.code()
+}
+
+/// Reads the stacks of a perf.data pipe, as `stacks::pipe_stacks` does.
+#[unsafe(no_mangle)]
+pub extern "C" fn dewikura_read_pipe_stacks_raw(
+    alloc: Global,
+    input: &[u8],
+    stacks: &mut [Stack],
+    frames: &mut [StackFrame],
+    mappings: &mut [StackMapping],
+    text: &mut [u8],
+    totals: &mut StackTotals,
+) -> u32
+    ensures { IsCodeOf result (λ s. ReadsPipeStacks input.now
+        (record { stacks = stacks.old; frames = frames.old; mappings = mappings.old; text = text.old })
+        (record { totals = totals.new; status = s })
+        (record { stacks = stacks.new; frames = frames.new; mappings = mappings.new; text = text.new })) }
+{
+    let outcome = stack_arrays::pipe_stacks(alloc, input, stacks, frames, mappings, text);
+    *totals = outcome.totals;
     outcome.status.code()
 }
 

@@ -170,6 +170,66 @@ pub struct Counter {
     pub offset: u64,
 }
 
+/// A sample as a stack: its frames, and the name of its thread. What it doesn't have is 0. (`struct dewikura_stack`)
+#[repr(C)]
+#[derive(Clone, Copy, Debug, Default, PartialEq, Eq)]
+pub struct Stack {
+    pub offset: u64,
+    pub timestamp: u64,
+    pub period: u64,
+    pub attr_index: u64,
+    pub(crate) frames_start: u64,
+    pub(crate) frames_count: u64,
+    pub(crate) name_offset: u64,
+    pub(crate) name_size: u64,
+    pub pid: i32,
+    pub tid: i32,
+    pub misc: u16,
+    pub(crate) has_name: u8,
+    pub(crate) reserved: [u8; 5],
+}
+
+/// A frame of a stack. Look it up at `address`, and a caller at `address - 1`: `address` is the recorded one, which the call returns to,
+/// and the code there may be another function's. `mapping` and `file_offset` are those of the look-up address. (`struct
+/// dewikura_stack_frame`)
+#[repr(C)]
+#[derive(Clone, Copy, Debug, Default, PartialEq, Eq)]
+pub struct StackFrame {
+    pub address: u64,
+    pub file_offset: u64,
+    pub(crate) mapping: u64,
+    pub context: u32,
+    pub(crate) is_caller: u32,
+}
+
+/// What is mapped: a file or memory (DEWIKURA_RECORD_MMAP or DEWIKURA_RECORD_MMAP2), or a function that the kernel generated
+/// (DEWIKURA_RECORD_KSYMBOL). What it doesn't have is 0. (`struct dewikura_stack_mapping`)
+#[repr(C)]
+#[derive(Clone, Copy, Debug, Default, PartialEq, Eq)]
+pub struct StackMapping {
+    pub start: u64,
+    pub length: u64,
+    pub page_offset: u64,
+    pub(crate) path_offset: u64,
+    pub(crate) path_size: u64,
+    pub pid: i32,
+    pub kind: u32,
+    pub protection: u32,
+    pub flags: u32,
+    pub(crate) build_id: [u8; 20],
+    pub(crate) build_id_size: u32,
+}
+
+/// The totals over all stacks of a recording. (`struct dewikura_stack_totals`)
+#[repr(C)]
+#[derive(Clone, Copy, Debug, Default, PartialEq, Eq)]
+pub struct StackTotals {
+    pub stack_count: u64,
+    pub frame_count: u64,
+    pub mapping_count: u64,
+    pub text_size: u64,
+}
+
 /// An event attribute: perf_event_attr, by the kernel's names. (`struct dewikura_attr`)
 #[repr(C)]
 #[derive(Clone, Copy, Debug, Default, PartialEq, Eq)]
@@ -386,6 +446,12 @@ has_layout!(Mapping: 128; offset 0, timestamp 8, address 16, length 24, page_off
     path_size 64, record_type 72, major 76, minor 80, protection 84, flags 88, pid 92, tid 96, build_id 100, build_id_size 120, is_data 121,
     misc 122, reserved 124);
 has_layout!(Counter: 48; value 0, id 8, time_enabled 16, time_running 24, lost 32, offset 40);
+has_layout!(Stack: 80; offset 0, timestamp 8, period 16, attr_index 24, frames_start 32, frames_count 40, name_offset 48, name_size 56,
+    pid 64, tid 68, misc 72, has_name 74, reserved 75);
+has_layout!(StackFrame: 32; address 0, file_offset 8, mapping 16, context 24, is_caller 28);
+has_layout!(StackMapping: 80; start 0, length 8, page_offset 16, path_offset 24, path_size 32, pid 40, kind 44, protection 48, flags 52,
+    build_id 56, build_id_size 76);
+has_layout!(StackTotals: 32; stack_count 0, frame_count 8, mapping_count 16, text_size 24);
 has_layout!(Attr: 168; config 0, sample_period_or_freq 8, sample_type 16, read_format 24, flags 32, config1 40, config2 48,
     branch_sample_type 56, sample_regs_user 64, sample_regs_intr 72, sig_data 80, config3 88, name_offset 96, name_size 104, ids_start 112,
     ids_count 120, event_type 128, size 132, wakeup_events 136, bp_type 140, sample_stack_user 144, clockid 148, aux_watermark 152,
@@ -430,6 +496,12 @@ extern "C" {
     pub fn dewikura_read_file_counters_raw(data: *const u8, size: usize, cursor: *mut Cursor, counters: *mut Counter, capacity: usize,
         count: *mut u64) -> u32;
     pub fn dewikura_read_pipe_counters_raw(data: *const u8, size: usize, counters: *mut Counter, capacity: usize, total: *mut u64) -> u32;
+    pub fn dewikura_read_file_stacks_raw(data: *const u8, size: usize, stacks: *mut Stack, stacks_capacity: usize, frames: *mut StackFrame,
+        frames_capacity: usize, mappings: *mut StackMapping, mappings_capacity: usize, text: *mut u8, text_capacity: usize,
+        totals: *mut StackTotals) -> u32;
+    pub fn dewikura_read_pipe_stacks_raw(data: *const u8, size: usize, stacks: *mut Stack, stacks_capacity: usize, frames: *mut StackFrame,
+        frames_capacity: usize, mappings: *mut StackMapping, mappings_capacity: usize, text: *mut u8, text_capacity: usize,
+        totals: *mut StackTotals) -> u32;
     pub fn dewikura_sort_records_raw(records: *mut Record, count: usize) -> u32;
     pub fn dewikura_read_file_attrs_raw(data: *const u8, size: usize, attrs: *mut Attr, attrs_capacity: usize, names: *mut u8,
         names_capacity: usize, ids: *mut u64, ids_capacity: usize, totals: *mut AttrTotals) -> u32;

@@ -1,11 +1,11 @@
-//! A safe wrapper of the calls that list the records of perf.data files, perf pipes and jitdumps, and the samples, tasks, mappings and
-//! counter values of recordings, and of the call that demangles names.
+//! A safe wrapper of the calls that list the records of perf.data files, perf pipes and jitdumps, and the samples, stacks, tasks, mappings
+//! and counter values of recordings, and of the call that demangles names.
 //!
 //! A slice of Rust is never NULL and never changes while it is borrowed, so each call meets the obligations of `include/dewikura.h`.
 pub mod declarations;
 
 use declarations::*;
-pub use declarations::{Counter, Cursor, Frame, JitRecord, Mapping, Record, Sample, Task};
+pub use declarations::{Counter, Cursor, Frame, JitRecord, Mapping, Record, Sample, Stack, StackFrame, StackMapping, Task};
 use std::fmt;
 
 impl Record {
@@ -46,6 +46,66 @@ impl Samples {
     /// Whether there are no samples.
     pub fn is_empty(&self) -> bool {
         self.samples.is_empty()
+    }
+}
+
+/// The samples of a recording in order of time, as stacks, with their frames, what was mapped, and texts.
+#[derive(Clone, Debug, Default, PartialEq, Eq)]
+pub struct Stacks {
+    stacks: Vec<Stack>,
+    frames: Vec<StackFrame>,
+    mappings: Vec<StackMapping>,
+    text: Vec<u8>,
+}
+
+impl Stacks {
+    /// Each stack with its frames, innermost first.
+    pub fn iter(&self) -> impl Iterator<Item = (&Stack, &[StackFrame])> {
+        self.stacks.iter().map(|stack| (stack, &self.frames[stack.frames_start as usize..][..stack.frames_count as usize]))
+    }
+
+    /// What was mapped, in the order in which it was mapped.
+    pub fn mappings(&self) -> &[StackMapping] {
+        &self.mappings
+    }
+
+    /// The mapping in which a frame is looked up.
+    pub fn mapping_of(&self, frame: &StackFrame) -> Option<&StackMapping> {
+        frame.mapping().map(|index| &self.mappings[index])
+    }
+
+    /// The path of a mapping, or the name of a function that the kernel generated.
+    pub fn path(&self, mapping: &StackMapping) -> &[u8] {
+        &self.text[mapping.path_offset as usize..][..mapping.path_size as usize]
+    }
+
+    /// The name of the thread of a stack at its time; `None` if no record names it.
+    pub fn name(&self, stack: &Stack) -> Option<&[u8]> {
+        (stack.has_name != 0).then(|| &self.text[stack.name_offset as usize..][..stack.name_size as usize])
+    }
+}
+
+impl StackFrame {
+    /// The index of the mapping in which the frame is looked up.
+    pub fn mapping(&self) -> Option<usize> {
+        (self.mapping != u64::MAX).then_some(self.mapping as usize)
+    }
+
+    /// Whether the address is the one that a call returns to. Otherwise it is that of an instruction.
+    pub fn is_caller(&self) -> bool {
+        self.is_caller != 0
+    }
+
+    /// The address at which the frame is looked up: of a caller the one before its address. Mapping and file offset are of it.
+    pub fn lookup_address(&self) -> u64 {
+        self.address.saturating_sub(u64::from(self.is_caller()))
+    }
+}
+
+impl StackMapping {
+    /// The build id of the file; empty if the record has none.
+    pub fn build_id(&self) -> &[u8] {
+        &self.build_id[..self.build_id_size as usize]
     }
 }
 
@@ -181,6 +241,43 @@ pub fn pipe_samples(input: &[u8]) -> (Samples, Result<(), Error>) {
         all.samples.resize(total as usize, Sample::default());
         all.frames.resize(frames_total as usize, Frame::default());
     }
+}
+
+type ReadStacks = unsafe extern "C" fn(
+    *const u8, usize, *mut Stack, usize, *mut StackFrame, usize, *mut StackMapping, usize, *mut u8, usize, *mut StackTotals,
+) -> u32;
+
+/// Reads a recording: a first call counts, and a second one fills the arrays.
+fn stacks(input: &[u8], read: ReadStacks) -> (Stacks, Result<(), Error>) {
+    let (mut all, mut totals) = (Stacks::default(), StackTotals::default());
+    let Stacks { stacks, frames, mappings, text } = &mut all;
+    loop {
+        // SAFETY: the pointers are those of slices, with their lengths; the arrays are initialized.
+        let status = unsafe {
+            read(
+                input.as_ptr(), input.len(), stacks.as_mut_ptr(), stacks.len(), frames.as_mut_ptr(), frames.len(), mappings.as_mut_ptr(), mappings.len(),
+                text.as_mut_ptr(), text.len(), &mut totals,
+            )
+        };
+        let counts = [totals.stack_count, totals.frame_count, totals.mapping_count, totals.text_size].map(|count| count as usize);
+        if counts == [stacks.len(), frames.len(), mappings.len(), text.len()] {
+            return (all, result_of(status));
+        }
+        stacks.resize(counts[0], Stack::default());
+        frames.resize(counts[1], StackFrame::default());
+        mappings.resize(counts[2], StackMapping::default());
+        text.resize(counts[3], 0);
+    }
+}
+
+/// Returns the stacks of a perf.data file, and the error after them.
+pub fn file_stacks(input: &[u8]) -> (Stacks, Result<(), Error>) {
+    stacks(input, dewikura_read_file_stacks_raw)
+}
+
+/// Returns the stacks of a perf.data pipe, and the error after them.
+pub fn pipe_stacks(input: &[u8]) -> (Stacks, Result<(), Error>) {
+    stacks(input, dewikura_read_pipe_stacks_raw)
 }
 
 type ReadFile<T> = unsafe extern "C" fn(*const u8, usize, *mut Cursor, *mut T, usize, *mut u64) -> u32;

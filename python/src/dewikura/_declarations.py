@@ -144,6 +144,60 @@ class Counter(ctypes.Structure):
     _fields_ = [("value", u64), ("id", u64), ("time_enabled", u64), ("time_running", u64), ("lost", u64), ("offset", u64)]
 
 
+class Stack(ctypes.Structure):
+    """A sample as a stack: its frames, and the name of its thread. What it doesn't have is 0."""
+
+    offset: int
+    timestamp: int
+    period: int
+    attr_index: int
+    frames_start: int
+    frames_count: int
+    name_offset: int
+    name_size: int
+    pid: int
+    tid: int
+    misc: int
+    _fields_ = [("offset", u64), ("timestamp", u64), ("period", u64), ("attr_index", u64), ("frames_start", u64), ("frames_count", u64),
+        ("name_offset", u64), ("name_size", u64), ("pid", i32), ("tid", i32), ("misc", u16), ("_has_name", u8), ("_reserved", u8 * 5)]
+
+
+class StackFrame(ctypes.Structure):
+    """A frame of a stack. Look it up at `address`, and a caller at `address - 1`: `address` is the recorded one, which the call returns to,
+    and the code there may be another function's. `mapping` and `file_offset` are those of the look-up address."""
+
+    address: int
+    file_offset: int
+    _fields_ = [("address", u64), ("file_offset", u64), ("_mapping", u64), ("_context", u32), ("_is_caller", u32)]
+
+
+class StackMapping(ctypes.Structure):
+    """What is mapped: a file or memory (DEWIKURA_RECORD_MMAP or DEWIKURA_RECORD_MMAP2), or a function that the kernel generated
+    (DEWIKURA_RECORD_KSYMBOL). What it doesn't have is 0."""
+
+    start: int
+    length: int
+    page_offset: int
+    path_offset: int
+    path_size: int
+    pid: int
+    protection: int
+    flags: int
+    build_id_size: int
+    _fields_ = [("start", u64), ("length", u64), ("page_offset", u64), ("path_offset", u64), ("path_size", u64), ("pid", i32),
+        ("_kind", u32), ("protection", u32), ("flags", u32), ("_build_id", u8 * 20), ("build_id_size", u32)]
+
+
+class StackTotals(ctypes.Structure):
+    """The totals over all stacks of a recording."""
+
+    stack_count: int
+    frame_count: int
+    mapping_count: int
+    text_size: int
+    _fields_ = [("stack_count", u64), ("frame_count", u64), ("mapping_count", u64), ("text_size", u64)]
+
+
 class Attr(ctypes.Structure):
     """An event attribute: perf_event_attr, by the kernel's names."""
 
@@ -355,6 +409,10 @@ _LAYOUTS = {
     Task: (56, (0, 8, 16, 24, 32, 36, 40, 44, 48, 52)),
     Mapping: (128, (0, 8, 16, 24, 32, 40, 48, 56, 64, 72, 76, 80, 84, 88, 92, 96, 100, 120, 121, 122, 124)),
     Counter: (48, (0, 8, 16, 24, 32, 40)),
+    Stack: (80, (0, 8, 16, 24, 32, 40, 48, 56, 64, 68, 72, 74, 75)),
+    StackFrame: (32, (0, 8, 16, 24, 28)),
+    StackMapping: (80, (0, 8, 16, 24, 32, 40, 44, 48, 52, 56, 76)),
+    StackTotals: (32, (0, 8, 16, 24)),
     Attr: (168, (0, 8, 16, 24, 32, 40, 48, 56, 64, 72, 80, 88, 96, 104, 112, 120, 128, 132, 136, 140, 144, 148, 152, 156, 160, 164)),
     AttrTotals: (24, (0, 8, 16)),
     FeatureSet: (32, (0, 8, 16, 24)),
@@ -394,6 +452,10 @@ _EXPORTS = {
     "dewikura_read_pipe_mappings_raw": (u32, [c_void_p, c_size_t, POINTER(Mapping), c_size_t, POINTER(u64)]),
     "dewikura_read_file_counters_raw": (u32, [c_void_p, c_size_t, POINTER(Cursor), POINTER(Counter), c_size_t, POINTER(u64)]),
     "dewikura_read_pipe_counters_raw": (u32, [c_void_p, c_size_t, POINTER(Counter), c_size_t, POINTER(u64)]),
+    "dewikura_read_file_stacks_raw": (u32, [c_void_p, c_size_t, POINTER(Stack), c_size_t, POINTER(StackFrame), c_size_t,
+        POINTER(StackMapping), c_size_t, c_void_p, c_size_t, POINTER(StackTotals)]),
+    "dewikura_read_pipe_stacks_raw": (u32, [c_void_p, c_size_t, POINTER(Stack), c_size_t, POINTER(StackFrame), c_size_t,
+        POINTER(StackMapping), c_size_t, c_void_p, c_size_t, POINTER(StackTotals)]),
     "dewikura_sort_records_raw": (u32, [POINTER(Record), c_size_t]),
     "dewikura_read_file_attrs_raw": (u32, [c_void_p, c_size_t, POINTER(Attr), c_size_t, c_void_p, c_size_t, POINTER(u64), c_size_t,
         POINTER(AttrTotals)]),

@@ -38,6 +38,7 @@ read_file_samples = _library.dewikura_read_file_samples_raw
 read_pipe_samples = _library.dewikura_read_pipe_samples_raw
 read_file_entries = {kind: exports["file"] for kind, exports in _ENTRIES.items()}
 read_pipe_entries = {kind: exports["pipe"] for kind, exports in _ENTRIES.items()}
+read_stacks = _of_kinds("stacks")
 read_sample_details = _library.dewikura_read_sample_details_raw
 sort_records = _library.dewikura_sort_records_raw
 read_attrs = _of_kinds("attrs")

@@ -4,8 +4,8 @@ from typing import Optional, Union
 
 from . import _declarations
 from ._declarations import (Attr, AttrTotals, BuildId, Cursor, FeatureSet, JitDebugEntry, JitHeader, JitLoad, JitMove, JitUnwinding, MetaPair,
-                            SampleDetails, StringEntry, Symbol, SymbolFile, SymbolTotals)
-from .constants import BodyError, CpuMode, FrameContext, JitRecordType, RecordType, SampleType
+                            SampleDetails, StackTotals, StringEntry, Symbol, SymbolFile, SymbolTotals)
+from .constants import BodyError, CpuMode, FrameContext, JitRecordType, MappingKind, RecordType, SampleType
 
 
 def known(kind, number):
@@ -124,6 +124,72 @@ class Counter(_declarations.Counter):
 
     def __repr__(self) -> str:
         return f"Counter(value={self.value}, id={self.id}, offset={self.offset})"
+
+
+# The index of the mapping of a frame that has none (DEWIKURA_NO_MAPPING).
+NO_MAPPING = 2**64 - 1
+
+
+class Stack(_declarations.Stack):
+    """A sample as a stack. What it doesn't have is 0."""
+
+    @property
+    def has_name(self) -> bool:
+        """Whether a record names the thread."""
+        return bool(self._has_name)
+
+    @property
+    def cpu_mode(self) -> Union[CpuMode, int]:
+        """The mode of the processor."""
+        return known(CpuMode, self.misc & 7)
+
+    def __repr__(self) -> str:
+        return (f"Stack(offset={self.offset}, timestamp={self.timestamp}, attr_index={self.attr_index}, pid={self.pid}, tid={self.tid}, "
+                f"period={self.period}, frames_count={self.frames_count})")
+
+
+class StackFrame(_declarations.StackFrame):
+    """A frame of a stack. Its address is the recorded one; it is looked up at `lookup_address`, of which `mapping` and `file_offset` are."""
+
+    @property
+    def mapping(self) -> Optional[int]:
+        """The index of the mapping in which the frame is looked up, or None."""
+        return None if self._mapping == NO_MAPPING else self._mapping
+
+    @property
+    def context(self) -> FrameContext:
+        """The context of the address."""
+        return FrameContext(self._context)
+
+    @property
+    def is_caller(self) -> bool:
+        """Whether the address is the one that a call returns to. Otherwise it is that of an instruction."""
+        return bool(self._is_caller)
+
+    @property
+    def lookup_address(self) -> int:
+        """The address at which the frame is looked up: of a caller the one before its address."""
+        return max(self.address - 1, 0) if self._is_caller else self.address
+
+    def __repr__(self) -> str:
+        return f"StackFrame(address={self.address:#x}, context={self.context!r}, mapping={self.mapping}, file_offset={self.file_offset:#x})"
+
+
+class StackMapping(_declarations.StackMapping):
+    """What is mapped: a file, memory without a file, or a function that the kernel generated."""
+
+    @property
+    def kind(self) -> MappingKind:
+        """Code, data, or a function that the kernel generated."""
+        return MappingKind(self._kind)
+
+    @property
+    def build_id(self) -> bytes:
+        """The build id of the file; empty if the record has none."""
+        return bytes(self._build_id[:self.build_id_size])
+
+    def __repr__(self) -> str:
+        return f"StackMapping(pid={self.pid}, start={self.start:#x}, length={self.length:#x}, page_offset={self.page_offset:#x})"
 
 
 class JitRecord(_declarations.JitRecord):

@@ -205,6 +205,14 @@ class FrameContext(enum.IntEnum):
     GUEST = 6
 
 
+class MappingKind(enum.IntEnum):
+    """What is mapped."""
+
+    CODE = 0
+    DATA = 1
+    KERNEL_SYMBOL = 2
+
+
 class BodyError(enum.IntEnum):
     """Whether the fields of a sample up to its call chain are decoded."""
 

@@ -16,7 +16,7 @@ from typing import (Any, ContextManager, Dict, Iterable, Iterator, List, Literal
 
 from . import _native, _structs
 from ._arrays import StructSequence, words_of
-from ._structs import Counter, Frame, Mapping, Record, Sample, SampleDetails, Task, known
+from ._structs import Counter, Frame, Mapping, Record, Sample, SampleDetails, Stack, StackFrame, StackMapping, Task, known
 from .constants import AttrFlag, DsoKind, EventType, Feature, InputKind, ReadFormat, SampleType, Status, SymbolFileType
 from .errors import PerfDataError, check, error_of
 
@@ -138,6 +138,77 @@ class Counters(StructSequence[Counter]):
     """The counter values of the samples and READ records of a recording."""
 
     _struct = Counter
+
+
+class StackFrames(StructSequence[StackFrame]):
+    """The frames of the stacks of a recording, or of one stack."""
+
+    _struct = StackFrame
+
+    def _columns(self, array: Any) -> Dict[str, Any]:
+        import pandas
+
+        columns = super()._columns(array)
+        columns["mapping"] = pandas.arrays.IntegerArray(array["mapping"].copy(), array["mapping"] == _structs.NO_MAPPING)
+        columns["is_caller"] = array["is_caller"] != 0
+        return columns
+
+
+class StackMappings(StructSequence[StackMapping]):
+    """What was mapped, in the order in which it was mapped. `_source` has the text."""
+
+    _struct = StackMapping
+
+    def path(self, mapping: Union[StackMapping, int]) -> bytes:
+        """Returns the path of a mapping, or the name of a function that the kernel generated."""
+        if not isinstance(mapping, StackMapping):
+            mapping = self[mapping]
+        return bytes(self._source.data[mapping.path_offset:mapping.path_offset + mapping.path_size])
+
+    def _columns(self, array: Any) -> Dict[str, Any]:
+        columns = super()._columns(array)
+        columns["path"] = self._source.texts(columns.pop("path_offset").tolist(), columns.pop("path_size").tolist())
+        sizes = columns.pop("build_id_size").tolist()
+        columns["build_id"] = [build_id[:size].tobytes().hex() for build_id, size in zip(array["build_id"], sizes)]
+        return columns
+
+
+class Stacks(StructSequence[Stack]):
+    """The samples of a recording in order of time, as stacks, with their `frames` and the `mappings` of these."""
+
+    _struct = Stack
+
+    def __init__(self, array: Any, indices: range, source: Any, frames: StackFrames, mappings: StackMappings) -> None:
+        super().__init__(array, indices, source)
+        self.frames = frames
+        self.mappings = mappings
+
+    def _slice(self, indices: range) -> "Stacks":
+        return Stacks(self._array, indices, self._source, self.frames, self.mappings)
+
+    def _columns(self, array: Any) -> Dict[str, Any]:
+        columns = super()._columns(array)
+        names = self.mappings._source.texts(columns.pop("name_offset").tolist(), columns.pop("name_size").tolist())
+        columns["name"] = [name if has_name else None for name, has_name in zip(names, columns.pop("has_name").tolist())]
+        return {**columns, "event": self._source.event_names(array["attr_index"].astype("i8"))}
+
+    def frames_of(self, stack: Union[Stack, int]) -> StackFrames:
+        """Returns the frames of a stack, innermost first."""
+        if not isinstance(stack, Stack):
+            stack = self[stack]
+        return self.frames[stack.frames_start:stack.frames_start + stack.frames_count]
+
+    def name(self, stack: Union[Stack, int]) -> Optional[bytes]:
+        """Returns the name of the thread at the time of a stack, or None if no record names it."""
+        if not isinstance(stack, Stack):
+            stack = self[stack]
+        if not stack.has_name:
+            return None
+        return bytes(self.mappings._source.data[stack.name_offset:stack.name_offset + stack.name_size])
+
+    def mapping_of(self, frame: StackFrame) -> Optional[StackMapping]:
+        """Returns the mapping in which a frame of a stack is looked up, or None."""
+        return None if frame.mapping is None else self.mappings[frame.mapping]
 
 
 @dataclasses.dataclass(frozen=True)
@@ -386,6 +457,23 @@ class Recording(ContextManager["Recording"]):
         """A copy of all samples in order of time: those without a time first, samples with one time in the order of the input."""
         return self._keep("samples_by_time", lambda _data: self._samples_sorted(self.samples))
 
+    def partial_stacks(self) -> Tuple[Stacks, Optional[Exception]]:
+        """Returns the stacks of the samples before the first error, and that error, or None if there is none."""
+        return self._keep("stacks", self._read_stacks)
+
+    @property
+    def stacks(self) -> Stacks:
+        """All samples in order of time, as stacks: their frames with mappings, and the names of threads. Raises the first error of the
+        input."""
+        stacks, error = self.partial_stacks()
+        if error is not None:
+            raise error
+        return stacks
+
+    def mapping_of(self, frame: StackFrame) -> Optional[StackMapping]:
+        """Returns the mapping in which a frame of `stacks` is looked up, or None."""
+        return self.partial_stacks()[0].mapping_of(frame)
+
     def partial_tasks(self) -> Tuple[Tasks, Optional[Exception]]:
         """Returns the records on tasks before the first error, and that error, or None if there is none."""
         return self._keep("tasks", lambda data: self._read_entries(data, Tasks))
@@ -414,8 +502,10 @@ class Recording(ContextManager["Recording"]):
             raise error
         return mappings
 
-    def path(self, mapping: Mapping) -> bytes:
-        """Returns the path of the file of a mapping."""
+    def path(self, mapping: Union[Mapping, StackMapping]) -> bytes:
+        """Returns the path of the file of a mapping, of `mappings` or of `stacks.mappings`."""
+        if isinstance(mapping, StackMapping):
+            return self.partial_stacks()[0].mappings.path(mapping)
         return bytes(self._data[mapping.path_offset:mapping.path_offset + mapping.path_size])
 
     def partial_counters(self) -> Tuple[Counters, Optional[Exception]]:
@@ -586,6 +676,24 @@ class Recording(ContextManager["Recording"]):
                 return samples, capacity, frames, frames_capacity, status
             capacity, frames_capacity = total.value, frames_total.value
             samples, frames = (Sample * max(capacity, 1))(), (Frame * max(frames_capacity, 1))()
+
+    def _read_stacks(self, data: memoryview) -> Tuple[Stacks, Optional[Exception]]:
+        """Fills arrays, and then larger ones if the recording has more."""
+        totals, size = _structs.StackTotals(), len(data)
+        capacities = size // 64 + 1, size // 16 + 1, size // 512 + 1, size // 64 + 1
+        while True:
+            stacks, frames, mappings, text = ((kind * count)() for kind, count in zip((Stack, StackFrame, StackMapping, u8), capacities))
+            with _native.Input(data) as (address, size):
+                status = _native.read_stacks[self.kind.value](
+                    address, size, stacks, capacities[0], frames, capacities[1], mappings, capacities[2], text, capacities[3], totals)
+            counts = totals.stack_count, totals.frame_count, totals.mapping_count, totals.text_size
+            if all(count <= capacity for count, capacity in zip(counts, capacities)):
+                break
+            capacities = tuple(map(max, counts, capacities))
+        texts = Source(memoryview(text).cast("B"), self.kind)
+        found = StackFrames(frames, range(counts[1])), StackMappings(mappings, range(counts[2]), texts)
+        error = None if status == Status.OK else error_of(status)
+        return Stacks(stacks, range(counts[0]), self._source, *found), error
 
     def _read_entries(self, data: memoryview, kind: Type[S]) -> Tuple[S, Optional[Exception]]:
         read = self._read_file_entries if self.kind is Kind.FILE else self._read_pipe_entries
