@@ -1,6 +1,7 @@
 //! The functions that the documentation of types shows, run on the perf.data files in its arguments.
 #![tactic(auto)]
 
+mod address_spaces;
 mod ordered_records;
 mod reading;
 mod symbol_table;
@@ -36,6 +37,16 @@ fn print_longest_pause(rt: &HostRuntime, path: &str) -> anyhow::Result<()> {
     Ok(())
 }
 
+// Prints the offset in a file of an address of process 7.
+fn print_offset(rt: &HostRuntime, address: u64) -> anyhow::Result<()> {
+    let records = [(0, address_spaces::mapping())];
+    match address_spaces::offset_in_file(rt.alloc(), &records, 7, address)? {
+        Some(offset) => println!(rt; "{address:#x} at offset {offset:#x} of its file")?,
+        None => println!(rt; "{address:#x} in no file")?,
+    }
+    Ok(())
+}
+
 fn main(rt: HostRuntime) -> anyhow::Result<()> {
     for path in env::args(&rt)?.skip(1) {
         reading::print_types(&rt, path.as_str())?;
@@ -45,6 +56,9 @@ fn main(rt: HostRuntime) -> anyhow::Result<()> {
     for address in [0xfff, 0x1000, 0x101f, 0x1020] {
         let is_in_main = symbol_table::is_in_main(rt.alloc(), address)?;
         println!(rt; "{address:#x} in main: {is_in_main}")?;
+    }
+    for address in [0x40_0123, 0x40_1000] {
+        print_offset(&rt, address)?;
     }
     Ok(())
 }
