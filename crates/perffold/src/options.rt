@@ -93,9 +93,9 @@ const OPTIONS: &[OptionText] = &[
         value: Some("FORMAT"),
         conflicts: &[],
         help: concat!(
-            "Write lines, a flame graph, a profile for pprof, a page that shows it, the functions with the most ",
-            "samples or the frames of each sample [default: top on a terminal, that of a FILE.svg, FILE.pb or ",
-            "FILE.html, else folded]"
+            "Write lines, a flame graph, a profile for pprof, a page that shows it, the functions ",
+            "with the most samples or the frames of each sample [default: top on a terminal, that ",
+            "of a FILE.svg, FILE.pb or FILE.html, else folded]"
         ),
     },
     OptionText {
@@ -145,8 +145,8 @@ const OPTIONS: &[OptionText] = &[
         value: Some("FILE"),
         conflicts: &[],
         help: concat!(
-            "Name the kernel's functions by FILE, a copy of /proc/kallsyms, or by nothing if it is none ",
-            "[default: /proc/kallsyms if the running kernel is the recorded one]"
+            "Name the kernel's functions by FILE, a copy of /proc/kallsyms, or by nothing if it is ",
+            "none [default: /proc/kallsyms if the running kernel is the recorded one]"
         ),
     },
     OptionText {
