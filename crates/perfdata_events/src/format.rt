@@ -56,7 +56,8 @@ fn sample_id_size(format: SampleFields) -> usize
 
 impl EventFormat {
     ghost use Rattle.perfdata_events.specs.EventFormat.{event_format_of, big_endian_format_of};
-    ghost use Rattle.perfdata_events.specs.EventFormat.{register_masks_of, trailing_size, SplitsTrailing};
+    ghost use Rattle.perfdata_events.specs.EventFormat.{native_format_of, register_masks_of};
+    ghost use Rattle.perfdata_events.specs.EventFormat.{trailing_size, SplitsTrailing};
 
     /// Returns the format of the records of an attribute, with numbers in the byte order `endian`.
     pub fn new(attr: &PerfEventAttr, endian: Endianness) -> EventFormat
@@ -86,6 +87,18 @@ impl EventFormat {
                 EventFlags::from_bits_retain(BIG_ENDIAN_SAMPLE_ID_ALL),
             ),
             ..EventFormat::new(attr, endian)
+        }
+    }
+
+    /// Returns the format of the records of an attribute whose flags a compiler of the byte order `endian` laid
+    /// out, as perf itself reads a recording: [`EventFormat::with_big_endian_flags`] of a big-endian recording,
+    /// and else [`EventFormat::new`].
+    pub fn with_native_flags(attr: &PerfEventAttr, endian: Endianness) -> EventFormat
+        ensures { result ≡ native_format_of attr.now endian }
+    {
+        match endian {
+            Endianness::LittleEndian => EventFormat::new(attr, endian),
+            Endianness::BigEndian => EventFormat::with_big_endian_flags(attr, endian),
         }
     }
 
