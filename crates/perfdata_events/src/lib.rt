@@ -1,8 +1,8 @@
-//! The bodies of kernel records: what the fields of each type hold (`perf_event.h` of Linux), with nothing
-//! allocated.
+//! The bodies of kernel records: what the fields of each type hold (`perf_event.h` of Linux).
 //!
 //! [`format::EventFormat`] describes the records of one attribute. Its `parse` parses a record by its type,
-//! and its `sample_id` returns who wrote the record, when and where.
+//! and its `sample_id` returns who wrote the record, when and where, with nothing allocated.
+//! [`formats::EventFormats`] has the formats of a recording's attributes.
 #![tactic(auto)]
 
 pub mod aux_area;
