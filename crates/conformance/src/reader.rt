@@ -15,7 +15,7 @@ use crate::cases::{Call, CaseResult, Output};
 pub fn call(call: &Call<'_>, out: &mut Output) -> CaseResult<bool> {
     match call.case.call {
         "list-file" | "list-pipe" | "list-jit" => listing::push_listing(call, out)?,
-        "record-line" | "jit-line" | "error-line" => output::push_numbers(&call.case, out)?,
+        "by-time-file" | "by-time-pipe" => listing::push_by_time(call, out)?,
         "write-line" => output::push_write(call, out)?,
         "flush" => output::push_flush(call, out)?,
         "finish" => output::push_finish(call, out)?,
@@ -27,6 +27,8 @@ pub fn call(call: &Call<'_>, out: &mut Output) -> CaseResult<bool> {
         "entries" | "two-bodies" => slices::push_in_memory(call, out)?,
         "count-file" | "count-pipe" => slices::push_count(call, out),
         "code-size" => slices::push_code_size(call, out),
+        "period-sum" => slices::push_period_sum(call, out),
+        "listing" => slices::push_lines(call, out),
         "size" => out.push_line(&call.input.bytes.len()),
         _ => return Ok(false),
     }

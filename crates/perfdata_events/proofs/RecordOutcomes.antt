@@ -24,10 +24,10 @@ use Rattle.perfdata_events.specs.declared.format.EventFormat.{EventFormat}
 use Rattle.perfdata_events.specs.declared.sample_id.SampleId.{SampleId}
 use Rattle.perfdata_events.specs.declared.fields.read_values.Details.{Details}
 use Rattle.perfdata_events.specs.declared.fields.read_values.Times.{Times}
-use Rattle.perfdata_events.specs.declared.sample_words.OriginWords.{OriginWords}
-use Rattle.perfdata_events.specs.declared.sample_words.EventWords.{EventWords}
-use Rattle.perfdata_events.specs.declared.fields.sample_end.DataWords.{DataWords}
-use Rattle.perfdata_events.specs.declared.fields.sample_end.PageWords.{PageWords}
+use Rattle.perfdata_events.specs.declared.sample.words.OriginWords.{OriginWords}
+use Rattle.perfdata_events.specs.declared.sample.words.EventWords.{EventWords}
+use Rattle.perfdata_events.specs.declared.sample.end.DataWords.{DataWords}
+use Rattle.perfdata_events.specs.declared.sample.end.PageWords.{PageWords}
 use Rattle.perfdata_events.proofs.OneOutcomes.{one_by_size, one_fixed, one_block, one_word, one_both, one_led, one_optional, one_fixed_and_text}
 
 true_or_false : (b : Bool) → (b ≡ true) ⊎ (b ≡ false)

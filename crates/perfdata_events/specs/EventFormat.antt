@@ -1,11 +1,12 @@
 -- What the bodies of one attribute's records hold, and where the fields of a record end.
-use Rattle.std.specs.Prelude.{◌≡◌, ℕ, ◌-◌, ◌≤◌, List, [], ◌∷◌, length, take, drop, Result, Ok, Err, if◌then◌else◌}
+use Rattle.std.specs.Prelude.{◌≡◌, Bool, ℕ, ◌-◌, ◌≤◌, List, [], ◌∷◌, length, take, drop, Result, Ok, Err, if◌then◌else◌}
 use Rattle.std.specs.IoError.{error_kind}
 use Rattle.std.specs.declared.io.Error.{Error}
 use Rattle.perfdata_base.specs.Raw.{bytes_of}
 use Rattle.perfdata_base.specs.ParseInfo.{is_set}
 use Rattle.perfdata_base.specs.declared.attr.PerfEventAttr.{PerfEventAttr}
 use Rattle.perfdata_base.specs.declared.raw.Endianness.{Endianness}
+use Rattle.perfdata_base.specs.declared.raw.Endianness.TheVariants.{LittleEndian, BigEndian}
 use Rattle.perfdata_base.specs.declared.raw.RawData.{RawData}
 use Rattle.perfdata_events.specs.SampleFormat.{TID, TIME, ID, CPU, STREAM_ID, IDENTIFIER}
 use Rattle.perfdata_events.specs.AttributeFlags.{SAMPLE_ID_ALL}
@@ -14,29 +15,31 @@ use Rattle.perfdata_events.specs.Words.{words_size}
 use Rattle.perfdata_events.specs.declared.fields.registers.RegisterMasks.{RegisterMasks}
 use Rattle.perfdata_events.specs.declared.format.EventFormat.{EventFormat}
 
--- The format of an attribute's records in a byte order.
-abbrev pub event_format_of : PerfEventAttr → Endianness → EventFormat
-event_format_of attr order = record {
-  endian = order;
-  sample_format = record { 0 = attr.sample_format.0 };
-  read_format = record { 0 = attr.read_format };
-  branch_sample_type = record { 0 = attr.branch_sample_type };
-  sample_regs_user = attr.sample_regs_user;
-  sample_regs_intr = attr.sample_regs_intr;
-  sample_id_all = is_set attr.flags.0 SAMPLE_ID_ALL;
-}
+module _ (attr : PerfEventAttr) (order : Endianness) where
+  -- The format of an attribute's records in a byte order, with or without sample_id fields after the records that aren't samples.
+  abbrev pub format_with : Bool → EventFormat
+  format_with has_sample_ids = record {
+    endian = order;
+    sample_format = record { 0 = attr.sample_format.0 };
+    read_format = record { 0 = attr.read_format };
+    branch_sample_type = record { 0 = attr.branch_sample_type };
+    sample_regs_user = attr.sample_regs_user;
+    sample_regs_intr = attr.sample_regs_intr;
+    sample_id_all = has_sample_ids;
+  }
 
--- The same if a big-endian compiler laid out the flags of the attribute: bit n of the kernel's list is bit 63 - n of the word.
-abbrev pub big_endian_format_of : PerfEventAttr → Endianness → EventFormat
-big_endian_format_of attr order = record {
-  endian = order;
-  sample_format = record { 0 = attr.sample_format.0 };
-  read_format = record { 0 = attr.read_format };
-  branch_sample_type = record { 0 = attr.branch_sample_type };
-  sample_regs_user = attr.sample_regs_user;
-  sample_regs_intr = attr.sample_regs_intr;
-  sample_id_all = is_set attr.flags.0 (63 - SAMPLE_ID_ALL);
-}
+  -- The format of an attribute's records.
+  abbrev pub event_format_of : EventFormat
+  event_format_of = format_with (is_set attr.flags.0 SAMPLE_ID_ALL)
+
+  -- The same if a big-endian compiler laid out the flags of the attribute: bit n of the kernel's list is bit 63 - n of the word.
+  abbrev pub big_endian_format_of : EventFormat
+  big_endian_format_of = format_with (is_set attr.flags.0 (63 - SAMPLE_ID_ALL))
+
+-- The same if a compiler of the byte order laid out the flags.
+abbrev pub native_format_of : PerfEventAttr → Endianness → EventFormat
+native_format_of attr LittleEndian = event_format_of attr LittleEndian
+native_format_of attr BigEndian = big_endian_format_of attr BigEndian
 
 -- The masks of the registers in a sample.
 abbrev pub register_masks_of : EventFormat → RegisterMasks

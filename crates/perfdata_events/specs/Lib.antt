@@ -34,6 +34,7 @@ pub mod SampleId
 pub mod Mmap2
 pub mod Read
 pub mod EventFormat
+pub mod EventFormats
 pub mod Sample
 pub mod Event
 pub mod EventView

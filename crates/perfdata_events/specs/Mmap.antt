@@ -6,6 +6,7 @@ use Rattle.perfdata_base.specs.ParseInfo.{is_set}
 use Rattle.perfdata_events.specs.Misc.{MMAP_DATA}
 use Rattle.perfdata_events.specs.Format.{Outcome, fixed_and_text}
 use Rattle.perfdata_events.specs.Fields.{i32_at, u64_at}
+use Rattle.perfdata_events.specs.declared.mmap.AddressRange.{AddressRange}
 use Rattle.perfdata_events.specs.declared.mmap.MmapRecord.{MmapRecord}
 
 -- A mapping without its path.
@@ -16,6 +17,9 @@ pub record Mapping : Type 0 where
   pub byte_length : ℕ
   pub page_offset : ℕ
   pub is_data : Bool
+
+abbrev pub address_range_of : AddressRange → Mapping
+address_range_of v = record { pid = v.pid; tid = v.tid; address = v.address; byte_length = v.length; page_offset = v.page_offset; is_data = v.is_data }
 
 -- The mapping of a record, and the bytes of its path.
 abbrev pub mapping_of : MmapRecord → Mapping × List ℕ

@@ -12,7 +12,6 @@ use Rattle.perfdata_events.specs.FileId.{FileId, file_id_of, file_id}
 use Rattle.perfdata_events.specs.Mmap.{Mapping, mapping_at}
 use Rattle.perfdata_events.specs.declared.mmap2.Mmap2Record.{Mmap2Record}
 use Rattle.perfdata_events.specs.declared.mmap2.ProtectedPath.{ProtectedPath}
-use Rattle.perfdata_events.specs.declared.mmap2.AddressRange.{AddressRange}
 
 -- The protection and the flags of a mapping.
 pub record Protection : Type 0 where
@@ -28,9 +27,6 @@ mapping2_of v = (
 
 abbrev pub protected_path_of : ProtectedPath → Protection × List ℕ
 protected_path_of v = (record { protection = v.protection; flags = v.flags }, bytes_of v.path)
-
-abbrev pub address_range_of : AddressRange → Mapping
-address_range_of v = record { pid = v.pid; tid = v.tid; address = v.address; byte_length = v.length; page_offset = v.page_offset; is_data = v.is_data }
 
 module _ (number : ℕ → List ℕ → ℕ) where
   abbrev pub protection_at : List ℕ → Protection

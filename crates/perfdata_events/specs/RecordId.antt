@@ -12,8 +12,8 @@ use Rattle.perfdata_events.specs.Sample.{origin_words, event_words}
 use Rattle.perfdata_events.specs.SampleId.{sample_id}
 use Rattle.perfdata_events.specs.declared.format.EventFormat.{EventFormat}
 use Rattle.perfdata_events.specs.declared.sample_id.SampleId.{SampleId}
-use Rattle.perfdata_events.specs.declared.sample_words.OriginWords.{OriginWords}
-use Rattle.perfdata_events.specs.declared.sample_words.EventWords.{EventWords}
+use Rattle.perfdata_events.specs.declared.sample.words.OriginWords.{OriginWords}
+use Rattle.perfdata_events.specs.declared.sample.words.EventWords.{EventWords}
 
 -- No field is selected.
 abbrev pub no_sample_id : SampleId

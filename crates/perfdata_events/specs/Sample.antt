@@ -19,11 +19,11 @@ use Rattle.perfdata_events.specs.Registers.{registers, registers_of}
 use Rattle.perfdata_events.specs.SampleEnd.{End, sample_end}
 use Rattle.perfdata_events.specs.EventFormat.{register_masks_of}
 use Rattle.perfdata_events.specs.declared.format.EventFormat.{EventFormat}
-use Rattle.perfdata_events.specs.declared.sample_parts.BranchEntry.{BranchEntry}
-use Rattle.perfdata_events.specs.declared.sample_parts.BranchStack.{BranchStack}
-use Rattle.perfdata_events.specs.declared.sample_parts.UserStack.{UserStack}
-use Rattle.perfdata_events.specs.declared.sample_words.OriginWords.{OriginWords}
-use Rattle.perfdata_events.specs.declared.sample_words.EventWords.{EventWords}
+use Rattle.perfdata_events.specs.declared.sample.parts.BranchEntry.{BranchEntry}
+use Rattle.perfdata_events.specs.declared.sample.parts.BranchStack.{BranchStack}
+use Rattle.perfdata_events.specs.declared.sample.parts.UserStack.{UserStack}
+use Rattle.perfdata_events.specs.declared.sample.words.OriginWords.{OriginWords}
+use Rattle.perfdata_events.specs.declared.sample.words.EventWords.{EventWords}
 use Rattle.perfdata_events.specs.declared.sample.SampleRecord.{SampleRecord}
 
 -- The hardware index, the numbers of the entries (three each: from, to, flags), and the counters.

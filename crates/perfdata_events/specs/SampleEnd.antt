@@ -12,10 +12,10 @@ use Rattle.perfdata_events.specs.Format.{Outcome, encodes, fails, IsTruncated, b
 use Rattle.perfdata_events.specs.Words.{word, words_size, after, word_after}
 use Rattle.perfdata_events.specs.Registers.{registers, registers_of}
 use Rattle.perfdata_events.specs.declared.fields.registers.RegisterMasks.{RegisterMasks}
-use Rattle.perfdata_events.specs.declared.fields.sample_end.DataWords.{DataWords}
-use Rattle.perfdata_events.specs.declared.fields.sample_end.PageWords.{PageWords}
-use Rattle.perfdata_events.specs.declared.fields.sample_end.SampleEnd.{SampleEnd}
-use Rattle.perfdata_events.specs.declared.fields.sample_end.WeightStruct.{WeightStruct}
+use Rattle.perfdata_events.specs.declared.sample.end.DataWords.{DataWords}
+use Rattle.perfdata_events.specs.declared.sample.end.PageWords.{PageWords}
+use Rattle.perfdata_events.specs.declared.sample.end.SampleEnd.{SampleEnd}
+use Rattle.perfdata_events.specs.declared.sample.end.WeightStruct.{WeightStruct}
 
 -- The numbers of a weight. union perf_sample_weight { u64 full; struct { u32 var1_dw; u16 var2_w; u16 var3_w; }; }: on a big-endian
 -- machine the numbers are in the opposite order, so they are at the same bits of the word.

@@ -9,9 +9,9 @@ use Rattle.perfdata_events.specs.declared.fields.read_values.GroupValues.{GroupV
 use Rattle.perfdata_events.specs.declared.fields.read_values.ReadValues.{ReadValues}
 use Rattle.perfdata_events.specs.declared.fields.read_values.ReadValues.TheVariants.{Single, Group}
 use Rattle.perfdata_events.specs.declared.fields.registers.Registers.{Registers}
-use Rattle.perfdata_events.specs.declared.fields.sample_end.SampleEnd.{SampleEnd}
-use Rattle.perfdata_events.specs.declared.sample_parts.BranchStack.{BranchStack}
-use Rattle.perfdata_events.specs.declared.sample_parts.UserStack.{UserStack}
+use Rattle.perfdata_events.specs.declared.sample.end.SampleEnd.{SampleEnd}
+use Rattle.perfdata_events.specs.declared.sample.parts.BranchStack.{BranchStack}
+use Rattle.perfdata_events.specs.declared.sample.parts.UserStack.{UserStack}
 use Rattle.perfdata_events.specs.declared.sample.SampleRecord.{SampleRecord}
 use Rattle.perfdata_events.specs.declared.mmap2.Mmap2Record.{Mmap2Record}
 use Rattle.perfdata_events.specs.declared.event.EventRecord.{EventRecord}

@@ -1,12 +1,11 @@
 //! Fields that have a format of their own: numbers, texts, lists of numbers, counter values, call chains,
-//! registers, file ids, and the fields of a sample from its weight on.
+//! registers and file ids.
 
 pub mod call_chain;
 pub mod file_id;
 pub mod numbers;
 pub mod read_values;
 pub mod registers;
-pub mod sample_end;
 pub mod task;
 pub mod text;
 pub mod u64s;

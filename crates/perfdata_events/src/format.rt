@@ -13,6 +13,34 @@ use perfdata_base::source::unexpected_eof;
 use std::io::Result;
 
 /// What the bodies of one attribute's records hold.
+///
+/// ```
+/// use linux_perf_data::source::PlacedSource;
+/// use linux_perf_data::{Error, PerfFileReader, PerfFileRecord};
+/// use perfdata_events::event::EventRecord;
+/// use perfdata_events::format::EventFormat;
+/// use std::alloc::Global;
+///
+/// fn period_sum<C: PlacedSource + Drop>(alloc: Global, file: C) -> Result<u64, Error> {
+///     let reader = PerfFileReader::parse_file(alloc, file)?;
+///     let (mut perf_file, mut records) = (reader.perf_file, reader.record_iter);
+///     let mut sum = 0u64;
+///     for _ in 0..u64::MAX {
+///         let Some((_, record)) = records.next_record(&mut perf_file)? else {
+///             break;
+///         };
+///         if let PerfFileRecord::EventRecord { attr_index, event } = record
+///             && let Some(description) = perf_file.event_attributes().get(attr_index)
+///         {
+///             let format = EventFormat::new(description.attributes(), perf_file.endian());
+///             if let EventRecord::Sample(sample) = format.parse(&event)? {
+///                 sum = sum.saturating_add(sample.period.unwrap_or(0));
+///             }
+///         }
+///     }
+///     Ok(sum)
+/// }
+/// ```
 #[derive(Clone, Copy, Debug)]
 pub struct EventFormat {
     /// The byte order of numbers.
@@ -56,7 +84,8 @@ fn sample_id_size(format: SampleFields) -> usize
 
 impl EventFormat {
     ghost use Rattle.perfdata_events.specs.EventFormat.{event_format_of, big_endian_format_of};
-    ghost use Rattle.perfdata_events.specs.EventFormat.{register_masks_of, trailing_size, SplitsTrailing};
+    ghost use Rattle.perfdata_events.specs.EventFormat.{native_format_of, register_masks_of};
+    ghost use Rattle.perfdata_events.specs.EventFormat.{trailing_size, SplitsTrailing};
 
     /// Returns the format of the records of an attribute, with numbers in the byte order `endian`.
     pub fn new(attr: &PerfEventAttr, endian: Endianness) -> EventFormat
@@ -86,6 +115,18 @@ impl EventFormat {
                 EventFlags::from_bits_retain(BIG_ENDIAN_SAMPLE_ID_ALL),
             ),
             ..EventFormat::new(attr, endian)
+        }
+    }
+
+    /// Returns the format of the records of an attribute whose flags a compiler of the byte order `endian` laid
+    /// out, as perf itself reads a recording: [`EventFormat::with_big_endian_flags`] of a big-endian recording,
+    /// and else [`EventFormat::new`].
+    pub fn with_native_flags(attr: &PerfEventAttr, endian: Endianness) -> EventFormat
+        ensures { result ≡ native_format_of attr.now endian }
+    {
+        match endian {
+            Endianness::LittleEndian => EventFormat::new(attr, endian),
+            Endianness::BigEndian => EventFormat::with_big_endian_flags(attr, endian),
         }
     }
 

@@ -1,8 +1,8 @@
-//! The bodies of kernel records: what the fields of each type hold (`perf_event.h` of Linux), with nothing
-//! allocated.
+//! The bodies of kernel records: what the fields of each type hold (`perf_event.h` of Linux).
 //!
 //! [`format::EventFormat`] describes the records of one attribute. Its `parse` parses a record by its type,
-//! and its `sample_id` returns who wrote the record, when and where.
+//! and its `sample_id` returns who wrote the record, when and where, with nothing allocated.
+//! [`formats::EventFormats`] has the formats of a recording's attributes.
 #![tactic(auto)]
 
 pub mod aux_area;
@@ -11,6 +11,7 @@ pub mod context_switch;
 pub mod event;
 pub mod fields;
 pub mod format;
+pub mod formats;
 pub mod kernel;
 pub mod laws;
 pub mod lost;
@@ -21,8 +22,7 @@ pub mod record_bits;
 pub mod record_id;
 pub mod sample;
 pub mod sample_id;
-pub mod sample_parts;
-pub mod sample_words;
 pub mod task;
 
 pub use fields::{call_chain, u64s};
+pub use sample::{parts as sample_parts, words as sample_words};

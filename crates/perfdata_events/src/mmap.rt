@@ -1,8 +1,8 @@
 //! Records on mappings.
 ghost use Rattle.perfdata_base.specs.Raw.{bytes_of, IsSingle};
-ghost use Rattle.perfdata_events.specs.Single.{KeepsSingle};
+ghost use Rattle.perfdata_events.specs.Single.{KeepsSingle, NoParts};
 ghost use Rattle.perfdata_base.specs.Endian.{number_in};
-ghost use Rattle.perfdata_events.specs.Format.{Decodes};
+ghost use Rattle.perfdata_events.specs.Format.{Decodes, fixed};
 
 use crate::bits::MiscFlags;
 use crate::fields::numbers::{i32_at, u64_at};
@@ -30,6 +30,43 @@ pub struct MmapRecord<'a> {
     pub path: RawData<'a>,
 }
 
+// The start of a record on a mapping.
+#[derive(Clone, Copy)]
+pub(crate) struct AddressRange {
+    pub(crate) pid: i32,
+    pub(crate) tid: i32,
+    pub(crate) address: u64,
+    pub(crate) length: u64,
+    pub(crate) page_offset: u64,
+    pub(crate) is_data: bool,
+}
+
+impl AddressRange {
+    ghost use Rattle.perfdata_events.specs.Mmap.{address_range_of, mapping_at};
+
+    // Parses the start of a record's fields, and removes it. `misc` is that of the record header.
+    pub(crate) fn parse(
+        endian: Endianness,
+        misc: u16,
+        fields: &mut RawData<'_>,
+    ) -> Result<AddressRange>
+        ensures decodes { Decodes (fixed 32 (mapping_at (number_in endian) misc)) address_range_of
+            (bytes_of fields.old) result (bytes_of fields.new) }
+        ensures single { KeepsSingle NoParts fields.old result fields.new }
+    {
+        let mut bytes = [0u8; 32];
+        fields.read_exact(&mut bytes)?;
+        Ok(AddressRange {
+            pid: i32_at(endian, &bytes, 0),
+            tid: i32_at(endian, &bytes, 4),
+            address: u64_at(endian, &bytes, 8),
+            length: u64_at(endian, &bytes, 16),
+            page_offset: u64_at(endian, &bytes, 24),
+            is_data: MiscFlags(misc).contains(MiscFlags::MMAP_DATA),
+        })
+    }
+}
+
 impl<'a> MmapRecord<'a> {
     ghost use Rattle.perfdata_events.specs.Mmap.{mmap, mapping_of};
 
@@ -42,16 +79,15 @@ impl<'a> MmapRecord<'a> {
             (bytes_of fields.new) }
         ensures single { KeepsSingle (λ v. IsSingle v.path) fields.old result fields.new }
     {
-        let mut bytes = [0u8; 32];
-        fields.read_exact(&mut bytes)?;
+        let range = AddressRange::parse(endian, misc, fields)?;
         let path = read_text(fields)?;
         Ok(MmapRecord {
-            pid: i32_at(endian, &bytes, 0),
-            tid: i32_at(endian, &bytes, 4),
-            address: u64_at(endian, &bytes, 8),
-            length: u64_at(endian, &bytes, 16),
-            page_offset: u64_at(endian, &bytes, 24),
-            is_data: MiscFlags(misc).contains(MiscFlags::MMAP_DATA),
+            pid: range.pid,
+            tid: range.tid,
+            address: range.address,
+            length: range.length,
+            page_offset: range.page_offset,
+            is_data: range.is_data,
             path,
         })
     }

@@ -1,14 +1,15 @@
 //! Records on mappings with the identity of the mapped file.
 ghost use Rattle.perfdata_base.specs.Raw.{bytes_of, IsSingle};
-ghost use Rattle.perfdata_events.specs.Single.{KeepsSingle, NoParts};
+ghost use Rattle.perfdata_events.specs.Single.{KeepsSingle};
 ghost use Rattle.perfdata_events.specs.SingleParts.{SingleMapping2};
 ghost use Rattle.perfdata_base.specs.Endian.{number_in};
-ghost use Rattle.perfdata_events.specs.Format.{Decodes, fixed, fixed_and_text};
+ghost use Rattle.perfdata_events.specs.Format.{Decodes, fixed_and_text};
 
 use crate::bits::MiscFlags;
 pub use crate::fields::file_id::{Mmap2FileId, Mmap2InodeAndVersion};
-use crate::fields::numbers::{i32_at, u32_at, u64_at};
+use crate::fields::numbers::u32_at;
 use crate::fields::text::read_text;
+use crate::mmap::AddressRange;
 use bitflags::Flags;
 use perfdata_base::raw::{Endianness, RawData};
 use std::io::Result;
@@ -38,45 +39,12 @@ pub struct Mmap2Record<'a> {
     pub path: RawData<'a>,
 }
 
-// The start of a record on a mapping.
-#[derive(Clone, Copy)]
-struct AddressRange {
-    pid: i32,
-    tid: i32,
-    address: u64,
-    length: u64,
-    page_offset: u64,
-    is_data: bool,
-}
-
 // The end of a record on a mapping.
 #[derive(Clone, Copy)]
 struct ProtectedPath<'a> {
     protection: u32,
     flags: u32,
     path: RawData<'a>,
-}
-
-impl AddressRange {
-    ghost use Rattle.perfdata_events.specs.Mmap.{mapping_at};
-    ghost use Rattle.perfdata_events.specs.Mmap2.{address_range_of};
-
-    fn parse(endian: Endianness, misc: u16, fields: &mut RawData<'_>) -> Result<AddressRange>
-        ensures decodes { Decodes (fixed 32 (mapping_at (number_in endian) misc)) address_range_of
-            (bytes_of fields.old) result (bytes_of fields.new) }
-        ensures single { KeepsSingle NoParts fields.old result fields.new }
-    {
-        let mut bytes = [0u8; 32];
-        fields.read_exact(&mut bytes)?;
-        Ok(AddressRange {
-            pid: i32_at(endian, &bytes, 0),
-            tid: i32_at(endian, &bytes, 4),
-            address: u64_at(endian, &bytes, 8),
-            length: u64_at(endian, &bytes, 16),
-            page_offset: u64_at(endian, &bytes, 24),
-            is_data: MiscFlags(misc).contains(MiscFlags::MMAP_DATA),
-        })
-    }
 }
 
 impl<'a> ProtectedPath<'a> {

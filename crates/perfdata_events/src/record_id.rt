@@ -4,8 +4,8 @@ ghost use Rattle.std.specs.IoError.{error_kind};
 ghost use Rattle.perfdata_base.specs.Raw.{bytes_of};
 
 use crate::format::EventFormat;
+use crate::sample::words::{EventWords, OriginWords};
 use crate::sample_id::SampleId;
-use crate::sample_words::{EventWords, OriginWords};
 use perfdata_base::event::{RawEventRecord, RecordType};
 use perfdata_base::raw::RawData;
 use std::io::Result;

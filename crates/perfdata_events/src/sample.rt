@@ -10,16 +10,21 @@ use crate::bits::SampleFields;
 use crate::fields::call_chain::CallChain;
 use crate::fields::read_values::ReadValues;
 use crate::fields::registers::Registers;
-use crate::fields::sample_end::SampleEnd;
 use crate::fields::task::Task;
 use crate::fields::words::read_u64_if;
 use crate::format::EventFormat;
 use crate::record_bits::DataSource;
-use crate::sample_parts::{BranchStack, UserStack, read_raw_data_if};
-use crate::sample_words::{EventWords, OriginWords};
 use bitflags::Flags;
 use perfdata_base::raw::RawData;
 use std::io::Result;
+
+pub mod end;
+pub mod parts;
+pub mod words;
+
+use end::SampleEnd;
+use parts::{BranchStack, UserStack, read_raw_data_if};
+use words::{EventWords, OriginWords};
 
 /// A sample of an event (`PERF_RECORD_SAMPLE`). A field is `None` if the attribute doesn't select it.
 #[derive(Clone, Copy, Debug)]
@@ -55,7 +60,7 @@ pub struct SampleRecord<'a> {
     /// A copy of the start of the program's stack.
     pub user_stack: Option<UserStack<'a>>,
     /// The weight: the cost of the access, in the unit of the hardware. With [`SampleFields::WEIGHT_STRUCT`]
-    /// it is three numbers, see [`WeightStruct`](crate::sample_words::WeightStruct).
+    /// it is three numbers, see [`WeightStruct`](crate::sample::end::WeightStruct).
     pub weight: Option<u64>,
     /// Where the data came from, as bits, see [`SampleRecord::named_data_source`].
     pub data_source: Option<u64>,

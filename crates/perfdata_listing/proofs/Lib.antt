@@ -3,3 +3,4 @@ pub mod CountingBufWriterLemmas
 pub mod ListingLemmas
 pub mod PipeListingLemmas
 pub mod JitListingLemmas
+pub mod ByTimeLemmas

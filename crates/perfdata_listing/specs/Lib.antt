@@ -5,3 +5,4 @@ pub mod CountingBufWriter
 pub mod Listing
 pub mod JitListing
 pub mod PipeListing
+pub mod ByTime

@@ -57,23 +57,23 @@ fn prepend_optional(buf: &mut [u8], end: usize, n: Option<u64>) -> usize
     }
 }
 
-/// The fields of a record's line.
+// The fields of a record's line.
 #[derive(Clone, Copy)]
-pub struct RecordFields {
+pub(crate) struct RecordFields {
     /// The offset of the record's first byte in the data section, or in the records of the pipe.
-    pub offset: u64,
+    pub(crate) offset: u64,
     /// Number of rounds that end before the record.
-    pub round: u64,
+    pub(crate) round: u64,
     /// The record's timestamp in nanoseconds, if it has one.
-    pub timestamp: Option<u64>,
+    pub(crate) timestamp: Option<u64>,
     /// The index of the record's attribute, if it has one.
-    pub attr_index: Option<u64>,
+    pub(crate) attr_index: Option<u64>,
     /// The type of the record.
-    pub record_type: u32,
+    pub(crate) record_type: u32,
     /// The `misc` flags of the record.
-    pub misc: u16,
+    pub(crate) misc: u16,
     /// The size of the record's body in bytes.
-    pub body_length: u64,
+    pub(crate) body_length: u64,
 }
 
 // Writes a record's line at the end of the array, last field first, and returns the index of its first byte.
@@ -144,26 +144,26 @@ impl Line {
         }
     }
 
-    /// Sets it to the line of a record.
+    // Sets it to the line of a record.
     #[inline]
-    pub fn set_record(&mut self, fields: RecordFields)
+    pub(crate) fn set_record(&mut self, fields: RecordFields)
         ensures { text_of self.new ≡ record_text fields.offset fields.round fields.timestamp fields.attr_index
             fields.record_type fields.misc fields.body_length }
     {
         self.start = format_record(&mut self.bytes, fields);
     }
 
-    /// Sets it to the line of a jitdump record: its offset in the file, its timestamp, its type, and its size
-    /// in bytes including its record header.
+    // Sets it to the line of a jitdump record: its offset in the file, its timestamp, its type, and its size
+    // in bytes including its record header.
     #[inline]
-    pub fn set_jit_record(&mut self, offset: u64, time: u64, record_type: u32, size: u64)
+    pub(crate) fn set_jit_record(&mut self, offset: u64, time: u64, record_type: u32, size: u64)
         ensures { text_of self.new ≡ jit_record_text offset time record_type size }
     {
         self.start = format_jit_record(&mut self.bytes, offset, time, record_type, size);
     }
 
-    /// Creates the line of an error after `records` records.
-    pub fn for_error(records: u64) -> Line
+    // Creates the line of an error after `records` records.
+    pub(crate) fn for_error(records: u64) -> Line
         ensures { text_of result ≡ error_text records }
     {
         let mut bytes = [0; LINE_CAPACITY];

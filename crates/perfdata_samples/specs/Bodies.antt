@@ -14,8 +14,8 @@ use Rattle.perfdata_events.specs.SampleFormat.{PERIOD, READ, CALLCHAIN}
 use Rattle.perfdata_events.specs.Words.{word}
 use Rattle.perfdata_events.specs.declared.format.EventFormat.{EventFormat}
 use Rattle.perfdata_samples.specs.declared.body.SampleWords.{SampleWords}
-use Rattle.perfdata_events.specs.declared.sample_words.EventWords.{EventWords}
-use Rattle.perfdata_events.specs.declared.sample_words.OriginWords.{OriginWords}
+use Rattle.perfdata_events.specs.declared.sample.words.EventWords.{EventWords}
+use Rattle.perfdata_events.specs.declared.sample.words.OriginWords.{OriginWords}
 use Rattle.perfdata_samples.specs.declared.body.BodyError.TheVariants.{Truncated, UnknownFields}
 use Rattle.perfdata_samples.specs.declared.body.SampleBody.{SampleBody}
 use Rattle.perfdata_samples.specs.declared.body.SampleBody.TheVariants.{Complete, Words, Nothing}

@@ -17,8 +17,8 @@ use Rattle.perfdata_events.specs.Words.{u64s_in}
 use Rattle.perfdata_events.specs.declared.fields.registers.Registers.{Registers}
 use Rattle.perfdata_events.specs.declared.format.EventFormat.{EventFormat}
 use Rattle.perfdata_events.specs.declared.sample.SampleRecord.{SampleRecord}
-use Rattle.perfdata_events.specs.declared.sample_parts.BranchStack.{BranchStack}
-use Rattle.perfdata_events.specs.declared.sample_parts.UserStack.{UserStack}
+use Rattle.perfdata_events.specs.declared.sample.parts.BranchStack.{BranchStack}
+use Rattle.perfdata_events.specs.declared.sample.parts.UserStack.{UserStack}
 use Rattle.perfdata_samples.specs.declared.body.BodyError.{BodyError}
 use Rattle.perfdata_samples.specs.declared.body.BodyError.TheVariants.{Truncated, UnknownFields}
 use Rattle.perfdata_samples.specs.declared.details.BranchesPlace.{BranchesPlace}

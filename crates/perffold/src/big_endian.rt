@@ -8,8 +8,9 @@ use linux_perf_data::raw::Endianness;
 use linux_perf_data::{Error, PerfFile, PerfFileRecord, RecordPlace, UserRecordType};
 use perfdata_events::bits::EventFlags;
 use perfdata_events::format::EventFormat;
+use perfdata_events::formats::EventFormats;
 use perfdata_order::sorter::Sorter;
-use std::alloc::Global;
+use std::alloc::{AllocError, Global};
 
 /// Returns the flags of an attribute.
 pub(crate) fn flags_of(perf_file: &PerfFile, attr: &PerfEventAttr) -> EventFlags {
@@ -19,37 +20,29 @@ pub(crate) fn flags_of(perf_file: &PerfFile, attr: &PerfEventAttr) -> EventFlags
     })
 }
 
-/// Returns the format of the records of an attribute.
-pub(crate) fn format_of(perf_file: &PerfFile, attr: &PerfEventAttr) -> EventFormat {
-    match perf_file.endian() {
-        Endianness::LittleEndian => EventFormat::new(attr, Endianness::LittleEndian),
-        Endianness::BigEndian => EventFormat::with_big_endian_flags(attr, Endianness::BigEndian),
+/// Returns the format of the records of an attribute, by its index. The formats of the attributes that were
+/// read since the last call are added first.
+pub(crate) fn find_format<'a>(
+    formats: &'a mut EventFormats,
+    perf_file: &PerfFile,
+    index: usize,
+) -> Result<Option<&'a EventFormat>, AllocError> {
+    let added = perf_file.event_attributes().get(formats.len()..);
+    for event in added.unwrap_or(&[]) {
+        formats.push_with_native_flags(event.attributes(), perf_file.endian())?;
     }
+    Ok(formats.get(index))
 }
 
 /// The records of a big-endian machine, in order of time. Those without a time come where they are read.
 #[derive(Drop)]
 pub(crate) struct BigEndianRecords<'a> {
     records: InMemoryRecords<'a>,
+    formats: EventFormats,
     sorter: Sorter<u64, (RecordPlace, PerfFileRecord<'a>)>,
     has_ended: bool,
     /// The error at the end of the records.
     failure: Option<Error>,
-}
-
-// Returns the time of a record, if it has one. 0 and 2^64 - 1 stand for no time.
-fn time_of(perf_file: &PerfFile, record: &PerfFileRecord<'_>) -> Option<u64> {
-    let PerfFileRecord::EventRecord { attr_index, event } = record else {
-        return None;
-    };
-    let attribute = perf_file.event_attributes().get(*attr_index)?;
-    let id = format_of(perf_file, attribute.attributes())
-        .sample_id(event)
-        .ok()?;
-    match id.timestamp {
-        Some(0 | u64::MAX) => None,
-        time => time,
-    }
 }
 
 // Returns whether a record ends a round of reading the kernel's buffers.
@@ -66,9 +59,28 @@ impl<'a> BigEndianRecords<'a> {
     pub(crate) fn new(alloc: Global, records: InMemoryRecords<'a>) -> BigEndianRecords<'a> {
         BigEndianRecords {
             records,
+            formats: EventFormats::new(alloc),
             sorter: Sorter::new(alloc),
             has_ended: false,
             failure: None,
+        }
+    }
+
+    // Returns the time of a record, if it has one. 0 and 2^64 - 1 stand for no time.
+    fn time_of(
+        &mut self,
+        perf_file: &PerfFile,
+        record: &PerfFileRecord<'_>,
+    ) -> Result<Option<u64>, AllocError> {
+        let PerfFileRecord::EventRecord { attr_index, event } = record else {
+            return Ok(None);
+        };
+        let Some(format) = find_format(&mut self.formats, perf_file, *attr_index)? else {
+            return Ok(None);
+        };
+        match format.sample_id(event) {
+            Ok(id) => Ok(id.timestamp.filter(|time| *time != 0 && *time != u64::MAX)),
+            Err(_) => Ok(None),
         }
     }
 
@@ -79,7 +91,7 @@ impl<'a> BigEndianRecords<'a> {
     ) -> Result<Option<(RecordPlace, PerfFileRecord<'a>)>, Error> {
         match self.records.next_record(perf_file) {
             Ok(Some((place, record))) => {
-                let Some(time) = time_of(perf_file, &record) else {
+                let Some(time) = self.time_of(perf_file, &record)? else {
                     if ends_round(&record) {
                         self.sorter.finish_round()?;
                     }

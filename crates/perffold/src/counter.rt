@@ -1,6 +1,6 @@
 //! Counts the samples of a recording.
 
-use crate::big_endian::{flags_of, format_of};
+use crate::big_endian::{find_format, flags_of};
 use crate::options::{Options, Weight};
 use crate::records::Records;
 use crate::resolver::FrameResolver;
@@ -14,6 +14,7 @@ use perfdata_cli::error::InputError;
 use perfdata_cli::position::Position;
 use perfdata_events::bits::EventFlags;
 use perfdata_events::event::EventRecord;
+use perfdata_events::formats::EventFormats;
 use perfdata_events::sample::SampleRecord;
 use perfdata_profile::builder::ProfileBuilder;
 use perfdata_profile::error::CountError;
@@ -27,6 +28,7 @@ use std::io;
 #[derive(Drop)]
 pub(crate) struct SampleCounter<'a> {
     builder: ProfileBuilder<FrameResolver<'a>>,
+    formats: EventFormats,
     selection: Selection<'a>,
     weight: Weight,
     /// Whether the metadata of the recording was read for its symbols.
@@ -90,6 +92,7 @@ impl<'a> SampleCounter<'a> {
         };
         SampleCounter {
             builder: ProfileBuilder::new(alloc, resolver, profile_options),
+            formats: EventFormats::new(alloc),
             selection: options.selection,
             weight: options.weight,
             has_metadata: false,
@@ -119,8 +122,11 @@ impl<'a> SampleCounter<'a> {
         let Some(event) = perf_file.event_attributes().get(index) else {
             return Ok(());
         };
+        let Some(format) = find_format(&mut self.formats, perf_file, index)? else {
+            return Ok(());
+        };
         let attr = event.attributes();
-        let record = format_of(perf_file, attr).parse(raw)?;
+        let record = format.parse(raw)?;
         let weight = match &record {
             EventRecord::Sample(sample) => {
                 if !self.selection.selects(perf_file, index) {

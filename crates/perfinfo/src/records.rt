@@ -13,7 +13,7 @@ use linux_perf_data::{
 use perfdata_cli::error::InputError;
 use perfdata_cli::position::{Position, record_end};
 use perfdata_cli::progress::Progress;
-use perfdata_events::format::EventFormat;
+use perfdata_events::formats::EventFormats;
 use std::alloc::{AllocError, Global};
 use std::collections::BTreeMap;
 
@@ -55,6 +55,7 @@ impl EventCounts {
 /// Counts of all records.
 #[derive(Drop)]
 pub struct RecordCounts {
+    formats: EventFormats,
     per_event: Vec<EventCounts>,
     per_type: BTreeMap<u32, u64>,
     records: u64,
@@ -69,6 +70,7 @@ impl RecordCounts {
     /// Creates counts with no records.
     pub(crate) fn new(alloc: Global) -> RecordCounts {
         RecordCounts {
+            formats: EventFormats::new(alloc),
             per_event: Vec::new(alloc),
             per_type: BTreeMap::new(alloc),
             records: 0,
@@ -104,17 +106,25 @@ impl RecordCounts {
         Ok(())
     }
 
+    // Adds the formats of the attributes that were read since the last call.
+    fn add_formats(&mut self, perf_file: &PerfFile) -> Result<(), AllocError> {
+        let added = perf_file.event_attributes().get(self.formats.len()..);
+        for event in added.unwrap_or(&[]) {
+            self.formats.push(event.attributes(), perf_file.endian())?;
+        }
+        Ok(())
+    }
+
     // Adds the record of an event to the counts of its body and of the event.
     fn add_event(
         &mut self,
         alloc: Global,
-        format: Option<EventFormat>,
         index: usize,
         timestamp: Option<u64>,
         record: &RawEventRecord<'_>,
     ) -> Result<(), AllocError> {
-        if let Some(format) = format {
-            self.contents.add(alloc, &format, timestamp, record)?;
+        if let Some(format) = self.formats.get(index) {
+            self.contents.add(alloc, format, timestamp, record)?;
         }
         self.count_for_event(index, record.record_type, timestamp)
     }
@@ -131,8 +141,8 @@ impl RecordCounts {
         match record {
             PerfFileRecord::UserRecord(user) => aux_data_size(alloc, user),
             PerfFileRecord::EventRecord { attr_index, event } => {
-                let format = event_format(perf_file, *attr_index);
-                self.add_event(alloc, format, *attr_index, place.timestamp, event)?;
+                self.add_formats(perf_file)?;
+                self.add_event(alloc, *attr_index, place.timestamp, event)?;
                 Ok(0)
             }
         }
@@ -214,12 +224,6 @@ fn aux_data_size(alloc: Global, user: &RawUserRecord<'_>) -> Result<u64, Error> 
         UserRecord::Auxtrace(auxtrace) => Ok(auxtrace.aux_data.len() as u64),
         _ => Ok(0),
     }
-}
-
-// Returns the format of the records of an event.
-fn event_format(perf_file: &PerfFile, index: usize) -> Option<EventFormat> {
-    let event = perf_file.event_attributes().get(index)?;
-    Some(EventFormat::new(event.attributes(), perf_file.endian()))
 }
 
 /// Writes the number of records of each type, the number of rounds, and the total sizes of aux data and of

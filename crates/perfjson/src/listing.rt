@@ -1,5 +1,4 @@
 //! Lists an input on standard output.
-use crate::by_time::list_by_time;
 use crate::options::Options;
 use crate::tracked_line::TrackedLine;
 use perfdata_cli::error::{InputError, ProgramError};
@@ -7,7 +6,9 @@ use perfdata_cli::input::{Input, open_in_memory};
 use perfdata_cli::position::Position;
 use perfdata_cli::progress::Progress;
 use perfdata_json::JsonLine;
-use perfdata_listing::{CountingBufWriter, ListCause, ListFault, list_file_by, list_live_pipe_by};
+use perfdata_listing::{
+    CountingBufWriter, ListCause, ListFault, list_by_time, list_file_by, list_live_pipe_by,
+};
 use std::io::Write;
 use std::rt::Stdout;
 

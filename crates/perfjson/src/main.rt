@@ -1,7 +1,6 @@
 //! Writes the records of a `perf.data` file or of a pipe as JSON, one line a record.
 #![tactic(auto)]
 
-mod by_time;
 mod listing;
 mod options;
 mod tracked_line;

@@ -1,8 +1,7 @@
-//! The calls that write lines: their text, the buffer of lines, and the end of a program.
-use crate::cases::{Call, Case, CaseResult, Output, number_of, u32_of};
+//! The calls that write lines: the buffer of lines, and the end of a program.
+use crate::cases::{Call, Case, CaseResult, Output};
 use crate::reader::sink::Sink;
 use linux_perf_data::Error;
-use perfdata_listing::line::{Line, RecordFields};
 use perfdata_listing::list::{ListCause, ListFault, flush_listing, list_file};
 use perfdata_listing::output::{CountingBufWriter, finish, write_line};
 use std::alloc::{AllocError, Global};
@@ -10,43 +9,6 @@ use std::io::{Cursor, Error as IoError, ErrorKind, Write};
 
 // A buffer of lines before the writer of a case.
 type Buffer<'a> = CountingBufWriter<&'a mut Sink>;
-
-// The number that is the option with this index; 0 for `-`, with which it isn't there.
-fn word(case: &Case<'_>, index: usize) -> CaseResult<Option<u64>> {
-    match case.options.split_whitespace().nth(index) {
-        Some("-") => Ok(None),
-        word => Ok(Some(number_of(word.unwrap_or(""))?)),
-    }
-}
-
-fn number(case: &Case<'_>, index: usize) -> CaseResult<u64> {
-    Ok(word(case, index)?.unwrap_or(0))
-}
-
-/// Prints the line of the numbers that are the options: those of a record, of a jitdump record, or of an
-/// error.
-pub fn push_numbers(case: &Case<'_>, out: &mut Output) -> CaseResult {
-    let first = number(case, 0)?;
-    let mut line = Line::for_error(first);
-    match case.call {
-        "record-line" => line.set_record(RecordFields {
-            offset: first,
-            round: number(case, 1)?,
-            timestamp: word(case, 2)?,
-            attr_index: word(case, 3)?,
-            record_type: u32_of(number(case, 4)?)?,
-            misc: u16::try_from(number(case, 5)?).unwrap_or(0),
-            body_length: number(case, 6)?,
-        }),
-        "jit-line" => {
-            let (time, record_type) = (number(case, 1)?, u32_of(number(case, 2)?)?);
-            line.set_jit_record(first, time, record_type, number(case, 3)?);
-        }
-        _ => {}
-    }
-    out.push_str(str::from_utf8(line.as_bytes()).unwrap_or(""));
-    Ok(())
-}
 
 // The number of records of a listed file, or of the lines before its error.
 fn listed_count(alloc: Global, bytes: &[u8]) -> Result<Result<u64, u64>, AllocError> {

@@ -2,6 +2,8 @@
 use crate::cases::{Call, CaseError, CaseResult, Output};
 use crate::examples::count::{count_pipe_records, count_records};
 use crate::examples::jit_code_size::code_size;
+use crate::examples::listing::listing;
+use crate::examples::period_sum::period_sum;
 use crate::reader::reading::{is_pipe, open_in_memory};
 use linux_perf_data::in_memory::InMemoryRecords;
 use linux_perf_data::in_memory::entries::RecordEntry;
@@ -102,5 +104,18 @@ pub fn push_code_size(call: &Call<'_>, out: &mut Output) {
     match code_size(call.alloc, Cursor::new(call.input.bytes)) {
         Ok(size) => out.push_line(&size),
         Err(error) => out.push_line(&error),
+    }
+}
+
+/// Prints the sum of the periods of a file's samples.
+pub fn push_period_sum(call: &Call<'_>, out: &mut Output) {
+    out.push_result(&period_sum(call.alloc, Cursor::new(call.input.bytes)));
+}
+
+/// Prints the lines of a file's records, or the number of those before an error.
+pub fn push_lines(call: &Call<'_>, out: &mut Output) {
+    match listing(call.alloc, Cursor::new(call.input.bytes)) {
+        Ok(lines) => out.push_str(str::from_utf8(&lines).unwrap_or("not UTF-8")),
+        Err(fault) => writeln!(out, "{} lines before an error", fault.lines),
     }
 }

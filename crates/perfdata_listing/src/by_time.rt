@@ -1,9 +1,10 @@
 //! Lists the records of an input in memory in order of time.
-ghost use Rattle.perfjson.specs.ByTime.{ListsByTime, ListsNextByTime};
+ghost use Rattle.perfdata_listing.specs.ByTime.{ListsByTime, ListsNextByTime};
 
+use crate::list::{ListCause, ListFault, write_record};
+use crate::record_line::RecordLine;
 use linux_perf_data::PerfFile;
 use linux_perf_data::in_memory::InMemoryReader;
-use perfdata_listing::{ListCause, ListFault, RecordLine, write_record};
 use perfdata_order::in_memory::InMemoryOrderedRecords;
 use std::alloc::Global;
 use std::io::Write;
@@ -28,11 +29,11 @@ fn list_next<L: RecordLine, W: Write>(
     }
 }
 
-/// Writes the lines of all records in order of time. Returns their number.
+/// Writes the lines of all records in order of time, in the format of `line`. Returns their number.
 ///
 /// On an error `lines` is the number of complete lines that are written. If the input has an error, the lines
 /// of all records before it are written.
-pub(crate) fn list_by_time<L: RecordLine, W: Write>(
+pub fn list_by_time<L: RecordLine, W: Write>(
     alloc: Global,
     reader: InMemoryReader<'_>,
     line: &mut L,

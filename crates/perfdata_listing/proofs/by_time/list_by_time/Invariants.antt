@@ -1,6 +1,6 @@
 use Rattle.std.proofs.Common.{◌-◌, ◌^◌, ◌<◌}
-use Rattle.perfjson.specs.ByTime.{ListedSteps}
-use Rattle.perfjson.proofs.by_time.list_by_time.Given as goal
+use Rattle.perfdata_listing.specs.ByTime.{ListedSteps}
+use Rattle.perfdata_listing.proofs.by_time.list_by_time.Given as goal
 
 abbrev pub invariant-records : goal.invariant-records
 invariant-records g l = record {

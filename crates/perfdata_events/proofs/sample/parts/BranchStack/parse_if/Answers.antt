@@ -5,7 +5,7 @@ use Rattle.perfdata_base.specs.ParseInfo.{is_set}
 use Rattle.perfdata_events.specs.Sample.{branch_stack, branches_of}
 use Rattle.perfdata_events.specs.SampleFormat.{BRANCH_STACK}
 use Rattle.perfdata_events.proofs.Optional.{decodes_some}
-use Rattle.perfdata_events.proofs.sample_parts.BranchStack.parse_if.Goals as goal
+use Rattle.perfdata_events.proofs.sample.parts.BranchStack.parse_if.Goals as goal
 
 pub returns-clause-decodes : goal.returns-clause-decodes
 returns-clause-decodes c =

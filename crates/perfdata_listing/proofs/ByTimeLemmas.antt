@@ -17,7 +17,7 @@ use Rattle.perfdata_order.specs.InMemoryOrder.{Entry, Step, TakesSteps, returned
 use Rattle.perfdata_order.specs.InMemoryOrder.Step.{reads, passes, reads_end, reads_error, sorts, reports}
 use Rattle.perfdata_order.specs.SorterLaws.Call.{inserts, ends_round, ends_all, releases, returns, keeps}
 use Rattle.perfdata_order.specs.declared.in_memory.InMemoryOrderedRecords.{InMemoryOrderedRecords}
-use Rattle.perfjson.specs.ByTime.{view_of, views_in, ListsNextByTime, ListedSteps, ListedByTime, ListingByTimeFails}
+use Rattle.perfdata_listing.specs.ByTime.{view_of, views_in, ListsNextByTime, ListedSteps, ListedByTime, ListingByTimeFails}
 
 -- ---- consecutive steps
 
