@@ -118,9 +118,9 @@ impl EventFormat {
         }
     }
 
-    /// Returns the format of the records of an attribute whose flags a compiler of the byte order `endian` laid
-    /// out, as perf itself reads a recording: [`EventFormat::with_big_endian_flags`] of a big-endian recording,
-    /// and else [`EventFormat::new`].
+    /// Returns the format of the records of an attribute whose flags a compiler of the byte order `endian`
+    /// laid out: that of [`EventFormat::with_big_endian_flags`] in big-endian order, else that of
+    /// [`EventFormat::new`].
     pub fn with_native_flags(attr: &PerfEventAttr, endian: Endianness) -> EventFormat
         ensures { result ≡ native_format_of attr.now endian }
     {

@@ -255,6 +255,18 @@ pub fn list_live_pipe_by<R: Source + Drop, L: RecordLine, W: FlushPending>(
 /// On an error `lines` is the number of complete lines that are written: 0 if the file doesn't open, all of
 /// its records if the layout of its data section has an error. If the writer fails, a prefix of the next line
 /// is written. A write of 0 bytes is an error of kind `WriteZero`. No write is repeated.
+///
+/// ```
+/// use linux_perf_data::source::PlacedSource;
+/// use perfdata_listing::{ListFault, list_file};
+/// use std::alloc::Global;
+///
+/// fn listing<C: PlacedSource + Drop>(alloc: Global, file: C) -> Result<Vec<u8>, ListFault> {
+///     let mut lines = Vec::new(alloc);
+///     list_file(alloc, file, &mut lines)?;
+///     Ok(lines)
+/// }
+/// ```
 pub fn list_file<C: PlacedSource + Drop, W: Write>(
     alloc: Global,
     source: C,
