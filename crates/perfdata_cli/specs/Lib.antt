@@ -1,2 +1,3 @@
 -- The specifications that contracts use.
 pub mod Args
+pub mod Inputs

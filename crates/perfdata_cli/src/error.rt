@@ -49,8 +49,14 @@ pub enum InputError {
 }
 
 impl InputError {
+    ghost use Rattle.std.specs.Prelude.{◌≡◌, ◌≢◌};
+    ghost use Rattle.perfdata_cli.specs.declared.error.InputError.TheVariants.{Metadata, Record};
+
     /// Returns the error of reading the records, or of the metadata if none was read.
-    pub fn at(position: Position, cause: Error) -> InputError {
+    pub fn at(position: Position, cause: Error) -> InputError
+        ensures metadata { position.records ≡ 0 → result ≡ Metadata cause }
+        ensures later { position.records ≢ 0 → result ≡ Record position cause }
+    {
         match position.records {
             0 => InputError::Metadata(cause),
             _ => InputError::Record { position, cause },

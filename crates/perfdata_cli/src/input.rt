@@ -1,7 +1,8 @@
 //! The inputs of the programs: their kind, and their bytes in a buffer of 64 KiB.
-ghost use Rattle.std.specs.Prelude.{◌≡◌, [], IfOk};
+ghost use Rattle.std.specs.Prelude.{◌≡◌, ◌≢◌, [], IfOk, codes};
 ghost use Rattle.perfdata_base.specs.CountedBuffer.{buffered_state, counted_buffer_bytes};
 ghost use Rattle.perfdata_base.specs.Source.{opaque_source};
+ghost use Rattle.perfdata_cli.specs.Inputs.{OpensInMemory};
 
 use crate::error::InputError;
 use crate::input_bytes::{InputBytes, Unread};
@@ -42,7 +43,10 @@ pub fn path_of<'a>(rt: &HostRuntime, file: Option<&'a str>) -> &'a str {
 }
 
 /// Returns the name of an input in messages.
-pub fn display_name(path: &str) -> &str {
+pub fn display_name(path: &str) -> &str
+    ensures standard_input { path.now ≡ codes "-" → result.now ≡ codes "standard input" }
+    ensures other { path.now ≢ codes "-" → result.now ≡ path.now }
+{
     match path {
         STANDARD_INPUT => STANDARD_INPUT_NAME,
         path => path,
@@ -51,7 +55,10 @@ pub fn display_name(path: &str) -> &str {
 
 /// Returns the path at which an input with this name in messages can be opened again, if it is a regular
 /// file.
-pub(crate) fn path_of_name(name: &str) -> &str {
+pub(crate) fn path_of_name(name: &str) -> &str
+    ensures standard_input { name.now ≡ codes "standard input" → result.now ≡ codes "/dev/stdin" }
+    ensures other { name.now ≢ codes "standard input" → result.now ≡ name.now }
+{
     match name {
         STANDARD_INPUT_NAME => STANDARD_INPUT_PATH,
         path => path,
@@ -85,6 +92,8 @@ fn open_unread(rt: &HostRuntime, path: &str) -> Result<(Unread, Option<u64>)> {
 }
 
 impl Input {
+    ghost use Rattle.perfdata_cli.specs.Inputs.{IsPipe};
+
     /// Opens the input at a path and reads its first bytes, of which the first read may wait.
     ///
     /// Fails if it can't be opened, if a read fails, or if memory runs out.
@@ -106,7 +115,9 @@ impl Input {
     /// Returns whether the input is a pipe, otherwise it is a perf.data file.
     ///
     /// Fails with `JitDump` if it is a jitdump, and with `UnknownFormat` if it is none of them.
-    pub fn is_pipe(&self) -> result::Result<bool, InputError> {
+    pub fn is_pipe(&self) -> result::Result<bool, InputError>
+        ensures { IsPipe self.now.kind result }
+    {
         match self.kind {
             Some(InputKind::File) => Ok(false),
             Some(InputKind::Pipe) => Ok(true),
@@ -149,7 +160,12 @@ impl Input {
     }
 
     /// Returns the input from its start as a source with a buffer of `BUFFER_SIZE` bytes.
-    pub fn into_source(self, alloc: Global) -> Result<CountedBuffer<InputBytes>> {
+    ///
+    /// The buffer is empty, and the counts of I/O errors and of empty reads are 0.
+    pub fn into_source(self, alloc: Global) -> Result<CountedBuffer<InputBytes>>
+        ensures counts { IfOk result (λ s. buffered_state s ≡ opaque_source 0 0) }
+        ensures empty { IfOk result (λ s. counted_buffer_bytes s ≡ []) }
+    {
         with_buffer(alloc, self.into_input_bytes()?)
     }
 }
@@ -159,7 +175,9 @@ pub fn open_in_memory(
     alloc: Global,
     bytes: &[u8],
     is_pipe: bool,
-) -> result::Result<InMemoryReader<'_>, InputError> {
+) -> result::Result<InMemoryReader<'_>, InputError>
+    ensures { OpensInMemory bytes.now is_pipe result }
+{
     let opened = if is_pipe {
         InMemoryReader::parse_pipe(alloc, bytes)
     } else {
