@@ -1,6 +1,6 @@
 //! Values by address, in versions that share their nodes.
 
-ghost use Rattle.std.specs.Prelude.{◌≡◌, ℕ, ◌+◌, ◌≤◌, ◌<◌, ◌^◌, ◌-◌, nat_lt, if◌then◌else◌, Option, None, IfOk};
+ghost use Rattle.std.specs.Prelude.{◌≡◌, ℕ, ◌≤◌, ◌<◌, ◌^◌, ◌-◌, nat_lt, if◌then◌else◌, Option, None, IfOk};
 ghost use Rattle.perfdata_spaces.specs.Ranges.{covers, contains};
 
 use std::alloc::{AllocError, Global};
@@ -39,8 +39,8 @@ struct Boundary {
     above: Tree,
 }
 
-/// Values by address, in a version that shares nodes with others. With n ranges, a look-up takes O(log n) time,
-/// and a new version O(log n) time and new nodes.
+/// Values by address, in a version that shares nodes with others. With n ranges, a look-up takes O(log n)
+/// time, and a new version O(log n) time and new nodes.
 #[derive(Drop)]
 pub(crate) struct RangeMap {
     tree: Tree,

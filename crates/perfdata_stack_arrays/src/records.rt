@@ -50,8 +50,8 @@ impl<'a> Records<'a> {
         perf_file: &PerfFile,
         records: InMemoryRecords<'a>,
     ) -> Records<'a>
-        ensures { StartsRecords
-            (has_times (endian_of_file perf_file.now) (descriptions_of_file perf_file.now)) records.entry result }
+        ensures { StartsRecords (has_times (endian_of_file perf_file.now)
+            (descriptions_of_file perf_file.now)) records.entry result }
     {
         if has_times(perf_file) {
             Records::ByTime(InMemoryOrderedRecords::new(alloc, records))
