@@ -1,6 +1,6 @@
 //! The entries of a section, in the order of the addresses that they describe.
 ghost use Rattle.std.specs.Prelude.{◌≡◌, ◌≤◌, ◌<◌, ◌+◌, ◌-◌, ◌^◌, ℕ, length};
-ghost use Rattle.std.specs.Prelude.{slice_range, slice_index_or, true, IfOk};
+ghost use Rattle.std.specs.Prelude.{slice_range, slice_index_or, true, IfOk, IfErr, IfNone, ◌≢◌};
 ghost use Rattle.std.specs.Prelude.{IfSome, OnOk, All, Some, false, nat_le, nat_lt};
 ghost use Rattle.std.specs.List.Sorted.{IsNonDecreasingBy, IsPartitionPoint, IsPermutation, IsStableByKey};
 ghost use Rattle.std.specs.Ordering.{nat_cmp};
@@ -40,8 +40,10 @@ pub struct FoundRow {
 }
 
 impl EntryTable {
-    ghost use Rattle.perfdata_cfi.specs.TableRows.{IsRowIn, encoding_in, program_in};
-    ghost use Rattle.perfdata_cfi.specs.Rows.{Runs, moment_of};
+    ghost use Rattle.perfdata_cfi.specs.TableRows.{IsRowIn, NoRowIn, IsWithin, IsProgram};
+    ghost use Rattle.perfdata_cfi.specs.TableRows.{encoding_in, program_in};
+    ghost use Rattle.perfdata_cfi.specs.Rows.{Runs, NoRun, moment_of};
+    ghost use Rattle.perfdata_cfi.specs.declared.error.CfiError.TheVariants as errors;
 
     // Reads the entries of a section, whose first byte is at an address.
     pub(crate) fn new(
@@ -95,6 +97,8 @@ impl EntryTable {
         ensures bytes { IfSome result (λ bytes. bytes.now
             ≡ slice_range self.now.bytes.items span.start span.end) }
         ensures len { IfSome result (λ bytes. length bytes.now ≤ span.end) }
+        ensures within { IfSome result (λ _. IsWithin self.now.bytes.items span) }
+        ensures none { IfNone result (IsWithin self.now.bytes.items span → ⊥) }
     {
         if span.start <= span.end && span.end <= self.bytes.len() {
             Some(&self.bytes[span.start..span.end])
@@ -124,7 +128,8 @@ impl EntryTable {
         index: usize,
         address: u64,
     ) -> Result<FoundRow, CfiError>
-        ensures { IfOk result (λ found. IsRowIn self.now index address found) }
+        ensures found { IfOk result (λ found. IsRowIn self.now index address found) }
+        ensures none { IfErr result (λ e. e ≢ errors.Memory → NoRowIn self.now index address) }
     {
         if index >= self.fdes.len() {
             return Err(CfiError::NoCie);
@@ -159,8 +164,12 @@ impl EntryTable {
         address: u64,
         state: &mut State,
     ) -> Result<(), CfiError>
-        ensures { OnOk result (Runs (encoding_in self.now cie.now span) cie.now initial.now address
+        ensures done { OnOk result (Runs (encoding_in self.now cie.now span) cie.now initial.now address
             (program_in self.now span) (moment_of state.old) (moment_of state.new)) }
+        ensures program { OnOk result (IsProgram self.now span) }
+        ensures none { IfErr result (λ e. e ≢ errors.Memory → IsProgram self.now span
+            → NoRun (encoding_in self.now cie.now span) cie.now initial.now address
+            (program_in self.now span) (moment_of state.old)) }
     {
         let program = self.bytes_at(span).ok_or(CfiError::Truncated)?;
         let encoding = Encoding {
