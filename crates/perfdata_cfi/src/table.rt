@@ -5,7 +5,8 @@ ghost use Rattle.std.specs.Prelude.{IfSome, OnOk, All, Some, false, nat_le, nat_
 ghost use Rattle.std.specs.List.Sorted.{IsNonDecreasingBy, IsPartitionPoint, IsPermutation, IsStableByKey};
 ghost use Rattle.std.specs.Ordering.{nat_cmp};
 ghost use Rattle.perfdata_cfi.specs.Tables.{IsCieIn, IsCieOf, IsFdeIn, IsFdeOf, IsFdeAt, FdesOfSection};
-ghost use Rattle.perfdata_cfi.specs.Tables.{SortedFdesOf};
+ghost use Rattle.perfdata_cfi.specs.Tables.{SortedFdesOf, AreRising, NoFdeIn};
+ghost use Rattle.perfdata_cfi.specs.Fdes.{IsFde};
 
 use crate::cie::{Cie, read_cie};
 use crate::entry::{Entry, FrameSection, read_entry};
@@ -195,7 +196,8 @@ fn cie_of(entry: &Option<Entry<'_>>) -> Option<Cie>
 
 // The CIEs of a section that can be used.
 fn read_cies(alloc: Global, section: FrameSection, bytes: &[u8]) -> Result<Vec<Cie>, AllocError>
-    ensures { IfOk result (λ cies. All (IsCieOf section bytes.now) cies.items) }
+    ensures all { IfOk result (λ cies. All (IsCieOf section bytes.now) cies.items) }
+    ensures rising { IfOk result (λ cies. AreRising cies.items) }
 {
     let mut cies = Vec::new(alloc);
     let mut rest = bytes;
@@ -213,13 +215,43 @@ fn read_cies(alloc: Global, section: FrameSection, bytes: &[u8]) -> Result<Vec<C
     Ok(cies)
 }
 
+// The number of CIEs whose offset is below an offset.
+fn count_cies_below(cies: &[Cie], offset: u64) -> usize
+    requires { AreRising cies.now }
+    ensures bound { result ≤ length cies.now }
+    ensures point { IsPartitionPoint (λ c. nat_lt c.offset offset ≡ true)
+        (λ c. nat_lt c.offset offset ≡ false) cies.now result }
+{
+    cies.partition_point(|cie| (cie.offset as u64) < offset)
+}
+
+// The CIE with an index.
+fn cie_at(cies: &[Cie], index: usize) -> Cie
+    requires { index < length cies.now }
+    ensures { result ≡ slice_index_or cies.now index result }
+{
+    cies[index]
+}
+
+// Whether the CIE with an index is at an offset.
+fn is_cie_at(cies: &[Cie], index: usize, offset: u64) -> bool
+    ensures yes { result ≡ true → (index < length cies.now)
+        × ((d : Cie) → (slice_index_or cies.now index d).offset ≡ offset) }
+    ensures no { result ≡ false → index < length cies.now
+        → (d : Cie) → (slice_index_or cies.now index d).offset ≢ offset }
+{
+    index < cies.len() && cies[index].offset as u64 == offset
+}
+
 // The index of the CIE at an offset.
 fn find_cie(cies: &[Cie], offset: u64) -> Option<usize>
-    ensures { IfSome result (λ i. (i < length cies.now)
+    requires { AreRising cies.now }
+    ensures found { IfSome result (λ i. (i < length cies.now)
         × ((d : Cie) → (slice_index_or cies.now i d).offset ≡ offset)) }
+    ensures none { IfNone result (All (λ c. c.offset ≢ offset) cies.now) }
 {
-    let index = cies.partition_point(|cie| (cie.offset as u64) < offset);
-    if index < cies.len() && cies[index].offset as u64 == offset {
+    let index = count_cies_below(cies, offset);
+    if is_cie_at(cies, index, offset) {
         Some(index)
     } else {
         None
@@ -227,14 +259,36 @@ fn find_cie(cies: &[Cie], offset: u64) -> Option<usize>
 }
 
 // The FDE that an entry is, if it can be used and is not empty.
-fn fde_of(address: u64, cies: &[Cie], entry: &Option<Entry<'_>>) -> Option<Fde>
-    requires { IfSome entry.now (λ e. length e.body.now ≤ e.end) }
-    ensures { IfSome result (λ f. IsFdeIn address cies.now entry.now f) }
+fn fde_of_entry(address: u64, cies: &[Cie], entry: &Entry<'_>) -> Option<Fde>
+    requires body { length entry.now.body.now ≤ entry.now.end }
+    requires rising { AreRising cies.now }
+    ensures found { IfSome result (λ f. IsFde address cies.now entry.now f) }
+    ensures none { IfNone result ((f : Fde) → IsFde address cies.now entry.now f → ⊥) }
 {
-    let Some(entry) = entry else { return None };
-    let index = find_cie(cies, entry.cie_offset?)?;
-    let fde = read_fde(entry, &cies[index], index, address).ok()?;
-    if fde.size == 0 { None } else { Some(fde) }
+    let Some(offset) = entry.cie_offset else {
+        return None
+    };
+    let Some(index) = find_cie(cies, offset) else {
+        return None
+    };
+    let cie = cie_at(cies, index);
+    match read_fde(entry, &cie, index, address) {
+        Ok(fde) => { if fde.size == 0 { None } else { Some(fde) } }
+        Err(_) => None,
+    }
+}
+
+// The FDE that a piece is, if it can be used and is not empty.
+fn fde_of(address: u64, cies: &[Cie], entry: &Option<Entry<'_>>) -> Option<Fde>
+    requires body { IfSome entry.now (λ e. length e.body.now ≤ e.end) }
+    requires rising { AreRising cies.now }
+    ensures found { IfSome result (λ f. IsFdeIn address cies.now entry.now f) }
+    ensures none { IfNone result (NoFdeIn address cies.now entry.now) }
+{
+    match entry {
+        Some(entry) => fde_of_entry(address, cies, entry),
+        None => None,
+    }
 }
 
 // The FDEs of a section that can be used, in the order of the section.
@@ -245,6 +299,7 @@ fn read_fdes(
     bytes: &[u8],
     cies: &[Cie],
 ) -> Result<Vec<Fde>, AllocError>
+    requires { AreRising cies.now }
     ensures all { IfOk result (λ fdes. All (IsFdeOf section address bytes.now cies.now) fdes.items) }
     ensures in_order { IfOk result (λ fdes. FdesOfSection section address bytes.now cies.now fdes.items) }
 {
@@ -369,6 +424,7 @@ fn read_sorted_fdes(
     bytes: &[u8],
     cies: &[Cie],
 ) -> Result<Vec<Fde>, AllocError>
+    requires { AreRising cies.now }
     ensures all { IfOk result (λ fdes. All (IsFdeOf section address bytes.now cies.now) fdes.items) }
     ensures in_order { IfOk result (λ fdes. SortedFdesOf section address bytes.now cies.now fdes.items) }
     ensures sorted { IfOk result (λ fdes. IsNonDecreasingBy (λ f. f.start) fdes.items) }
