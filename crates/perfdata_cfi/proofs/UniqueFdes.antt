@@ -1,5 +1,5 @@
 -- Where an entry is no FDE that can be used.
-use Rattle.std.proofs.Common.{◌≡◌, ℕ, ◌+◌, ◌-◌, ◌%◌, ◌^◌, ◌<◌, ◌≤◌, List, length, get_or, subst, refl, sym, ap, ◌∙◌, arith, Bool, true, false, Option, Some, None, inl, inr}
+use Rattle.std.proofs.Common.{◌≡◌, ℕ, ◌+◌, ◌-◌, ◌%◌, ◌^◌, ◌<◌, ◌≤◌, List, length, get_or, subst, sym, ap, ◌∙◌, arith, Bool, true, false, Option, Some, None, inl, inr}
 use Rattle.std.specs.Prelude.{◌≢◌, All}
 use Rattle.std.proofs.Common.{[], ◌∷◌, ◌++◌, length-append}
 use Rattle.std.proofs.lemmas.List.Elements.{All-push}
@@ -11,10 +11,10 @@ use Rattle.std.specs.List.Sorted.{IsPartitionPoint, IsNonDecreasingBy}
 use Rattle.std.proofs.lemmas.Bool.{cases_lt, true≢false, lt-ltb, ltb-true}
 use Rattle.std.proofs.lemmas.List.{get_or_default, get_or_append_left}
 use Rattle.std.proofs.Common.{ltb}
-use Rattle.perfdata_cfi.specs.Numbers.{BlockAt, NoBlock}
-use Rattle.perfdata_cfi.specs.Pointers.{EncodedAt, PointerAt, NoEncoded, NoPointer}
+use Rattle.perfdata_cfi.specs.Numbers.{NoBlock}
+use Rattle.perfdata_cfi.specs.Pointers.{EncodedAt, PointerAt, NoEncoded}
 use Rattle.perfdata_cfi.specs.Fdes.{DataAt, FdeAt, IsFde, NoData, NoFde}
-use Rattle.perfdata_cfi.specs.Tables.{AreRising, IsCieIn, IsFdeIn, NoFdeIn}
+use Rattle.perfdata_cfi.specs.Tables.{AreRising, IsCieIn}
 use Rattle.perfdata_cfi.specs.declared.entry.Entry.{Entry}
 use Rattle.perfdata_cfi.specs.declared.cie.Cie.{Cie}
 use Rattle.perfdata_cfi.specs.declared.fde.Fde.{Fde}

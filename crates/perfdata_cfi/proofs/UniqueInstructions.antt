@@ -1,8 +1,8 @@
 -- The instruction that some bytes start with is unique.
-use Rattle.std.proofs.Common.{◌≡◌, ℕ, ℤ, ◌+◌, ◌-◌, ◌/◌, ◌%◌, ◌^◌, ◌<◌, ◌≤◌, List, [], ◌∷◌, length, drop, subst, refl, sym, ap, ◌∙◌, inl, inr, arith, Bool, true, false}
+use Rattle.std.proofs.Common.{◌≡◌, ℕ, ℤ, ◌+◌, ◌-◌, ◌/◌, ◌%◌, ◌^◌, ◌<◌, ◌≤◌, List, ◌∷◌, length, drop, subst, refl, sym, ap, ◌∙◌, inl, inr, arith, Bool, true, false}
 use Rattle.std.proofs.lemmas.Bool.{cases_lt, true≢false}
-use Rattle.std.specs.Prelude.{if◌then◌else◌, ◌==◌, get_or, ◌⊎◌, ◌≢◌}
-use Rattle.perfdata_cfi.specs.Numbers.{FixedAt, Uleb128At, Sleb128At, BlockAt, NoUleb128, NoSleb128}
+use Rattle.std.specs.Prelude.{if◌then◌else◌, ◌==◌, get_or, ◌≢◌}
+use Rattle.perfdata_cfi.specs.Numbers.{FixedAt, Uleb128At, Sleb128At, NoUleb128, NoSleb128}
 use Rattle.perfdata_cfi.specs.Pointers.{PointerAt, NoPointer}
 use Rattle.perfdata_cfi.specs.Instructions.{PairAt, SignedPairAt, ExpressionAt, RegisterExpressionAt, OperandsAt, ShortAt, InstructionAt, NoPair, NoSignedPair, NoExpression, NoRegisterExpression, NoOperands, NoInstruction, is_location, is_cfa, is_rule, is_value_rule}
 use Rattle.perfdata_cfi.specs.declared.numbers.Span.{Span}

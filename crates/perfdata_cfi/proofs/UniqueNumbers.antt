@@ -1,9 +1,9 @@
 -- What some bytes start with is unique: numbers, blocks and pointers.
-use Rattle.std.proofs.Common.{◌≡◌, ℕ, ℤ, ◌+◌, ◌-◌, ◌/◌, ◌%◌, ◌^◌, ◌<◌, ◌≤◌, List, [], ◌∷◌, length, take, drop, subst, refl, sym, ap, ◌∙◌, ⊎_elim, arith}
+use Rattle.std.proofs.Common.{◌≡◌, ℕ, ℤ, ◌+◌, ◌-◌, ◌/◌, ◌%◌, ◌^◌, ◌<◌, ◌≤◌, List, length, take, drop, subst, refl, sym, ap, ◌∙◌, ⊎_elim, arith}
 use Rattle.std.proofs.lemmas.Bool.{cases_lt}
 use Rattle.std.specs.Prelude.{if◌then◌else◌, ◌==◌}
-use Rattle.perfdata_cfi.specs.Numbers.{IsLeb128, FixedAt, Uleb128At, Sleb128At, BlockAt, NoBlock, NoUleb128, NoSleb128, fixed_value, uleb128_value, sleb128_value}
-use Rattle.perfdata_cfi.specs.Pointers.{format_code, FormatAt, EncodedAt, PointerAt, SignedAt, Sleb128BitsAt, sign_extended, NoFormat, NoEncoded, NoPointer}
+use Rattle.perfdata_cfi.specs.Numbers.{IsLeb128, FixedAt, Uleb128At, Sleb128At, BlockAt, NoBlock, NoSleb128, uleb128_value, sleb128_value}
+use Rattle.perfdata_cfi.specs.Pointers.{format_code, FormatAt, EncodedAt, PointerAt, sign_extended, NoFormat, NoEncoded}
 use Rattle.perfdata_cfi.specs.declared.pointers.Format.{Format}
 use Rattle.perfdata_cfi.specs.declared.pointers.Format.TheVariants as formats
 

@@ -1,9 +1,9 @@
 -- Where there is no row.
-use Rattle.std.proofs.Common.{◌≡◌, ℕ, ◌-◌, ◌^◌, ◌<◌, ◌≤◌, List, [], length, get_or, subst, refl, sym, ap, ◌∙◌, arith, Option, Some, None}
+use Rattle.std.proofs.Common.{◌≡◌, ℕ, ◌-◌, ◌^◌, ◌<◌, ◌≤◌, [], length, get_or, subst, sym, ap, ◌∙◌, arith, Some, None}
 use Rattle.std.proofs.Math.Logic.{∥∥₁_elim}
 use Rattle.std.proofs.lemmas.List.{get_or_default}
 use Rattle.perfdata_cfi.specs.Rows.{Moment, IsMoment, Runs, NoRun, empty_row}
-use Rattle.perfdata_cfi.specs.TableRows.{RowIn, IsRowIn, NoRowIn, IsProgram, encoding_in, program_in}
+use Rattle.perfdata_cfi.specs.TableRows.{RowIn, NoRowIn, IsProgram, encoding_in, program_in}
 use Rattle.perfdata_cfi.specs.declared.cie.Cie.{Cie}
 use Rattle.perfdata_cfi.specs.declared.fde.Fde.{Fde}
 use Rattle.perfdata_cfi.specs.declared.table.EntryTable.{EntryTable}

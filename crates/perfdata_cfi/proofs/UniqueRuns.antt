@@ -1,7 +1,7 @@
 -- What instructions lead to is unique.
-use Rattle.std.proofs.Common.{◌≡◌, ℕ, ℤ, ◌+◌, ◌*◌, ◌%◌, ◌^◌, ◌<◌, ◌≤◌, List, [], ◌∷◌, ◌++◌, ◌⊎◌, length, drop, subst, refl, sym, ap, ◌∙◌, inl, inr, arith, Option, Some, None}
+use Rattle.std.proofs.Common.{◌≡◌, ℕ, ℤ, ◌<◌, ◌≤◌, List, [], ◌∷◌, ◌++◌, ◌⊎◌, length, subst, refl, sym, ap, ◌∙◌, inl, inr, arith, Option, Some, None}
 use Rattle.perfdata_cfi.specs.Instructions.{InstructionAt, NoInstruction}
-use Rattle.perfdata_cfi.specs.Rows.{Moment, IsMoment, Moves, Rewrites, CfaRegister, CfaOffset, DefinesCfa, rule_of, SetsRule, StepsInFde, StepsAfter, Steps, RunsTo, Runs, NoStep, NoRun, with_cfa, with_rule}
+use Rattle.perfdata_cfi.specs.Rows.{Moment, IsMoment, Rewrites, CfaRegister, CfaOffset, DefinesCfa, rule_of, SetsRule, StepsInFde, StepsAfter, Steps, RunsTo, Runs, NoStep, NoRun, with_cfa, with_rule}
 use Rattle.perfdata_cfi.specs.declared.instruction.Encoding.{Encoding}
 use Rattle.perfdata_cfi.specs.declared.instruction.Instruction.{Instruction}
 use Rattle.perfdata_cfi.specs.declared.instruction.Instruction.TheVariants as instructions

@@ -1,4 +1,3 @@
-use Rattle.std.proofs.Common.{◌≡◌, ◌/◌, arith}
 use Rattle.perfdata_cfi.proofs.ErrorLemmas.{on_any_error}
 use Rattle.perfdata_cfi.proofs.UniqueInstructions.{no_offset}
 use Rattle.perfdata_cfi.proofs.instruction.read_instruction.Goals as goal

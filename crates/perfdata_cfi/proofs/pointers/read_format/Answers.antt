@@ -1,7 +1,4 @@
-use Rattle.std.proofs.Common.{sym, subst}
 use Rattle.std.proofs.lemmas.Result.{on_err_weaker}
-use Rattle.perfdata_cfi.specs.Pointers.{NoFormat}
-use Rattle.perfdata_cfi.specs.declared.pointers.Format.{Format}
 use Rattle.perfdata_cfi.proofs.UniqueNumbers.{no_signed_leb128}
 use Rattle.perfdata_cfi.proofs.pointers.read_format.Goals as goal
 

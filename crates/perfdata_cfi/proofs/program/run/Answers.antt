@@ -1,4 +1,4 @@
-use Rattle.std.proofs.Common.{◌≡◌, ◌<◌, ◌∷◌, ◌++◌, length, arith}
+use Rattle.std.proofs.Common.{◌∷◌, arith}
 use Rattle.std.proofs.lemmas.Result.{err_from_is_err_and}
 use Rattle.perfdata_cfi.specs.Rows.{moment_of}
 use Rattle.perfdata_cfi.proofs.ErrorLemmas.{if_any_error}

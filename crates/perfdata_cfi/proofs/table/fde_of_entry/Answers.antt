@@ -1,4 +1,4 @@
-use Rattle.std.proofs.Common.{◌≡◌, ◌∙◌, ap, arith}
+use Rattle.std.proofs.Common.{◌∙◌, ap, arith}
 use Rattle.perfdata_cfi.specs.declared.cie.Cie.{Cie}
 use Rattle.perfdata_cfi.proofs.UniqueFdes.{no_fde_at, size_same}
 use Rattle.perfdata_cfi.proofs.table.fde_of_entry.Goals as goal
