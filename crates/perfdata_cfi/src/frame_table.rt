@@ -1,5 +1,6 @@
 //! The call frame information of a section, with rows that are kept.
-ghost use Rattle.std.specs.Prelude.{◌≡◌, ◌≢◌, ◌≤◌, ◌<◌, length, slice_range, IfOk, IfErr, IfSome, IfNone, All};
+ghost use Rattle.std.specs.Prelude.{◌≡◌, ◌≢◌, ◌≤◌, ◌<◌, length};
+ghost use Rattle.std.specs.Prelude.{slice_range, IfOk, IfErr, IfSome, IfNone, All};
 ghost use Rattle.std.specs.Prelude.{Some, None};
 ghost use Rattle.perfdata_cfi.specs.declared.error.CfiError.TheVariants as errors;
 ghost use Rattle.perfdata_cfi.specs.Tables.{IsCieOf, IsFdeOf, IsFdeAt, SortedFdesOf};

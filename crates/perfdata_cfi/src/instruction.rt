@@ -3,7 +3,8 @@ ghost use Rattle.std.specs.Prelude.{◌≡◌, ◌≤◌, ◌<◌, length, true,
 ghost use Rattle.perfdata_cfi.specs.Instructions.{PairAt, SignedPairAt, ExpressionAt, RegisterExpressionAt};
 ghost use Rattle.perfdata_cfi.specs.Instructions.{OperandsAt, InstructionAt};
 ghost use Rattle.perfdata_cfi.specs.Instructions.{NoPair, NoSignedPair, NoExpression, NoRegisterExpression};
-ghost use Rattle.perfdata_cfi.specs.Instructions.{NoOperands, NoInstruction, is_location, is_cfa, is_rule, is_value_rule};
+ghost use Rattle.perfdata_cfi.specs.Instructions.{NoOperands, NoInstruction, is_location};
+ghost use Rattle.perfdata_cfi.specs.Instructions.{is_cfa, is_rule, is_value_rule};
 
 use crate::error::CfiError;
 use crate::numbers::{Span, read_block, read_byte, read_fixed, read_sleb128, read_uleb128};

@@ -1,5 +1,6 @@
 //! Programs of call frame instructions: what each instruction does to a row, and the row at an address.
-ghost use Rattle.std.specs.Prelude.{◌≡◌, ◌≢◌, ◌≤◌, ◌<◌, ◌++◌, ◌∷◌, [], None, length, IfOk, IfErr, OnOk, OnErr};
+ghost use Rattle.std.specs.Prelude.{◌≡◌, ◌≢◌, ◌≤◌, ◌<◌, ◌++◌, ◌∷◌};
+ghost use Rattle.std.specs.Prelude.{[], None, length, IfOk, IfErr, OnOk, OnErr};
 ghost use Rattle.perfdata_cfi.specs.Rows.{moment_of, factored, signed_factored, DefinesCfa};
 ghost use Rattle.perfdata_cfi.specs.Rows.{rule_of as rule_set, Rewrites, SetsRule, with_cfa, Runs, Steps};
 ghost use Rattle.perfdata_cfi.specs.Rows.{Moment, StepsInFde, NoStep, NoRun};
