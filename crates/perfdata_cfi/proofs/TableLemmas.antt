@@ -4,7 +4,7 @@ use Rattle.std.specs.List.Sorted.{IsPartitionPoint, IsNonDecreasingBy}
 use Rattle.std.proofs.lemmas.Bool.{cases_lt, leb-true, ltb-true, le-leb, lt-ltb, true≢false}
 use Rattle.std.proofs.lemmas.List.{get_or_default}
 use Rattle.perfdata_cfi.specs.Entries.{PieceAt}
-use Rattle.perfdata_cfi.specs.Tables.{Pieces, Reaches, IsNearest, IsCieIn, IsCieOf, IsFdeIn, IsFdeOf, FdesOf}
+use Rattle.perfdata_cfi.specs.Tables.{Pieces, Reaches, IsNearest, IsCieIn, IsCieOf, IsFdeIn, IsFdeOf, FdesOf, NoFdeIn}
 use Rattle.perfdata_cfi.specs.declared.entry.FrameSection.{FrameSection}
 use Rattle.perfdata_cfi.specs.declared.entry.Entry.{Entry}
 use Rattle.perfdata_cfi.specs.declared.cie.Cie.{Cie}
@@ -27,14 +27,14 @@ fde_of_piece section address bytes at rest cies (Some e) f reached piece h =
 pub reaches_more : (section : FrameSection) (bytes at rest : List ℕ) (p : Option Entry) → Reaches section bytes at → PieceAt section (length bytes) at p rest → Reaches section bytes rest
 reaches_more section bytes at rest p reached piece = (reached.0 ++ p ∷ [], pieces_push section (length bytes) bytes at rest reached.0 p reached.1 piece)
 
-pub fdes_skip : (address : ℕ) (cies : List Cie) (ps : List (Option Entry)) (p : Option Entry) (fs : List Fde) → FdesOf address cies ps fs → FdesOf address cies (ps ++ p ∷ []) fs
-fdes_skip address cies [] p fs h = inl h
-fdes_skip address cies (q ∷ ps) p fs (inl h) = inl (fdes_skip address cies ps p fs h)
-fdes_skip address cies (q ∷ ps) p fs (inr t) = inr (t.0, t.1, t.2, t.3, fdes_skip address cies ps p t.1 t.4)
+pub fdes_skip : (address : ℕ) (cies : List Cie) (ps : List (Option Entry)) (p : Option Entry) (fs : List Fde) → FdesOf address cies ps fs → NoFdeIn address cies p → FdesOf address cies (ps ++ p ∷ []) fs
+fdes_skip address cies [] p fs h none = inl (none, h)
+fdes_skip address cies (q ∷ ps) p fs (inl h) none = inl (h.0, fdes_skip address cies ps p fs h.1 none)
+fdes_skip address cies (q ∷ ps) p fs (inr t) none = inr (t.0, t.1, t.2, t.3, fdes_skip address cies ps p t.1 t.4 none)
 
 pub fdes_push : (address : ℕ) (cies : List Cie) (ps : List (Option Entry)) (p : Option Entry) (fs : List Fde) (f : Fde) → FdesOf address cies ps fs → IsFdeIn address cies p f → FdesOf address cies (ps ++ p ∷ []) (fs ++ f ∷ [])
 fdes_push address cies [] p fs f h is = inr (f, [], ap (λ (gs : List Fde). gs ++ f ∷ []) h, is, refl)
-fdes_push address cies (q ∷ ps) p fs f (inl h) is = inl (fdes_push address cies ps p fs f h is)
+fdes_push address cies (q ∷ ps) p fs f (inl h) is = inl (h.0, fdes_push address cies ps p fs f h.1 is)
 fdes_push address cies (q ∷ ps) p fs f (inr t) is = inr (t.0, t.1 ++ f ∷ [], ap (λ (gs : List Fde). gs ++ f ∷ []) t.2, t.3, fdes_push address cies ps p t.1 f t.4 is)
 
 -- an element that fails the first test and one that passes it

@@ -1,6 +1,6 @@
 -- What a table has, and the row at an address.
 use Rattle.std.specs.Prelude.{ℕ, List}
-use Rattle.perfdata_cfi.specs.TableRows.{IsRowIn}
+use Rattle.perfdata_cfi.specs.TableRows.{IsRowIn, NoRowIn}
 use Rattle.perfdata_cfi.specs.declared.cie.Cie.{Cie}
 use Rattle.perfdata_cfi.specs.declared.fde.Fde.{Fde}
 use Rattle.perfdata_cfi.specs.declared.frame_table.FrameTable.{FrameTable}
@@ -24,3 +24,7 @@ bytes_of t = t.table.bytes.items
 -- the row at an address that the FDE at the index describes
 abbrev pub IsRowAt : FrameTable → ℕ → ℕ → FoundRow → Type 0
 IsRowAt t index address found = IsRowIn t.table index address found
+
+-- there is no such row
+abbrev pub NoRowAt : FrameTable → ℕ → ℕ → Type 0
+NoRowAt t index address = NoRowIn t.table index address

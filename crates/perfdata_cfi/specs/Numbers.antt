@@ -33,29 +33,31 @@ pub record IsLeb128 (size : ℕ) (bytes : List ℕ) : Type 0 where
   pub continues : (k : ℕ) → k + 1 < size → 128 ≤ slice_index bytes k
   pub ends : slice_index bytes (size - 1) < 128
 
--- the bytes start with an unsigned LEB128 number
+-- the bytes start with an unsigned LEB128 number, which fits 64 bits
 pub record Uleb128At (bytes : List ℕ) (n : ℕ) (rest : List ℕ) : Type 0 where
   pub size : ℕ
   pub encoded : IsLeb128 size bytes
+  pub fits : n < 2 ^ 64
   pub value : n ≡ uleb128_value (take size bytes)
   pub after : rest ≡ drop size bytes
 
--- the bytes start with a signed LEB128 number
+-- the bytes start with a signed LEB128 number, which fits 64 bits
 pub record Sleb128At (bytes : List ℕ) (n : ℤ) (rest : List ℕ) : Type 0 where
   pub size : ℕ
   pub encoded : IsLeb128 size bytes
+  pub fits : FitsSigned w64 n
   pub value : n ≡ sleb128_value (take size bytes)
   pub after : rest ≡ drop size bytes
 
--- the bytes start with no LEB128 number, or with none that fits 64 bits
+-- the bytes start with no LEB128 number: they end in it, it has more than 10 bytes, or it doesn't fit 64 bits
 abbrev pub NoLeb128 : List ℕ → Type 0
 NoLeb128 bytes = (size : ℕ) → IsLeb128 size bytes → ⊥
 
 abbrev pub NoUleb128 : List ℕ → Type 0
-NoUleb128 bytes = (n : ℕ) (rest : List ℕ) → Uleb128At bytes n rest → n < 2 ^ 64 → ⊥
+NoUleb128 bytes = (n : ℕ) (rest : List ℕ) → Uleb128At bytes n rest → ⊥
 
 abbrev pub NoSleb128 : List ℕ → Type 0
-NoSleb128 bytes = (n : ℤ) (rest : List ℕ) → Sleb128At bytes n rest → FitsSigned w64 n → ⊥
+NoSleb128 bytes = (n : ℤ) (rest : List ℕ) → Sleb128At bytes n rest → ⊥
 
 -- the bytes start with an unsigned LEB128 number and a block of that number of bytes
 pub record BlockAt (bytes block rest : List ℕ) : Type 0 where
@@ -65,3 +67,7 @@ pub record BlockAt (bytes block rest : List ℕ) : Type 0 where
   pub within : size ≤ length mid
   pub block_is : block ≡ take size mid
   pub after : rest ≡ drop size mid
+
+-- the bytes start with no block: they start with no number, or with one of more bytes than follow
+abbrev pub NoBlock : List ℕ → Type 0
+NoBlock bytes = (block rest : List ℕ) → BlockAt bytes block rest → ⊥

@@ -129,3 +129,10 @@ RunsTo e f initial address bytes m (i ∷ is) n =
 
 abbrev pub Runs : Encoding → Cie → Option Row → ℕ → List ℕ → Moment → Moment → Type 0
 Runs e f initial address bytes m n = (is : List Instruction) × RunsTo e f initial address bytes m is n
+
+-- there is nothing that the instruction does, and there are no such instructions
+abbrev pub NoStep : Cie → Option Row → Instruction → Moment → Type 0
+NoStep f initial i m = (n : Moment) → Steps f initial i m n → ⊥
+
+abbrev pub NoRun : Encoding → Cie → Option Row → ℕ → List ℕ → Moment → Type 0
+NoRun e f initial address bytes m = (n : Moment) → Runs e f initial address bytes m n → ⊥

@@ -1,5 +1,5 @@
 -- The row at an address.
-use Rattle.std.specs.Prelude.{◌≡◌, ℕ, ◌-◌, ◌^◌, ◌<◌, List, [], length, Option, Some, None, slice_index_or, slice_range}
+use Rattle.std.specs.Prelude.{◌≡◌, ℕ, ◌-◌, ◌^◌, ◌<◌, ◌≤◌, List, [], length, Option, Some, None, slice_index_or, slice_range}
 use Rattle.perfdata_cfi.specs.Rows.{Moment, IsMoment, Runs, empty_row}
 use Rattle.std.specs.Option.{ForSome}
 use Rattle.perfdata_cfi.specs.declared.numbers.Span.{Span}
@@ -17,6 +17,14 @@ program_in t span = slice_range t.bytes.items span.start span.end
 abbrev pub encoding_in : EntryTable → Cie → Span → Encoding
 encoding_in t c span = record { machine = t.machine; pointers = c.augmentation.pointer_encoding; address = t.address; end = span.end }
 
+-- the bytes at a span are within the section
+abbrev pub IsWithin : List ℕ → Span → Type 0
+IsWithin bytes span = (span.start ≤ span.end) × (span.end ≤ length bytes)
+
+-- the instructions are within the section and have at most 65,536 bytes
+abbrev pub IsProgram : EntryTable → Span → Type 0
+IsProgram t span = IsWithin t.bytes.items span × (length (program_in t span) ≤ 65536)
+
 -- the row at an address that the FDE at the index describes: the CIE's instructions run first, then the FDE's from its first
 -- address on
 pub record RowIn (t : EntryTable) (index address : ℕ) (found : FoundRow) : Type 0 where
@@ -30,8 +38,10 @@ pub record RowIn (t : EntryTable) (index address : ℕ) (found : FoundRow) : Typ
   pub fde_is : fde ≡ slice_index_or t.fdes.items index fde
   pub cie_within : fde.cie < length t.cies.items
   pub cie_is : cie ≡ slice_index_or t.cies.items fde.cie cie
+  pub cie_program : IsProgram t cie.instructions
   pub first_is : IsMoment first 0 empty_row []
   pub cie_runs : Runs (encoding_in t cie cie.instructions) cie None (2 ^ 64 - 1) (program_in t cie.instructions) first middle
+  pub fde_program : IsProgram t fde.instructions
   pub second_is : IsMoment second fde.start middle.row middle.remembered
   pub fde_runs : Runs (encoding_in t cie fde.instructions) cie (Some middle.row) address (program_in t fde.instructions) second last
   pub row_is : found.row ≡ last.row
@@ -41,6 +51,10 @@ pub record RowIn (t : EntryTable) (index address : ℕ) (found : FoundRow) : Typ
 -- there is such a row
 abbrev pub IsRowIn : EntryTable → ℕ → ℕ → FoundRow → Type 0
 IsRowIn t index address found = ∥ RowIn t index address found ∥₁
+
+-- there is none: no FDE has the index, it has no CIE, or the instructions of one of them can't be carried out up to the address
+abbrev pub NoRowIn : EntryTable → ℕ → ℕ → Type 0
+NoRowIn t index address = (found : FoundRow) → IsRowIn t index address found → ⊥
 
 -- a row that is kept is one that its FDE describes
 abbrev pub IsKept : EntryTable → Option KeptRow → Type 0

@@ -42,16 +42,24 @@ abbrev pub IsFdeIn : ℕ → List Cie → Option Entry → Fde → Type 0
 IsFdeIn address cies None f = ⊥
 IsFdeIn address cies (Some e) f = IsFde address cies e f
 
+-- a piece is no FDE that can be used with a CIE of these
+abbrev pub NoFdeIn : ℕ → List Cie → Option Entry → Type 0
+NoFdeIn address cies p = (f : Fde) → IsFdeIn address cies p f → ⊥
+
+-- the offset of each CIE is below those of the later ones
+abbrev pub AreRising : List Cie → Type 0
+AreRising cies = (i j : ℕ) (d : Cie) → i < j → j < length cies → (slice_index_or cies i d).offset < (slice_index_or cies j d).offset
+
 -- an FDE of the section that can be used, with a CIE of these
 pub record IsFdeOf (section : FrameSection) (address : ℕ) (bytes : List ℕ) (cies : List Cie) (f : Fde) : Type 0 where
   pub entry : Entry
   pub is_entry : IsEntryOf section bytes entry
   pub is_fde : IsFde address cies entry f
 
--- the FDEs of pieces, in their order: some of the pieces are left out
+-- the FDEs of pieces, in their order: the pieces that are left out are no FDEs that can be used
 abbrev pub FdesOf : ℕ → List Cie → List (Option Entry) → List Fde → Type 0
 FdesOf address cies [] fdes = fdes ≡ []
-FdesOf address cies (p ∷ ps) fdes = FdesOf address cies ps fdes ⊎ ((f : Fde) × (fs : List Fde) × (fdes ≡ f ∷ fs) × IsFdeIn address cies p f × FdesOf address cies ps fs)
+FdesOf address cies (p ∷ ps) fdes = (NoFdeIn address cies p × FdesOf address cies ps fdes) ⊎ ((f : Fde) × (fs : List Fde) × (fdes ≡ f ∷ fs) × IsFdeIn address cies p f × FdesOf address cies ps fs)
 
 -- the FDEs of a section, in its order: those of all its pieces, after which the section ends or there is no piece
 pub record FdesOfSection (section : FrameSection) (address : ℕ) (bytes : List ℕ) (cies : List Cie) (fdes : List Fde) : Type 0 where

@@ -1,6 +1,6 @@
 //! Frame description entries (FDE): the call frame information of a range of addresses.
-ghost use Rattle.std.specs.Prelude.{◌≡◌, ◌≤◌, ◌<◌, length, IfOk};
-ghost use Rattle.perfdata_cfi.specs.Fdes.{DataAt, FdeAt};
+ghost use Rattle.std.specs.Prelude.{◌≡◌, ◌≤◌, ◌<◌, length, IfOk, OnErr};
+ghost use Rattle.perfdata_cfi.specs.Fdes.{DataAt, FdeAt, NoData, NoFde};
 
 use crate::cie::Cie;
 use crate::entry::Entry;
@@ -24,6 +24,7 @@ pub struct Fde {
 // Skips the augmentation data, if there are any.
 fn skip_data(has_data: bool, bytes: &[u8]) -> Result<&[u8], CfiError>
     ensures found { IfOk result (λ rest. DataAt has_data bytes.now rest.now) }
+    ensures none { OnErr result (NoData has_data bytes.now) }
     ensures shorter { IfOk result (λ rest. length rest.now ≤ length bytes.now) }
 {
     if !has_data {
@@ -43,6 +44,7 @@ pub(crate) fn read_fde(
 ) -> Result<Fde, CfiError>
     requires { length entry.now.body.now ≤ entry.now.end }
     ensures found { IfOk result (λ f. FdeAt address entry.now cie.now f) }
+    ensures none { OnErr result (NoFde address entry.now cie.now) }
     ensures cie { IfOk result (λ f. f.cie ≡ index) }
 {
     let encoding = cie.augmentation.pointer_encoding;

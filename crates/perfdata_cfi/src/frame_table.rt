@@ -1,7 +1,10 @@
 //! The call frame information of a section, with rows that are kept.
-ghost use Rattle.std.specs.Prelude.{◌≡◌, ◌≤◌, ◌<◌, length, slice_range, IfOk, IfSome, All, Some, None};
+ghost use Rattle.std.specs.Prelude.{◌≡◌, ◌≢◌, ◌≤◌, ◌<◌, length};
+ghost use Rattle.std.specs.Prelude.{slice_range, IfOk, IfErr, IfSome, IfNone, All};
+ghost use Rattle.std.specs.Prelude.{Some, None};
+ghost use Rattle.perfdata_cfi.specs.declared.error.CfiError.TheVariants as errors;
 ghost use Rattle.perfdata_cfi.specs.Tables.{IsCieOf, IsFdeOf, IsFdeAt, SortedFdesOf};
-ghost use Rattle.perfdata_cfi.specs.TableRows.{IsKept};
+ghost use Rattle.perfdata_cfi.specs.TableRows.{IsKept, IsWithin};
 
 use crate::cie::Cie;
 use crate::entry::FrameSection;
@@ -42,7 +45,7 @@ fn slot_of(address: u64) -> usize
 }
 
 impl FrameTable {
-    ghost use Rattle.perfdata_cfi.specs.FrameTables.{fdes_of, cies_of, bytes_of, table_of, IsRowAt};
+    ghost use Rattle.perfdata_cfi.specs.FrameTables.{fdes_of, cies_of, bytes_of, table_of, IsRowAt, NoRowAt};
 
     /// Reads the entries of a section, whose first byte is at an address.
     ///
@@ -98,6 +101,8 @@ impl FrameTable {
         ensures bytes { IfSome result (λ bytes. bytes.now
             ≡ slice_range (bytes_of self.now) span.start span.end) }
         ensures len { IfSome result (λ bytes. length bytes.now ≤ span.end) }
+        ensures within { IfSome result (λ _. IsWithin (bytes_of self.now) span) }
+        ensures none { IfNone result (IsWithin (bytes_of self.now) span → ⊥) }
     {
         self.table.bytes_at(span)
     }
@@ -122,7 +127,8 @@ impl FrameTable {
     /// Returns the error of the first instruction that can't be read or carried out, and `Memory` if an
     /// allocation fails, which only instructions that remember a row make.
     pub fn row(&self, alloc: Global, index: usize, address: u64) -> Result<FoundRow, CfiError>
-        ensures { IfOk result (λ found. IsRowAt self.now index address found) }
+        ensures found { IfOk result (λ found. IsRowAt self.now index address found) }
+        ensures none { IfErr result (λ e. e ≢ errors.Memory → NoRowAt self.now index address) }
     {
         match self.kept_row(index, address) {
             Some(row) => Ok(*row),

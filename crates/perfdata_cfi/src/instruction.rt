@@ -1,7 +1,10 @@
 //! Call frame instructions, as they are in the bytes of a program.
-ghost use Rattle.std.specs.Prelude.{◌≡◌, ◌≤◌, ◌<◌, length, IfOk};
+ghost use Rattle.std.specs.Prelude.{◌≡◌, ◌≤◌, ◌<◌, length, true, false, IfOk, OnErr};
 ghost use Rattle.perfdata_cfi.specs.Instructions.{PairAt, SignedPairAt, ExpressionAt, RegisterExpressionAt};
 ghost use Rattle.perfdata_cfi.specs.Instructions.{OperandsAt, InstructionAt};
+ghost use Rattle.perfdata_cfi.specs.Instructions.{NoPair, NoSignedPair, NoExpression, NoRegisterExpression};
+ghost use Rattle.perfdata_cfi.specs.Instructions.{NoOperands, NoInstruction, is_location};
+ghost use Rattle.perfdata_cfi.specs.Instructions.{is_cfa, is_rule, is_value_rule};
 
 use crate::error::CfiError;
 use crate::numbers::{Span, read_block, read_byte, read_fixed, read_sleb128, read_uleb128};
@@ -81,6 +84,7 @@ pub(crate) struct Encoding {
 // Reads two unsigned numbers, and returns them with the rest.
 fn read_pair(bytes: &[u8]) -> Result<(u64, u64, &[u8]), CfiError>
     ensures found { IfOk result (λ x. PairAt bytes.now x.0 x.1 x.2.now) }
+    ensures none { OnErr result (NoPair bytes.now) }
     ensures shorter { IfOk result (λ x. length x.2.now ≤ length bytes.now) }
 {
     let (first, rest) = read_uleb128(bytes)?;
@@ -91,6 +95,7 @@ fn read_pair(bytes: &[u8]) -> Result<(u64, u64, &[u8]), CfiError>
 // Reads an unsigned and a signed number, and returns them with the rest.
 fn read_signed_pair(bytes: &[u8]) -> Result<(u64, i64, &[u8]), CfiError>
     ensures found { IfOk result (λ x. SignedPairAt bytes.now x.0 x.1 x.2.now) }
+    ensures none { OnErr result (NoSignedPair bytes.now) }
     ensures shorter { IfOk result (λ x. length x.2.now ≤ length bytes.now) }
 {
     let (first, rest) = read_uleb128(bytes)?;
@@ -102,6 +107,7 @@ fn read_signed_pair(bytes: &[u8]) -> Result<(u64, i64, &[u8]), CfiError>
 fn read_expression(bytes: &[u8], end: usize) -> Result<(Span, &[u8]), CfiError>
     requires { length bytes.now ≤ end }
     ensures found { IfOk result (λ x. ExpressionAt end bytes.now x.0 x.1.now) }
+    ensures none { OnErr result (NoExpression end bytes.now) }
     ensures shorter { IfOk result (λ x. length x.1.now ≤ length bytes.now) }
 {
     let (block, rest) = read_block(bytes)?;
@@ -117,6 +123,7 @@ fn read_expression(bytes: &[u8], end: usize) -> Result<(Span, &[u8]), CfiError>
 fn read_register_expression(bytes: &[u8], end: usize) -> Result<(u64, Span, &[u8]), CfiError>
     requires { length bytes.now ≤ end }
     ensures found { IfOk result (λ x. RegisterExpressionAt end bytes.now x.0 x.1 x.2.now) }
+    ensures none { OnErr result (NoRegisterExpression end bytes.now) }
     ensures shorter { IfOk result (λ x. length x.2.now ≤ length bytes.now) }
 {
     let (register, rest) = read_uleb128(bytes)?;
@@ -132,6 +139,7 @@ fn read_location<'a>(
 ) -> Result<(Instruction, &'a [u8]), CfiError>
     requires { length bytes.now ≤ encoding.now.end }
     ensures found { IfOk result (λ x. OperandsAt encoding.now opcode bytes.now x.0 x.1.now) }
+    ensures none { OnErr result (is_location opcode ≡ true → NoOperands encoding.now opcode bytes.now) }
     ensures shorter { IfOk result (λ x. length x.1.now ≤ length bytes.now) }
 {
     match opcode {
@@ -165,6 +173,7 @@ fn read_cfa<'a>(
 ) -> Result<(Instruction, &'a [u8]), CfiError>
     requires { length bytes.now ≤ encoding.now.end }
     ensures found { IfOk result (λ x. OperandsAt encoding.now opcode bytes.now x.0 x.1.now) }
+    ensures none { OnErr result (is_cfa opcode ≡ true → NoOperands encoding.now opcode bytes.now) }
     ensures shorter { IfOk result (λ x. length x.1.now ≤ length bytes.now) }
 {
     match opcode {
@@ -196,7 +205,7 @@ fn read_cfa<'a>(
     }
 }
 
-// Reads the operands of an instruction that sets the rule of a register.
+// Reads the operands of an instruction that says where the value of a register is.
 fn read_rule<'a>(
     opcode: u8,
     bytes: &'a [u8],
@@ -204,6 +213,7 @@ fn read_rule<'a>(
 ) -> Result<(Instruction, &'a [u8]), CfiError>
     requires { length bytes.now ≤ encoding.now.end }
     ensures found { IfOk result (λ x. OperandsAt encoding.now opcode bytes.now x.0 x.1.now) }
+    ensures none { OnErr result (is_rule opcode ≡ true → NoOperands encoding.now opcode bytes.now) }
     ensures shorter { IfOk result (λ x. length x.1.now ≤ length bytes.now) }
 {
     match opcode {
@@ -231,6 +241,26 @@ fn read_rule<'a>(
             let (register, offset, rest) = read_signed_pair(bytes)?;
             Ok((Instruction::OffsetSigned(register, offset), rest))
         }
+        0x2f => {
+            let (register, offset, rest) = read_pair(bytes)?;
+            Ok((Instruction::OffsetNegative(register, offset), rest))
+        }
+        _ => Err(CfiError::Opcode(opcode)),
+    }
+}
+
+// Reads the operands of an instruction that says how the value of a register is computed.
+fn read_value_rule<'a>(
+    opcode: u8,
+    bytes: &'a [u8],
+    encoding: &Encoding,
+) -> Result<(Instruction, &'a [u8]), CfiError>
+    requires { length bytes.now ≤ encoding.now.end }
+    ensures found { IfOk result (λ x. OperandsAt encoding.now opcode bytes.now x.0 x.1.now) }
+    ensures none { OnErr result (is_value_rule opcode ≡ true → NoOperands encoding.now opcode bytes.now) }
+    ensures shorter { IfOk result (λ x. length x.1.now ≤ length bytes.now) }
+{
+    match opcode {
         0x14 => {
             let (register, offset, rest) = read_pair(bytes)?;
             Ok((Instruction::ValueOffset(register, offset), rest))
@@ -243,10 +273,6 @@ fn read_rule<'a>(
             let (register, expression, rest) = read_register_expression(bytes, encoding.end)?;
             Ok((Instruction::ValueExpression(register, expression), rest))
         }
-        0x2f => {
-            let (register, offset, rest) = read_pair(bytes)?;
-            Ok((Instruction::OffsetNegative(register, offset), rest))
-        }
         _ => Err(CfiError::Opcode(opcode)),
     }
 }
@@ -258,6 +284,8 @@ fn read_other<'a>(
     encoding: &Encoding,
 ) -> Result<(Instruction, &'a [u8]), CfiError>
     ensures found { IfOk result (λ x. OperandsAt encoding.now opcode bytes.now x.0 x.1.now) }
+    ensures none { OnErr result (is_location opcode ≡ false → is_cfa opcode ≡ false → is_rule opcode ≡ false
+        → is_value_rule opcode ≡ false → NoOperands encoding.now opcode bytes.now) }
     ensures shorter { IfOk result (λ x. length x.1.now ≤ length bytes.now) }
 {
     match opcode {
@@ -288,14 +316,14 @@ fn read_operands<'a>(
 ) -> Result<(Instruction, &'a [u8]), CfiError>
     requires { length bytes.now ≤ encoding.now.end }
     ensures found { IfOk result (λ x. OperandsAt encoding.now opcode bytes.now x.0 x.1.now) }
+    ensures none { OnErr result (NoOperands encoding.now opcode bytes.now) }
     ensures shorter { IfOk result (λ x. length x.1.now ≤ length bytes.now) }
 {
     match opcode {
         0x01..=0x04 => read_location(opcode, bytes, encoding),
         0x0c..=0x0f | 0x12 | 0x13 => read_cfa(opcode, bytes, encoding),
-        0x05 | 0x07..=0x09 | 0x10 | 0x11 | 0x14..=0x16 | 0x2f => {
-            read_rule(opcode, bytes, encoding)
-        }
+        0x05 | 0x07..=0x09 | 0x10 | 0x11 | 0x2f => read_rule(opcode, bytes, encoding),
+        0x14..=0x16 => read_value_rule(opcode, bytes, encoding),
         _ => read_other(opcode, bytes, encoding),
     }
 }
@@ -307,6 +335,7 @@ pub(crate) fn read_instruction<'a>(
 ) -> Result<(Instruction, &'a [u8]), CfiError>
     requires { length bytes.now ≤ encoding.now.end }
     ensures found { IfOk result (λ x. InstructionAt encoding.now bytes.now x.0 x.1.now) }
+    ensures none { OnErr result (NoInstruction encoding.now bytes.now) }
     ensures shorter { IfOk result (λ x. length x.1.now < length bytes.now) }
 {
     let (opcode, rest) = read_byte(bytes)?;

@@ -1,9 +1,9 @@
 //! Numbers of fixed size and LEB128 numbers, at the start of some bytes.
-ghost use Rattle.std.specs.Prelude.{◌≡◌, ◌≤◌, ◌<◌, ◌+◌, ◌*◌, ◌%◌, ◌^◌, ◌∷◌, length, drop};
+ghost use Rattle.std.specs.Prelude.{◌≡◌, ◌≤◌, ◌<◌, ◌+◌, ◌*◌, ◌%◌, ◌^◌, [], ◌∷◌, length, drop};
 ghost use Rattle.std.specs.Prelude.{pos, ◌+ℤ◌, ◌*ℤ◌, IfOk, IfSome, OnErr, IfNone, SomeIff, FitsSigned};
 ghost use Rattle.std.specs.Int.{w64};
 ghost use Rattle.perfdata_cfi.specs.Numbers.{fixed_value, FixedAt, IsLeb128, Uleb128At, Sleb128At, BlockAt};
-ghost use Rattle.perfdata_cfi.specs.Numbers.{NoLeb128, NoUleb128, NoSleb128};
+ghost use Rattle.perfdata_cfi.specs.Numbers.{NoLeb128, NoUleb128, NoSleb128, NoBlock};
 ghost use Rattle.perfdata_cfi.specs.Numbers.{uleb128_value as uleb128, sleb128_value as sleb128};
 
 use crate::error::CfiError;
@@ -55,6 +55,7 @@ pub fn read_fixed(bytes: &[u8], size: usize) -> Result<(u64, &[u8]), CfiError>
 // Reads a byte, and returns it with the rest.
 pub(crate) fn read_byte(bytes: &[u8]) -> Result<(u8, &[u8]), CfiError>
     ensures found { IfOk result (λ x. bytes.now ≡ x.0 ∷ x.1.now) }
+    ensures none { OnErr result (bytes.now ≡ []) }
     ensures shorter { IfOk result (λ x. length x.1.now < length bytes.now) }
 {
     match bytes {
@@ -66,6 +67,7 @@ pub(crate) fn read_byte(bytes: &[u8]) -> Result<(u8, &[u8]), CfiError>
 // Skips `size` bytes.
 pub(crate) fn skip(bytes: &[u8], size: usize) -> Result<&[u8], CfiError>
     ensures found { IfOk result (λ rest. (size ≤ length bytes.now) × (rest.now ≡ drop size bytes.now)) }
+    ensures none { OnErr result (length bytes.now < size) }
     ensures shorter { IfOk result (λ rest. length rest.now ≤ length bytes.now) }
 {
     if bytes.len() < size {
@@ -187,6 +189,7 @@ pub fn read_sleb128(bytes: &[u8]) -> Result<(i64, &[u8]), CfiError>
 // Reads the size of a block as an unsigned LEB128 number, and returns the block with the rest.
 pub(crate) fn read_block(bytes: &[u8]) -> Result<(&[u8], &[u8]), CfiError>
     ensures found { IfOk result (λ x. BlockAt bytes.now x.0.now x.1.now) }
+    ensures none { OnErr result (NoBlock bytes.now) }
     ensures shorter { IfOk result (λ x. length x.0.now + length x.1.now < length bytes.now) }
 {
     let (size, rest) = read_uleb128(bytes)?;

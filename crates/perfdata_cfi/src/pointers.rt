@@ -1,7 +1,10 @@
 //! Encoded pointers: their format is the low half of the encoding, what they are relative to the high half.
-ghost use Rattle.std.specs.Prelude.{◌≡◌, ◌≤◌, ◌<◌, ◌%◌, ◌^◌, length, IfOk, IfSome};
+ghost use Rattle.std.specs.Prelude.{◌≡◌, ◌≤◌, ◌<◌, ◌%◌, ◌^◌, length, IfOk, IfSome, IfNone, OnErr};
 ghost use Rattle.perfdata_cfi.specs.Pointers.{format_code, sign_extended as extended, FormatAt, EncodedAt};
 ghost use Rattle.perfdata_cfi.specs.Pointers.{PointerAt, SignedAt, Sleb128BitsAt};
+ghost use Rattle.perfdata_cfi.specs.Pointers.{NoFormat, NoEncoded, NoPointer};
+ghost use Rattle.perfdata_cfi.specs.Numbers.{NoSleb128};
+ghost use Rattle.perfdata_cfi.specs.declared.pointers.Format.{Format};
 
 use crate::error::CfiError;
 use crate::numbers::{read_fixed, read_sleb128, read_uleb128};
@@ -31,7 +34,8 @@ pub(crate) enum Format {
 
 // The format of an encoding.
 fn format_of(encoding: u8) -> Option<Format>
-    ensures { IfSome result (λ format. format_code format ≡ encoding % 16) }
+    ensures found { IfSome result (λ format. format_code format ≡ encoding % 16) }
+    ensures none { IfNone result ((f : Format) → format_code f ≡ encoding % 16 → ⊥) }
 {
     match encoding % 16 {
         0 => Some(Format::Absolute),
@@ -64,6 +68,7 @@ fn read_signed(bytes: &[u8], size: usize, sign: u64) -> Result<(u64, &[u8]), Cfi
     requires size { size ≤ 8 }
     requires sign { sign < 2 ^ 63 }
     ensures found { IfOk result (λ x. SignedAt size sign bytes.now x.0 x.1.now) }
+    ensures none { OnErr result (length bytes.now < size) }
     ensures shorter { IfOk result (λ x. length x.1.now ≤ length bytes.now) }
 {
     let (value, rest) = read_fixed(bytes, size)?;
@@ -73,6 +78,7 @@ fn read_signed(bytes: &[u8], size: usize, sign: u64) -> Result<(u64, &[u8]), Cfi
 // Reads a signed LEB128 number, and returns its 64 bits with the rest.
 fn read_sleb128_bits(bytes: &[u8]) -> Result<(u64, &[u8]), CfiError>
     ensures found { IfOk result (λ x. Sleb128BitsAt bytes.now x.0 x.1.now) }
+    ensures none { OnErr result (NoSleb128 bytes.now) }
     ensures shorter { IfOk result (λ x. length x.1.now ≤ length bytes.now) }
 {
     let (value, rest) = read_sleb128(bytes)?;
@@ -82,6 +88,7 @@ fn read_sleb128_bits(bytes: &[u8]) -> Result<(u64, &[u8]), CfiError>
 // Reads a number in a format, and returns its 64 bits with the rest.
 fn read_format(bytes: &[u8], format: Format) -> Result<(u64, &[u8]), CfiError>
     ensures found { IfOk result (λ x. FormatAt format bytes.now x.0 x.1.now) }
+    ensures none { OnErr result (NoFormat format bytes.now) }
     ensures shorter { IfOk result (λ x. length x.1.now ≤ length bytes.now) }
 {
     match format {
@@ -98,6 +105,7 @@ fn read_format(bytes: &[u8], format: Format) -> Result<(u64, &[u8]), CfiError>
 // Reads a number in the format of an encoding, and returns its 64 bits with the rest.
 pub(crate) fn read_encoded(bytes: &[u8], encoding: u8) -> Result<(u64, &[u8]), CfiError>
     ensures found { IfOk result (λ x. EncodedAt encoding bytes.now x.0 x.1.now) }
+    ensures none { OnErr result (NoEncoded encoding bytes.now) }
     ensures shorter { IfOk result (λ x. length x.1.now ≤ length bytes.now) }
 {
     let format = format_of(encoding).ok_or(CfiError::Encoding(encoding))?;
@@ -111,6 +119,7 @@ pub(crate) fn read_pointer(
     address: u64,
 ) -> Result<(u64, &[u8]), CfiError>
     ensures found { IfOk result (λ x. PointerAt encoding address bytes.now x.0 x.1.now) }
+    ensures none { OnErr result (NoPointer encoding address bytes.now) }
     ensures shorter { IfOk result (λ x. length x.1.now ≤ length bytes.now) }
 {
     let (value, rest) = read_encoded(bytes, encoding)?;

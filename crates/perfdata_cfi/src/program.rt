@@ -1,9 +1,11 @@
 //! Programs of call frame instructions: what each instruction does to a row, and the row at an address.
-ghost use Rattle.std.specs.Prelude.{◌≡◌, ◌≤◌, ◌<◌, ◌++◌, ◌∷◌, [], length, IfOk, OnOk};
+ghost use Rattle.std.specs.Prelude.{◌≡◌, ◌≢◌, ◌≤◌, ◌<◌, ◌++◌, ◌∷◌};
+ghost use Rattle.std.specs.Prelude.{[], None, length, IfOk, IfErr, OnOk, OnErr};
 ghost use Rattle.perfdata_cfi.specs.Rows.{moment_of, factored, signed_factored, DefinesCfa};
 ghost use Rattle.perfdata_cfi.specs.Rows.{rule_of as rule_set, Rewrites, SetsRule, with_cfa, Runs, Steps};
-ghost use Rattle.perfdata_cfi.specs.Rows.{StepsInFde};
+ghost use Rattle.perfdata_cfi.specs.Rows.{Moment, StepsInFde, NoStep, NoRun};
 ghost use Rattle.perfdata_cfi.specs.declared.row.Cfa.{Cfa};
+ghost use Rattle.perfdata_cfi.specs.declared.error.CfiError.TheVariants as errors;
 
 use crate::cie::Cie;
 use crate::error::CfiError;
@@ -72,7 +74,8 @@ fn rule_of(cie: &Cie, instruction: &Instruction) -> Option<(u64, Rule)>
 
 // The CFA that an instruction defines, where `cfa` is the one before.
 fn cfa_of(cie: &Cie, instruction: &Instruction, cfa: Cfa) -> Result<Cfa, CfiError>
-    ensures { IfOk result (λ new. DefinesCfa cie.now instruction.now cfa new) }
+    ensures found { IfOk result (λ new. DefinesCfa cie.now instruction.now cfa new) }
+    ensures none { OnErr result ((new : Cfa) → DefinesCfa cie.now instruction.now cfa new → ⊥) }
 {
     match *instruction {
         Instruction::DefineCfa(register, offset) => Ok(Cfa::Register(register, offset)),
@@ -103,6 +106,7 @@ fn restore_row(state: &mut State) -> Result<(), CfiError>
     ensures location { OnOk result (state.new.location ≡ state.old.location) }
     ensures remembered { OnOk result (state.old.remembered.items
         ≡ state.new.remembered.items ++ state.new.row ∷ []) }
+    ensures none { OnErr result (state.old.remembered.items ≡ []) }
 {
     match state.remembered.pop() {
         Some(row) => {
@@ -120,6 +124,7 @@ fn remember_row(state: &mut State) -> Result<(), CfiError>
     ensures row { OnOk result (state.new.row ≡ state.old.row) }
     ensures remembered { OnOk result (state.new.remembered.items
         ≡ state.old.remembered.items ++ state.old.row ∷ []) }
+    ensures many { IfErr result (λ e. e ≢ errors.Memory → 8 ≤ length state.old.remembered.items) }
 {
     if state.remembered.len() >= MAX_REMEMBERED_ROWS {
         return Err(CfiError::RememberedRows);
@@ -133,8 +138,10 @@ fn remember_row(state: &mut State) -> Result<(), CfiError>
 
 // Carries an instruction out that only an FDE may contain.
 fn step_in_fde(initial: &Row, instruction: &Instruction, state: &mut State) -> Result<(), CfiError>
-    ensures { OnOk result (StepsInFde initial.now instruction.now (moment_of state.old)
+    ensures done { OnOk result (StepsInFde initial.now instruction.now (moment_of state.old)
         (moment_of state.new)) }
+    ensures none { IfErr result (λ e. e ≢ errors.Memory
+        → (n : Moment) → StepsInFde initial.now instruction.now (moment_of state.old) n → ⊥) }
 {
     match *instruction {
         Instruction::SetLocation(location) => {
@@ -154,8 +161,9 @@ fn step_in_fde(initial: &Row, instruction: &Instruction, state: &mut State) -> R
 
 // Carries an instruction out that defines the CFA.
 fn step_of_cfa(cie: &Cie, instruction: &Instruction, state: &mut State) -> Result<(), CfiError>
-    ensures { OnOk result ((cfa : Cfa) × DefinesCfa cie.now instruction.now state.old.row.cfa cfa
+    ensures done { OnOk result ((cfa : Cfa) × DefinesCfa cie.now instruction.now state.old.row.cfa cfa
         × Rewrites (moment_of state.old) (with_cfa state.old.row cfa) (moment_of state.new)) }
+    ensures none { OnErr result ((cfa : Cfa) → DefinesCfa cie.now instruction.now state.old.row.cfa cfa → ⊥) }
 {
     let cfa = cfa_of(cie, instruction, state.row.cfa)?;
     state.row.cfa = cfa;
@@ -164,8 +172,9 @@ fn step_of_cfa(cie: &Cie, instruction: &Instruction, state: &mut State) -> Resul
 
 // Carries an instruction out that sets a rule.
 fn step_of_rule(cie: &Cie, instruction: &Instruction, state: &mut State) -> Result<(), CfiError>
-    ensures { OnOk result (SetsRule (rule_set cie.now instruction.now) (moment_of state.old)
+    ensures done { OnOk result (SetsRule (rule_set cie.now instruction.now) (moment_of state.old)
         (moment_of state.new)) }
+    ensures none { OnErr result (rule_set cie.now instruction.now ≡ None) }
 {
     match rule_of(cie, instruction) {
         Some((register, rule)) => {
@@ -183,8 +192,10 @@ fn step(
     instruction: &Instruction,
     state: &mut State,
 ) -> Result<(), CfiError>
-    ensures { OnOk result (Steps cie.now initial.now instruction.now (moment_of state.old)
+    ensures done { OnOk result (Steps cie.now initial.now instruction.now (moment_of state.old)
         (moment_of state.new)) }
+    ensures none { IfErr result (λ e. e ≢ errors.Memory
+        → NoStep cie.now initial.now instruction.now (moment_of state.old)) }
 {
     match *instruction {
         Instruction::Nop => Ok(()),
@@ -229,8 +240,11 @@ pub(crate) fn run(
     state: &mut State,
 ) -> Result<(), CfiError>
     requires { length program.now ≤ encoding.now.end }
-    ensures { OnOk result (Runs encoding.now cie.now initial.now address program.now (moment_of state.old)
-        (moment_of state.new)) }
+    ensures done { OnOk result (Runs encoding.now cie.now initial.now address program.now
+        (moment_of state.old) (moment_of state.new)) }
+    ensures small { OnOk result (length program.now ≤ 65536) }
+    ensures none { IfErr result (λ e. e ≢ errors.Memory → length program.now ≤ 65536
+        → NoRun encoding.now cie.now initial.now address program.now (moment_of state.old)) }
 {
     if program.len() > MAX_PROGRAM_SIZE {
         return Err(CfiError::ProgramSize);

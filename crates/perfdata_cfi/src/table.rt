@@ -1,11 +1,12 @@
 //! The entries of a section, in the order of the addresses that they describe.
 ghost use Rattle.std.specs.Prelude.{◌≡◌, ◌≤◌, ◌<◌, ◌+◌, ◌-◌, ◌^◌, ℕ, length};
-ghost use Rattle.std.specs.Prelude.{slice_range, slice_index_or, true, IfOk};
+ghost use Rattle.std.specs.Prelude.{slice_range, slice_index_or, true, IfOk, IfErr, IfNone, ◌≢◌};
 ghost use Rattle.std.specs.Prelude.{IfSome, OnOk, All, Some, false, nat_le, nat_lt};
 ghost use Rattle.std.specs.List.Sorted.{IsNonDecreasingBy, IsPartitionPoint, IsPermutation, IsStableByKey};
 ghost use Rattle.std.specs.Ordering.{nat_cmp};
 ghost use Rattle.perfdata_cfi.specs.Tables.{IsCieIn, IsCieOf, IsFdeIn, IsFdeOf, IsFdeAt, FdesOfSection};
-ghost use Rattle.perfdata_cfi.specs.Tables.{SortedFdesOf};
+ghost use Rattle.perfdata_cfi.specs.Tables.{SortedFdesOf, AreRising, NoFdeIn};
+ghost use Rattle.perfdata_cfi.specs.Fdes.{IsFde};
 
 use crate::cie::{Cie, read_cie};
 use crate::entry::{Entry, FrameSection, read_entry};
@@ -40,8 +41,10 @@ pub struct FoundRow {
 }
 
 impl EntryTable {
-    ghost use Rattle.perfdata_cfi.specs.TableRows.{IsRowIn, encoding_in, program_in};
-    ghost use Rattle.perfdata_cfi.specs.Rows.{Runs, moment_of};
+    ghost use Rattle.perfdata_cfi.specs.TableRows.{IsRowIn, NoRowIn, IsWithin, IsProgram};
+    ghost use Rattle.perfdata_cfi.specs.TableRows.{encoding_in, program_in};
+    ghost use Rattle.perfdata_cfi.specs.Rows.{Runs, NoRun, moment_of};
+    ghost use Rattle.perfdata_cfi.specs.declared.error.CfiError.TheVariants as errors;
 
     // Reads the entries of a section, whose first byte is at an address.
     pub(crate) fn new(
@@ -95,6 +98,8 @@ impl EntryTable {
         ensures bytes { IfSome result (λ bytes. bytes.now
             ≡ slice_range self.now.bytes.items span.start span.end) }
         ensures len { IfSome result (λ bytes. length bytes.now ≤ span.end) }
+        ensures within { IfSome result (λ _. IsWithin self.now.bytes.items span) }
+        ensures none { IfNone result (IsWithin self.now.bytes.items span → ⊥) }
     {
         if span.start <= span.end && span.end <= self.bytes.len() {
             Some(&self.bytes[span.start..span.end])
@@ -124,7 +129,8 @@ impl EntryTable {
         index: usize,
         address: u64,
     ) -> Result<FoundRow, CfiError>
-        ensures { IfOk result (λ found. IsRowIn self.now index address found) }
+        ensures found { IfOk result (λ found. IsRowIn self.now index address found) }
+        ensures none { IfErr result (λ e. e ≢ errors.Memory → NoRowIn self.now index address) }
     {
         if index >= self.fdes.len() {
             return Err(CfiError::NoCie);
@@ -159,8 +165,12 @@ impl EntryTable {
         address: u64,
         state: &mut State,
     ) -> Result<(), CfiError>
-        ensures { OnOk result (Runs (encoding_in self.now cie.now span) cie.now initial.now address
+        ensures done { OnOk result (Runs (encoding_in self.now cie.now span) cie.now initial.now address
             (program_in self.now span) (moment_of state.old) (moment_of state.new)) }
+        ensures program { OnOk result (IsProgram self.now span) }
+        ensures none { IfErr result (λ e. e ≢ errors.Memory → IsProgram self.now span
+            → NoRun (encoding_in self.now cie.now span) cie.now initial.now address
+            (program_in self.now span) (moment_of state.old)) }
     {
         let program = self.bytes_at(span).ok_or(CfiError::Truncated)?;
         let encoding = Encoding {
@@ -186,7 +196,8 @@ fn cie_of(entry: &Option<Entry<'_>>) -> Option<Cie>
 
 // The CIEs of a section that can be used.
 fn read_cies(alloc: Global, section: FrameSection, bytes: &[u8]) -> Result<Vec<Cie>, AllocError>
-    ensures { IfOk result (λ cies. All (IsCieOf section bytes.now) cies.items) }
+    ensures all { IfOk result (λ cies. All (IsCieOf section bytes.now) cies.items) }
+    ensures rising { IfOk result (λ cies. AreRising cies.items) }
 {
     let mut cies = Vec::new(alloc);
     let mut rest = bytes;
@@ -204,13 +215,43 @@ fn read_cies(alloc: Global, section: FrameSection, bytes: &[u8]) -> Result<Vec<C
     Ok(cies)
 }
 
+// The number of CIEs whose offset is below an offset.
+fn count_cies_below(cies: &[Cie], offset: u64) -> usize
+    requires { AreRising cies.now }
+    ensures bound { result ≤ length cies.now }
+    ensures point { IsPartitionPoint (λ c. nat_lt c.offset offset ≡ true)
+        (λ c. nat_lt c.offset offset ≡ false) cies.now result }
+{
+    cies.partition_point(|cie| (cie.offset as u64) < offset)
+}
+
+// The CIE with an index.
+fn cie_at(cies: &[Cie], index: usize) -> Cie
+    requires { index < length cies.now }
+    ensures { result ≡ slice_index_or cies.now index result }
+{
+    cies[index]
+}
+
+// Whether the CIE with an index is at an offset.
+fn is_cie_at(cies: &[Cie], index: usize, offset: u64) -> bool
+    ensures yes { result ≡ true → (index < length cies.now)
+        × ((d : Cie) → (slice_index_or cies.now index d).offset ≡ offset) }
+    ensures no { result ≡ false → index < length cies.now
+        → (d : Cie) → (slice_index_or cies.now index d).offset ≢ offset }
+{
+    index < cies.len() && cies[index].offset as u64 == offset
+}
+
 // The index of the CIE at an offset.
 fn find_cie(cies: &[Cie], offset: u64) -> Option<usize>
-    ensures { IfSome result (λ i. (i < length cies.now)
+    requires { AreRising cies.now }
+    ensures found { IfSome result (λ i. (i < length cies.now)
         × ((d : Cie) → (slice_index_or cies.now i d).offset ≡ offset)) }
+    ensures none { IfNone result (All (λ c. c.offset ≢ offset) cies.now) }
 {
-    let index = cies.partition_point(|cie| (cie.offset as u64) < offset);
-    if index < cies.len() && cies[index].offset as u64 == offset {
+    let index = count_cies_below(cies, offset);
+    if is_cie_at(cies, index, offset) {
         Some(index)
     } else {
         None
@@ -218,14 +259,36 @@ fn find_cie(cies: &[Cie], offset: u64) -> Option<usize>
 }
 
 // The FDE that an entry is, if it can be used and is not empty.
-fn fde_of(address: u64, cies: &[Cie], entry: &Option<Entry<'_>>) -> Option<Fde>
-    requires { IfSome entry.now (λ e. length e.body.now ≤ e.end) }
-    ensures { IfSome result (λ f. IsFdeIn address cies.now entry.now f) }
+fn fde_of_entry(address: u64, cies: &[Cie], entry: &Entry<'_>) -> Option<Fde>
+    requires body { length entry.now.body.now ≤ entry.now.end }
+    requires rising { AreRising cies.now }
+    ensures found { IfSome result (λ f. IsFde address cies.now entry.now f) }
+    ensures none { IfNone result ((f : Fde) → IsFde address cies.now entry.now f → ⊥) }
 {
-    let Some(entry) = entry else { return None };
-    let index = find_cie(cies, entry.cie_offset?)?;
-    let fde = read_fde(entry, &cies[index], index, address).ok()?;
-    if fde.size == 0 { None } else { Some(fde) }
+    let Some(offset) = entry.cie_offset else {
+        return None
+    };
+    let Some(index) = find_cie(cies, offset) else {
+        return None
+    };
+    let cie = cie_at(cies, index);
+    match read_fde(entry, &cie, index, address) {
+        Ok(fde) => { if fde.size == 0 { None } else { Some(fde) } }
+        Err(_) => None,
+    }
+}
+
+// The FDE that a piece is, if it can be used and is not empty.
+fn fde_of(address: u64, cies: &[Cie], entry: &Option<Entry<'_>>) -> Option<Fde>
+    requires body { IfSome entry.now (λ e. length e.body.now ≤ e.end) }
+    requires rising { AreRising cies.now }
+    ensures found { IfSome result (λ f. IsFdeIn address cies.now entry.now f) }
+    ensures none { IfNone result (NoFdeIn address cies.now entry.now) }
+{
+    match entry {
+        Some(entry) => fde_of_entry(address, cies, entry),
+        None => None,
+    }
 }
 
 // The FDEs of a section that can be used, in the order of the section.
@@ -236,6 +299,7 @@ fn read_fdes(
     bytes: &[u8],
     cies: &[Cie],
 ) -> Result<Vec<Fde>, AllocError>
+    requires { AreRising cies.now }
     ensures all { IfOk result (λ fdes. All (IsFdeOf section address bytes.now cies.now) fdes.items) }
     ensures in_order { IfOk result (λ fdes. FdesOfSection section address bytes.now cies.now fdes.items) }
 {
@@ -360,6 +424,7 @@ fn read_sorted_fdes(
     bytes: &[u8],
     cies: &[Cie],
 ) -> Result<Vec<Fde>, AllocError>
+    requires { AreRising cies.now }
     ensures all { IfOk result (λ fdes. All (IsFdeOf section address bytes.now cies.now) fdes.items) }
     ensures in_order { IfOk result (λ fdes. SortedFdesOf section address bytes.now cies.now fdes.items) }
     ensures sorted { IfOk result (λ fdes. IsNonDecreasingBy (λ f. f.start) fdes.items) }

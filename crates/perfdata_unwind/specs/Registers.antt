@@ -1,14 +1,18 @@
 -- The registers of a frame, as far as they are known.
-use Rattle.std.specs.Prelude.{ℕ, zero, suc, Option, None, if◌then◌else◌, nat_lt, slice_set, replicate}
+use Rattle.std.specs.Option.{unwrap_or}
+use Rattle.std.specs.Prelude.{ℕ, zero, suc, false, Option, is_some, if◌then◌else◌, nat_lt, slice_set, replicate}
 use Rattle.perfdata_unwind.specs.declared.registers.Registers.{Registers}
 
 -- no register is known
 abbrev pub no_registers : Registers
-no_registers = record { values = replicate 33 None }
+no_registers = record { values = replicate 33 0; known = replicate 33 false }
 
 -- one register has another value; registers from 33 on stay unknown
 abbrev pub with_register : Registers → ℕ → Option ℕ → Registers
-with_register r number value = record { values = (if nat_lt number 33 then slice_set r.values number value else r.values) }
+with_register r number value = record {
+  values = (if nat_lt number 33 then slice_set r.values number (unwrap_or value 0) else r.values);
+  known = (if nat_lt number 33 then slice_set r.known number (is_some value) else r.known);
+}
 
 -- the registers below a number have these values, and no other is known
 abbrev pub registers_below : (ℕ → Option ℕ) → ℕ → Registers

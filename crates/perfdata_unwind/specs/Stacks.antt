@@ -1,12 +1,12 @@
 -- Registers and the copy of a stack.
-use Rattle.std.specs.Prelude.{ℕ, ◌+◌, ◌-◌, ◌%◌, ◌^◌, length, take, drop, Option, Some, None, if◌then◌else◌, nat_lt, nat_le, slice_index_or}
+use Rattle.std.specs.Prelude.{ℕ, ◌+◌, ◌-◌, ◌%◌, ◌^◌, length, take, drop, Option, Some, None, if◌then◌else◌, nat_lt, nat_le, slice_index_or, ◌&&◌, false}
 use Rattle.perfdata_cfi.specs.Numbers.{fixed_value}
 use Rattle.perfdata_unwind.specs.declared.registers.Registers.{Registers}
 use Rattle.perfdata_unwind.specs.declared.copy.StackCopy.{StackCopy}
 
 -- the value of a register; registers from 33 on have none
 abbrev pub register_of : Registers → ℕ → Option ℕ
-register_of r number = (if nat_lt number 33 then slice_index_or r.values number None else None)
+register_of r number = (if nat_lt number 33 && slice_index_or r.known number false then Some (slice_index_or r.values number 0) else None)
 
 -- the little-endian number of `size` bytes at an address, if all of them are in the copy; addresses are modulo 2 ^ 64
 abbrev pub offset_in : StackCopy → ℕ → ℕ

@@ -2,7 +2,7 @@
 use Rattle.std.specs.Prelude.{◌≡◌, ◌⊎◌, ℕ, List, [], Bool, true, false, Option, Some, None, Err, if◌then◌else◌}
 use Rattle.std.specs.Option.{option_map}
 use Rattle.perfdata_cfi.specs.Tables.{IsFdeAt}
-use Rattle.perfdata_cfi.specs.FrameTables.{fdes_of, table_of, IsRowAt}
+use Rattle.perfdata_cfi.specs.FrameTables.{fdes_of, table_of, IsRowAt, NoRowAt}
 use Rattle.perfdata_cfi.specs.declared.instruction.Machine.{Machine}
 use Rattle.perfdata_cfi.specs.declared.frame_table.FrameTable.{FrameTable}
 use Rattle.perfdata_cfi.specs.declared.table.EntryTable.{EntryTable}
@@ -82,12 +82,12 @@ pub record FoundByRow (m : Machine) (c : StackCopy) (f : Frame) (table : FrameTa
   pub signal_is : found.is_signal ≡ row.is_signal
   pub origin_is : found.origin ≡ origin_by_row row.is_signal
 
--- an FDE whose row can't be read
+-- an FDE that has no row at the address
 abbrev pub no_row : Found
 no_row = record { is_signal = false; origin = origins.Cfi; registers = Err ends.BadCfi }
 
 abbrev pub FoundByFde : Machine → StackCopy → Frame → FrameTable → ℕ → ℕ → ℕ → Found → ℕ → Type 0
-FoundByFde m c f table index address k found n = FoundByRow m c f table index address k found n ⊎ ((found ≡ no_row) × (n ≡ k))
+FoundByFde m c f table index address k found n = FoundByRow m c f table index address k found n ⊎ (NoRowAt table index address × (found ≡ no_row) × (n ≡ k))
 
 -- what is known of code without call frame information: the call of rt_sigreturn, or a frame pointer
 abbrev pub by_bytes : Machine → StackCopy → Frame → List ℕ → Found

@@ -6,7 +6,10 @@ use perfdata_cfi::REGISTER_COUNT;
 /// The registers of a frame by their DWARF numbers, as far as they are known.
 #[derive(Clone, Copy, Debug, PartialEq, Eq)]
 pub struct Registers {
-    values: [Option<u64>; REGISTER_COUNT],
+    // The values, and 0 for those that aren't known.
+    values: [u64; REGISTER_COUNT],
+    // Which values are known.
+    known: [bool; REGISTER_COUNT],
 }
 
 impl Registers {
@@ -18,7 +21,8 @@ impl Registers {
         ensures { result ≡ no_registers }
     {
         Registers {
-            values: [None; REGISTER_COUNT],
+            values: [0; REGISTER_COUNT],
+            known: [false; REGISTER_COUNT],
         }
     }
 
@@ -26,8 +30,8 @@ impl Registers {
     pub fn get(&self, number: u64) -> Option<u64>
         ensures { result ≡ register_of self.now number }
     {
-        if number < REGISTER_COUNT as u64 {
-            self.values[number as usize]
+        if number < REGISTER_COUNT as u64 && self.known[number as usize] {
+            Some(self.values[number as usize])
         } else {
             None
         }
@@ -38,7 +42,8 @@ impl Registers {
         ensures { self.new ≡ with_register self.old number value }
     {
         if number < REGISTER_COUNT as u64 {
-            self.values[number as usize] = value;
+            self.values[number as usize] = value.unwrap_or(0);
+            self.known[number as usize] = value.is_some();
         }
     }
 }

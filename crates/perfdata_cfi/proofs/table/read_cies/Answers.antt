@@ -1,7 +1,9 @@
-use Rattle.std.proofs.Common.{arith, subst, sym}
+use Rattle.std.proofs.Common.{List, length, arith, subst, sym}
 use Rattle.std.specs.Prelude.{All}
 use Rattle.std.proofs.lemmas.List.Elements.{All-push}
-use Rattle.perfdata_cfi.specs.Tables.{IsCieOf}
+use Rattle.perfdata_cfi.specs.Tables.{IsCieOf, AreRising}
+use Rattle.perfdata_cfi.specs.declared.cie.Cie.{Cie}
+use Rattle.perfdata_cfi.proofs.UniqueFdes.{AreBefore, offset_of_piece, before_push, before_less, below_next, rising_push}
 use Rattle.perfdata_cfi.proofs.TableLemmas.{cie_of_piece, reaches_more}
 use Rattle.perfdata_cfi.proofs.table.read_cies.Goals as goal
 
@@ -10,11 +12,16 @@ entries-preserved-in_ok-push-in-Some c =
     let section = c.args.section in
     let bytes = c.args.bytes.now in
     let shorter = c.in-Ok.ensures.shorter in
+    let at = offset_of_piece section (length bytes) c.entries.rest.now c.in-Ok.read.1.now c.in-Ok.read.0 c.in-Some.cie c.in-Ok.ensures.found c.in-Some.ensures in
     record {
       within = omega (arith, shorter, c.entries.invariant.within);
       reached = reaches_more section bytes c.entries.rest.now c.in-Ok.read.1.now c.in-Ok.read.0 c.entries.invariant.reached c.in-Ok.ensures.found;
       all = subst (All (IsCieOf section bytes)) (sym c.in_ok-push-in-Some.ensures.items) (All-push (IsCieOf section bytes) c.entries.cies.items c.in-Some.cie c.entries.invariant.all
           (cie_of_piece section bytes c.entries.rest.now c.in-Ok.read.1.now c.in-Ok.read.0 c.in-Some.cie c.entries.invariant.reached c.in-Ok.ensures.found c.in-Some.ensures));
+      before = subst (λ (cies : List Cie). AreBefore cies (length c.in-Ok.read.1.now) (length bytes)) (sym c.in_ok-push-in-Some.ensures.items)
+          (before_push c.entries.cies.items c.in-Some.cie (length c.entries.rest.now) (length c.in-Ok.read.1.now) (length bytes) shorter at c.entries.invariant.before);
+      rising = subst AreRising (sym c.in_ok-push-in-Some.ensures.items)
+          (rising_push c.entries.cies.items c.in-Some.cie c.entries.invariant.rising (below_next c.entries.cies.items c.in-Some.cie (length c.entries.rest.now) (length bytes) at c.entries.invariant.before));
     }
 
 pub entries-preserved : goal.entries-preserved
@@ -24,4 +31,6 @@ entries-preserved c =
       within = omega (arith, shorter, c.entries.invariant.within);
       reached = reaches_more c.args.section c.args.bytes.now c.entries.rest.now c.in-Ok.read.1.now c.in-Ok.read.0 c.entries.invariant.reached c.in-Ok.ensures.found;
       all = c.entries.invariant.all;
+      before = before_less c.entries.cies.items (length c.entries.rest.now) (length c.in-Ok.read.1.now) (length c.args.bytes.now) (omega (arith, shorter)) c.entries.invariant.before;
+      rising = c.entries.invariant.rising;
     }

@@ -20,10 +20,10 @@ entries-preserved-in_ok-push-in-Some c =
       run = (
         run.0 ++ p ∷ [],
         pieces_push section (length bytes) bytes c.entries.rest.now c.in-Ok.read.1.now run.0 p run.1 c.in-Ok.ensures.found,
-        subst (λ (fs : List Fde). FdesOf address cies (run.0 ++ p ∷ []) fs) (sym c.in_ok-push-in-Some.ensures.items) (fdes_push address cies run.0 p c.entries.fdes.items c.in-Some.fde run.2 c.in-Some.ensures),
+        subst (λ (fs : List Fde). FdesOf address cies (run.0 ++ p ∷ []) fs) (sym c.in_ok-push-in-Some.ensures.items) (fdes_push address cies run.0 p c.entries.fdes.items c.in-Some.fde run.2 c.in-Some.ensures.found),
       );
       all = subst (All (IsFdeOf section address bytes cies)) (sym c.in_ok-push-in-Some.ensures.items) (All-push (IsFdeOf section address bytes cies) c.entries.fdes.items c.in-Some.fde c.entries.invariant.all
-          (fde_of_piece section address bytes c.entries.rest.now c.in-Ok.read.1.now cies p c.in-Some.fde (run.0, run.1) c.in-Ok.ensures.found c.in-Some.ensures));
+          (fde_of_piece section address bytes c.entries.rest.now c.in-Ok.read.1.now cies p c.in-Some.fde (run.0, run.1) c.in-Ok.ensures.found c.in-Some.ensures.found));
     }
 
 pub entries-preserved : goal.entries-preserved
@@ -37,7 +37,7 @@ entries-preserved c =
       run = (
         run.0 ++ p ∷ [],
         pieces_push c.args.section (length bytes) bytes c.entries.rest.now c.in-Ok.read.1.now run.0 p run.1 c.in-Ok.ensures.found,
-        fdes_skip c.args.address c.args.cies.now run.0 p c.entries.fdes.items run.2,
+        fdes_skip c.args.address c.args.cies.now run.0 p c.entries.fdes.items run.2 c.in-None.ensures.none,
       );
       all = c.entries.invariant.all;
     }

@@ -5,4 +5,4 @@ pub returns-in-Some : goal.returns-in-Some
 returns-in-Some c = inl (c.find_by_row.ensures c.args.index c.args.address c.in-Some.ensures)
 
 pub returns-in-Ok : goal.returns-in-Ok
-returns-in-Ok c = inl (c.find_by_row-in-Ok.ensures c.args.index c.args.address c.in-Ok.ensures)
+returns-in-Ok c = inl (c.find_by_row-in-Ok.ensures c.args.index c.args.address c.in-Ok.ensures.found)

@@ -1,8 +1,11 @@
-use Rattle.std.proofs.Common.{ℕ, List, subst}
+use Rattle.std.proofs.Common.{ℕ, List, subst, sym}
 use Rattle.std.specs.Prelude.{All}
-use Rattle.perfdata_cfi.specs.Tables.{IsFdeOf, SortedFdesOf}
+use Rattle.perfdata_cfi.specs.Tables.{AreRising, IsFdeOf, SortedFdesOf}
 use Rattle.perfdata_cfi.specs.declared.cie.Cie.{Cie}
 use Rattle.perfdata_cfi.proofs.table.EntryTable.new.Goals as goal
+
+pub read_sorted_fdes-requires : goal.read_sorted_fdes-requires
+read_sorted_fdes-requires c = subst AreRising (sym c.deref-3.ensures.value) c.in_ok-cies.ensures.rising
 
 pub returns-clause-fdes : goal.returns-clause-fdes
 returns-clause-fdes c =
