@@ -2,7 +2,7 @@
 
 use crate::map::{FileMap, Mapping, Range};
 use perfdata_cfi::{FrameSection, FrameTable};
-use perfdata_unwind::{ChainEnd, FileTables, FrameOrigin, Machine, Registers, StackCopy, Unwinder};
+use perfdata_unwind::{FileTables, FrameOrigin, Machine, Registers, StackCopy, Unwinder};
 use std::alloc::{AllocError, Global};
 
 // Bytes at an address.
@@ -85,20 +85,6 @@ fn origin_text(origin: FrameOrigin) -> &'static str {
         FrameOrigin::SignalFrame => "s",
         FrameOrigin::Plt => "p",
         FrameOrigin::FramePointer => "f",
-    }
-}
-
-fn end_text(end: ChainEnd) -> &'static str {
-    match end {
-        ChainEnd::Root => "root",
-        ChainEnd::Truncated => "truncated",
-        ChainEnd::Outside => "outside",
-        ChainEnd::NoCfi => "no-cfi",
-        ChainEnd::BadCfi => "bad-cfi",
-        ChainEnd::Stuck => "stuck",
-        ChainEnd::Limit => "limit",
-        ChainEnd::OtherAbi => "other-abi",
-        ChainEnd::None => "none",
     }
 }
 
@@ -198,7 +184,7 @@ impl Case {
                 print!(rt; "signal ")?;
             }
         }
-        println!(rt; "{}", end_text(end))?;
+        println!(rt; "{}", end.name())?;
         Ok(())
     }
 }

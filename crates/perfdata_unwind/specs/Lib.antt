@@ -1,5 +1,6 @@
 -- The definitions that the contracts cite.
 pub mod Callers
+pub mod ChainEnds
 pub mod Chains
 pub mod Expressions
 pub mod Frames

@@ -51,6 +51,28 @@ pub enum ChainEnd {
     None,
 }
 
+impl ChainEnd {
+    ghost use Rattle.std.specs.Prelude.{◌≡◌};
+    ghost use Rattle.perfdata_unwind.specs.ChainEnds.{chain_end_name};
+
+    /// Returns the name of the end: its words in lower case with `-` between them.
+    pub fn name(self) -> &'static str
+        ensures { result.now ≡ chain_end_name self }
+    {
+        match self {
+            ChainEnd::Root => "root",
+            ChainEnd::Truncated => "truncated",
+            ChainEnd::Outside => "outside",
+            ChainEnd::NoCfi => "no-cfi",
+            ChainEnd::BadCfi => "bad-cfi",
+            ChainEnd::Stuck => "stuck",
+            ChainEnd::Limit => "limit",
+            ChainEnd::OtherAbi => "other-abi",
+            ChainEnd::None => "none",
+        }
+    }
+}
+
 // A frame before its caller is looked for.
 #[derive(Clone, Copy)]
 pub(crate) struct Frame {

@@ -30,21 +30,6 @@ pub(crate) struct Listing {
     event: Vec<u8>,
 }
 
-// Returns the name of the end of a chain.
-fn end_name(end: ChainEnd) -> &'static str {
-    match end {
-        ChainEnd::Root => "root",
-        ChainEnd::Truncated => "truncated",
-        ChainEnd::Outside => "outside",
-        ChainEnd::NoCfi => "no-cfi",
-        ChainEnd::BadCfi => "bad-cfi",
-        ChainEnd::Stuck => "stuck",
-        ChainEnd::Limit => "limit",
-        ChainEnd::OtherAbi => "other-abi",
-        ChainEnd::None => "none",
-    }
-}
-
 // Returns the letter of how a frame was found: in the call chain, unless the stack was unwound.
 fn letter_of(context: CallContext, origin: Option<FrameOrigin>) -> char {
     match (origin, context) {
@@ -113,7 +98,7 @@ impl Listing {
         push_time(lines, time).map_err(|_| AllocError)?;
         lines.push(b' ')?;
         push_name(lines, self.event.as_slice())?;
-        writeln!(lines, " {}", end_name(end)).map_err(|_| AllocError)
+        writeln!(lines, " {}", end.name()).map_err(|_| AllocError)
     }
 
     /// Adds the line of a frame with the name of a symbol and the offset in it, if that is known.
