@@ -17,6 +17,29 @@ use perfdata_sections::error::Error;
 use std::alloc::Global;
 
 /// An opened file or pipe: its metadata, and an iterator over its records.
+///
+/// ```
+/// use linux_perf_data::event::RecordType;
+/// use linux_perf_data::source::Source;
+/// use linux_perf_data::{Error, PerfFileReader, PerfFileRecord};
+///
+/// fn count_samples<R: Source + Drop>(reader: PerfFileReader<R>) -> Result<u64, Error> {
+///     let mut perf_file = reader.perf_file;
+///     let mut records = reader.record_iter;
+///     let mut count = 0u64;
+///     for _ in 0..u64::MAX {
+///         let Some((_place, record)) = records.next_record(&mut perf_file)? else {
+///             break;
+///         };
+///         if let PerfFileRecord::EventRecord { event, .. } = record {
+///             if event.record_type == RecordType::SAMPLE {
+///                 count = count.saturating_add(1);
+///             }
+///         }
+///     }
+///     Ok(count)
+/// }
+/// ```
 #[derive(Drop)]
 pub struct PerfFileReader<R> {
     /// The metadata of the file or pipe.

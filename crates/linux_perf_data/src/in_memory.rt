@@ -7,7 +7,10 @@
 //! use linux_perf_data::{Error, PerfFileRecord};
 //! use std::alloc::Global;
 //!
-//! fn last_record<'a>(alloc: Global, bytes: &'a [u8]) -> Result<Option<PerfFileRecord<'a>>, Error> {
+//! fn last_record<'a>(
+//!     alloc: Global,
+//!     bytes: &'a [u8],
+//! ) -> Result<Option<PerfFileRecord<'a>>, Error> {
 //!     let reader = InMemoryReader::parse_file(alloc, bytes)?;
 //!     let mut perf_file = reader.perf_file;
 //!     let mut records = reader.records;

@@ -10,8 +10,8 @@
 //! use std::fs::File;
 //! use std::io::BufReader;
 //!
-//! fn main(rt: HostRuntime) -> anyhow::Result<()> {
-//!     let file = BufReader::new(rt.alloc(), File::open(&rt, "perf.data")?)?;
+//! fn print_types(rt: &HostRuntime, path: &str) -> anyhow::Result<()> {
+//!     let file = BufReader::new(rt.alloc(), File::open(rt, path)?)?;
 //!     let reader = PerfFileReader::parse_file(rt.alloc(), Counted::new(file))?;
 //!     let mut perf_file = reader.perf_file;
 //!     let mut records = reader.record_iter;
@@ -19,8 +19,8 @@
 //!         let Some((place, record)) = records.next_record(&mut perf_file)? else {
 //!             break;
 //!         };
-//!         if let PerfFileRecord::EventRecord { event, attr_index, .. } = record {
-//!             println!(rt; "{}: type {}, event {attr_index}", place.offset, event.record_type.0)?;
+//!         if let PerfFileRecord::EventRecord { event, .. } = record {
+//!             println!(rt; "{}: type {}", place.offset, event.record_type.0)?;
 //!         }
 //!     }
 //!     Ok(())

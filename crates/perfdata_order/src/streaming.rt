@@ -45,6 +45,35 @@ const BODY_CAPACITY: usize = 65536;
 /// the recording has no rounds, all timed records are held, unless there is a budget
 /// ([`OrderedRecords::with_budget`]). Equal timestamps keep the order of the source. The memory of returned
 /// bodies is used again.
+///
+/// ```
+/// use linux_perf_data::source::Source;
+/// use linux_perf_data::{Error, PerfFileReader};
+/// use perfdata_order::streaming::OrderedRecords;
+/// use std::alloc::Global;
+///
+/// fn longest_pause<R: Source + Drop>(
+///     alloc: Global,
+///     reader: PerfFileReader<R>,
+/// ) -> Result<u64, Error> {
+///     let mut perf_file = reader.perf_file;
+///     let mut records = OrderedRecords::new(alloc, reader.record_iter);
+///     let mut previous = None;
+///     let mut longest = 0u64;
+///     for _ in 0..u64::MAX {
+///         let Some((place, _record)) = records.next_record(&mut perf_file)? else {
+///             break;
+///         };
+///         let time = place.timestamp.unwrap_or(0);
+///         if time == 0 {
+///             continue;
+///         }
+///         longest = longest.max(time.saturating_sub(previous.unwrap_or(time)));
+///         previous = Some(time);
+///     }
+///     Ok(longest)
+/// }
+/// ```
 #[derive(Drop)]
 pub struct OrderedRecords<R> {
     records: PerfRecordIter<R>,

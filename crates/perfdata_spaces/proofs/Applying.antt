@@ -1,5 +1,5 @@
 -- Address spaces after a record is applied to their parts.
-use Rattle.std.proofs.Common.{◌≡◌, ◌∙◌, ◌+◌, ◌++◌, ap, refl, sym, add_assoc, add-zero, arith, List, [], ◌∷◌, None, length, length-append, ℕ, Option, Result, Ok, Err, IfOk, OnOk, OnErr, inl, inr}
+use Rattle.std.proofs.Common.{◌≡◌, ◌∙◌, ◌+◌, ◌++◌, ap, refl, sym, add-zero, arith, List, [], ◌∷◌, None, length, length-append, ℕ, Option, Result, Ok, Err, IfOk, OnOk, OnErr, inl, inr}
 use Rattle.std.proofs.lemmas.List.{append-nil, map_push}
 use Rattle.std.specs.declared.alloc.AllocError.{AllocError}
 use Rattle.perfdata_events.specs.declared.event.EventRecord.{EventRecord}

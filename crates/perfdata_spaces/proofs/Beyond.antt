@@ -1,6 +1,5 @@
 -- Nothing is found from 2^64 on.
-use Rattle.std.proofs.Common.{◌≡◌, ◌∙◌, ◌+◌, ◌≤◌, ◌^◌, ap, refl, arith, ℕ, Bool, false, nat_le, nat_lt, ◌&&◌, cond, List, [], ◌∷◌, filter, Option, None}
-use Rattle.std.specs.List.{last_or}
+use Rattle.std.proofs.Common.{◌≡◌, ◌∙◌, ◌≤◌, ◌^◌, ap, refl, arith, ℕ, Bool, false, List, [], ◌∷◌, None}
 use Rattle.std.specs.Option.{option_or}
 use Rattle.std.proofs.lemmas.Bool.Decides.{nat_tests}
 use Rattle.perfdata_events.specs.declared.fields.call_chain.CallContext.TheVariants.{Hypervisor, Kernel, User, Guest, GuestKernel, GuestUser, Unknown}

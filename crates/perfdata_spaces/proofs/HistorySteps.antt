@@ -1,23 +1,12 @@
 -- The mappings of a process after one more effect.
-use Rattle.std.proofs.Common.{◌≡◌, ◌∙◌, ap, refl, sym, ℕ, ℤ, true, false, List, [], ◌∷◌, ◌++◌, append_assoc, int_cmp}
+use Rattle.std.proofs.Common.{◌≡◌, ◌∙◌, ap, refl, sym, ℕ, ℤ, true, false, List, [], ◌∷◌, ◌++◌, append_assoc}
 use Rattle.std.proofs.lemmas.List.{append-nil}
 use Rattle.std.proofs.lemmas.List.Elements.{All-nil, All-push}
-use Rattle.std.proofs.lemmas.Map.Lookups.{exact_signed}
-use Rattle.std.specs.declared.cmp.Ordering.{Ordering}
-use Rattle.std.specs.declared.cmp.Ordering.TheVariants.{Less, Equal, Greater}
-use Rattle.std.specs.Ordering.{is_eq}
 use Rattle.perfdata_spaces.specs.Effects.{Copies, Clears, Numbered}
 use Rattle.perfdata_spaces.specs.Histories.{IsHistory, never_reset, cleared, forked, IndexedMapping, resets, mapping_for, mappings_of, at_index}
 use Rattle.perfdata_spaces.specs.Processes.{is_same}
 use Rattle.perfdata_spaces.proofs.Lists.{flat_map_push, split_push}
-
-equal_from_test : (order : Ordering) → is_eq order ≡ true → order ≡ Equal
-equal_from_test Less is = cc
-equal_from_test Equal is = refl
-equal_from_test Greater is = cc
-
-pub same_ids : (pid other : ℤ) → is_same pid other ≡ true → pid ≡ other
-same_ids pid other is = exact_signed pid other (equal_from_test (int_cmp pid other) is)
+use Rattle.perfdata_spaces.proofs.Values.{same_ids}
 
 pub mappings_push : (pid : ℤ) (effects : List Numbered) (effect : Numbered) → mappings_of pid (effects ++ effect ∷ []) ≡ mappings_of pid effects ++ mapping_for pid effect
 mappings_push pid effects effect = flat_map_push (mapping_for pid) effects effect

@@ -7,7 +7,7 @@ use Rattle.perfdata_spaces.specs.Processes.{is_same}
 use Rattle.perfdata_spaces.specs.ThreadNames.{name_of, name_after, AppliesName, FollowsNames, KeepsNames}
 use Rattle.perfdata_spaces.specs.declared.thread_names.ThreadNames.{ThreadNames}
 use Rattle.perfdata_spaces.proofs.Lists.{split_push}
-use Rattle.perfdata_spaces.proofs.HistorySteps.{same_ids}
+use Rattle.perfdata_spaces.proofs.Values.{same_ids}
 
 pub name_push : (tid : ℤ) (effects : List NameEffect) (name : Option (List ℕ)) (effect : NameEffect) → names tid effect ≡ false → IsName tid effects name → IsName tid (effects ++ effect ∷ []) name
 name_push tid effects name effect kept (never_named _ _ _ none is) =

@@ -1,5 +1,5 @@
 -- Effects give a process exactly one history.
-use Rattle.std.proofs.Common.{◌≡◌, ◌∙◌, ◌+◌, ◌≤◌, ◌^◌, ap, refl, sym, arith, ℕ, ℤ, Bool, true, false, cond, List, [], ◌∷◌, ◌++◌, length, filter, Option, None, append_assoc}
+use Rattle.std.proofs.Common.{◌≡◌, ◌∙◌, ◌+◌, ap, refl, sym, ℕ, ℤ, Bool, true, false, cond, List, [], ◌∷◌, ◌++◌, length, None, append_assoc}
 use Rattle.std.proofs.lemmas.List.{append-nil}
 use Rattle.std.proofs.lemmas.List.Elements.{All-nil, All-head, All-tail}
 use Rattle.std.proofs.lemmas.Cmp.{int_cmp_total, tied_itself}
@@ -7,8 +7,8 @@ use Rattle.std.specs.Option.{option_or}
 use Rattle.std.specs.Ordering.{is_eq}
 use Rattle.perfdata_events.specs.declared.fields.call_chain.CallContext.TheVariants.{Hypervisor, Kernel, User, Guest, GuestKernel, GuestUser, Unknown}
 use Rattle.perfdata_spaces.specs.Effects.{SpaceEffect, Maps, MapsKernel, Registers, Removes, Copies, Clears, Leaves, Numbered, added, numbered, numbered_from}
-use Rattle.perfdata_spaces.specs.Histories.{IndexedMapping, IsFound, IsHistory, never_reset, cleared, forked, resets, NoneResets, mapping_for, mapping_at_for, mappings_of, at_index, last_that, indexed_contains, changes_symbol, changes_symbol_at, kernel_mappings, registered, symbol_at}
-use Rattle.perfdata_spaces.specs.Laws.{FindsNoneBeyond, FindsOne, HasOneHistory}
+use Rattle.perfdata_spaces.specs.Histories.{IndexedMapping, IsHistory, never_reset, cleared, forked, resets, NoneResets, mapping_for, mapping_at_for, mappings_of, at_index, last_that, indexed_contains, kernel_mappings, symbol_at}
+use Rattle.perfdata_spaces.specs.Laws.{FindsOne, HasOneHistory}
 use Rattle.perfdata_spaces.specs.Processes.{is_same}
 use Rattle.perfdata_spaces.proofs.HistorySteps.{history_push, history_cleared, history_copied}
 

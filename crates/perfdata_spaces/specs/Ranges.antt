@@ -1,5 +1,5 @@
 -- Values by address.
-use Rattle.std.specs.Prelude.{ℕ, ◌+◌, ◌-◌, ◌/◌, ◌^◌, Bool, false, nat_le, nat_lt, ◌&&◌, if◌then◌else◌, Option, None, Some}
+use Rattle.std.specs.Prelude.{◌≡◌, ℕ, ◌+◌, ◌^◌, ◌<◌, ◌≤◌, Bool, false, nat_le, nat_lt, ◌&&◌, if◌then◌else◌, Option, None, Some}
 use Rattle.perfdata_spaces.specs.declared.ranges.AddressRange.{AddressRange}
 use Rattle.perfdata_spaces.specs.declared.ranges.RangeMap.{RangeMap}
 use Rattle.perfdata_spaces.specs.declared.ranges.Tree.{Tree, Empty, Whole, Split'}
@@ -16,21 +16,41 @@ abbrev pub covers : Option AddressRange → ℕ → Bool
 covers None address = false
 covers (Some range) address = is_within range address
 
--- The last address of the lower half of the addresses from `first` to `last`.
-abbrev pub middle : ℕ → ℕ → ℕ
-middle first last = first + (last - first) / 2
+-- The value of an address in a tree.
+abbrev pub value_at : Tree → ℕ → Option ℕ
+value_at Empty address = None
+value_at (Whole value) address = Some value
+value_at (Split' p boundary height below above) address =
+    if nat_lt address boundary then value_at below address else value_at above address
 
-abbrev pub middle_of : AddressRange → ℕ
-middle_of range = middle range.first range.last
+-- The height in the root of a tree. A leaf has none.
+abbrev pub height_of : Tree → ℕ
+height_of Empty = 0
+height_of (Whole value) = 0
+height_of (Split' p boundary height below above) = height
 
--- The value of an address in a tree over the addresses from `first` to `last`.
-abbrev pub value_at : ℕ → ℕ → Tree → ℕ → Option ℕ
-value_at first last Empty address = None
-value_at first last (Whole value) address = Some value
-value_at first last (Split' p low high) address =
-    if nat_le address (middle first last) then value_at first (middle first last) low address
-    else value_at (middle first last + 1) last high address
+-- All addresses have the same values.
+abbrev pub KeepsValues : Tree → Tree → Type 0
+KeepsValues old new = (address : ℕ) → value_at new address ≡ value_at old address
+
+-- The addresses below a boundary have the same values.
+abbrev pub KeepsBelow : Tree → ℕ → Tree → Type 0
+KeepsBelow old boundary new = (address : ℕ) → address < boundary → value_at new address ≡ value_at old address
+
+-- The addresses from a boundary on have the same values.
+abbrev pub KeepsAbove : Tree → ℕ → Tree → Type 0
+KeepsAbove old boundary new = (address : ℕ) → boundary ≤ address → value_at new address ≡ value_at old address
+
+-- The addresses below a boundary have the values of one tree, those from it on those of another.
+abbrev pub Joins : Tree → ℕ → Tree → Tree → Type 0
+Joins below boundary above joined = (address : ℕ) → value_at joined address ≡
+    (if nat_lt address boundary then value_at below address else value_at above address)
+
+-- The addresses of a range have a value, the others have the same values.
+abbrev pub SetsRange : AddressRange → Option ℕ → Tree → Tree → Type 0
+SetsRange range value old new = (address : ℕ) → address < 2 ^ 64 → value_at new address ≡
+    (if is_within range address then value else value_at old address)
 
 -- The value of an address.
 abbrev pub value_of : RangeMap → ℕ → Option ℕ
-value_of map address = value_at 0 (2 ^ 64 - 1) map.tree address
+value_of map address = value_at map.tree address

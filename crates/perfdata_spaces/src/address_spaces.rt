@@ -17,6 +17,27 @@ use perfdata_events::event::EventRecord;
 use std::alloc::{AllocError, Global};
 
 /// What is mapped in each process and in the kernel, and the names of threads.
+///
+/// ```
+/// use perfdata_events::call_chain::CallContext;
+/// use perfdata_events::event::EventRecord;
+/// use perfdata_spaces::address_spaces::AddressSpaces;
+/// use std::alloc::{AllocError, Global};
+///
+/// fn offset_in_file(
+///     alloc: Global,
+///     records: &[(u16, EventRecord<'_>)],
+///     pid: i32,
+///     address: u64,
+/// ) -> Result<Option<u64>, AllocError> {
+///     let mut spaces = AddressSpaces::new(alloc);
+///     for (misc, record) in records {
+///         spaces.apply(*misc, record)?;
+///     }
+///     let mapping = spaces.find(pid, address, CallContext::User);
+///     Ok(mapping.map(|mapping| mapping.offset_of(address)))
+/// }
+/// ```
 #[derive(Drop)]
 pub struct AddressSpaces {
     spaces: Spaces,

@@ -15,6 +15,23 @@ use std::alloc::{AllocError, Global};
 /// The order of the pushes is the order of preference, so a reader pushes first what it prefers least. A
 /// push costs amortized logarithmic time. A search costs logarithmic time after `compact`, and the square of
 /// the logarithm otherwise, however many symbols contain one another.
+///
+/// ```
+/// use perfdata_symbols::symbol::Symbol;
+/// use perfdata_symbols::table::SymbolTable;
+/// use std::alloc::{AllocError, Global};
+///
+/// fn is_in_main(alloc: Global, address: u64) -> Result<bool, AllocError> {
+///     let mut table = SymbolTable::new(alloc, b"main".to_vec(alloc)?);
+///     table.push(Symbol {
+///         start: 0x1000,
+///         size: 32,
+///         name_start: 0,
+///         name_end: 4,
+///     })?;
+///     Ok(table.find_name(address) == Some(b"main"))
+/// }
+/// ```
 #[derive(Drop)]
 pub struct SymbolTable {
     alloc: Global,

@@ -1,12 +1,12 @@
 //! Prints the events: the fields of their attributes and the counts of their records.
 use crate::escape::Escaped;
-use crate::names::{ATTR_FLAGS, BitNames, READ_FORMAT, SAMPLE_FORMAT, event_type_name};
+use crate::names::{FlagNames, event_type_name};
 use crate::records::{EventCounts, RecordCounts};
 use crate::report::{Report, Spaced};
 use bitflags::Flags;
 use linux_perf_data::attr::PerfEventAttr;
 use linux_perf_data::{AttributeDescription, PerfFile};
-use perfdata_events::bits::EventFlags;
+use perfdata_events::bits::{EventFlags, ReadFields, SampleFields};
 use std::fmt;
 use std::fmt::{Display, Write};
 
@@ -38,23 +38,28 @@ fn show_attr(attr: &PerfEventAttr, report: &mut Report) {
     report.number_detail("type number", attr.type_ as u64);
     report.number_detail("config", attr.config);
     report.number_detail(period_name(attr), attr.period_or_freq);
-    show_bits("sample format", attr.sample_format.0, SAMPLE_FORMAT, report);
-    show_bits("read format", attr.read_format, READ_FORMAT, report);
-    show_bits("flags", attr.flags.0, ATTR_FLAGS, report);
+    show_flags(
+        "sample format",
+        SampleFields(attr.sample_format.0),
+        false,
+        report,
+    );
+    show_flags("read format", ReadFields(attr.read_format), false, report);
+    show_flags("flags", EventFlags(attr.flags.0), true, report);
 }
 
 // Returns the name of `period_or_freq`.
 fn period_name(attr: &PerfEventAttr) -> &'static str {
-    if EventFlags::from_bits_retain(attr.flags.0).contains(EventFlags::FREQ) {
+    if EventFlags(attr.flags.0).contains(EventFlags::FREQ) {
         "frequency"
     } else {
         "period"
     }
 }
 
-// Writes a field of an attribute that consists of bits with these names.
-fn show_bits(field: &str, bits: u64, names: &'static [&'static str], report: &mut Report) {
-    report.detail(field, BitNames { bits, names });
+// Writes a field of an attribute that consists of flags.
+fn show_flags<F: Flags<Bits = u64>>(field: &str, flags: F, is_lower: bool, report: &mut Report) {
+    report.detail(field, FlagNames { flags, is_lower });
 }
 
 // Displays the number of ids and then each id.

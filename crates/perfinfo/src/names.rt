@@ -1,6 +1,8 @@
 //! The names of Linux constants.
+use bitflags::Flags;
 use linux_perf_data::event::RecordType;
 use std::fmt;
+use std::fmt::Write;
 
 /// Returns the name of a clock of `clock_gettime`.
 pub(crate) fn clock_name(number: u32) -> &'static str {
@@ -27,104 +29,59 @@ pub(crate) fn event_type_name(number: u32) -> &'static str {
     }
 }
 
-/// Names of the sample format's bits, from the lowest (`perf_event_sample_format`).
-pub const SAMPLE_FORMAT: &[&str] = &[
-    "IP",
-    "TID",
-    "TIME",
-    "ADDR",
-    "READ",
-    "CALLCHAIN",
-    "ID",
-    "CPU",
-    "PERIOD",
-    "STREAM_ID",
-    "RAW",
-    "BRANCH_STACK",
-    "REGS_USER",
-    "STACK_USER",
-    "WEIGHT",
-    "DATA_SRC",
-    "IDENTIFIER",
-    "TRANSACTION",
-    "REGS_INTR",
-    "PHYS_ADDR",
-    "AUX",
-    "CGROUP",
-    "DATA_PAGE_SIZE",
-    "CODE_PAGE_SIZE",
-    "WEIGHT_STRUCT",
-];
-
-/// Names of an attribute's flags, from the lowest (`perf_event_attr`). `precise_ip` has two bits.
-pub const ATTR_FLAGS: &[&str] = &[
-    "disabled",
-    "inherit",
-    "pinned",
-    "exclusive",
-    "exclude_user",
-    "exclude_kernel",
-    "exclude_hv",
-    "exclude_idle",
-    "mmap",
-    "comm",
-    "freq",
-    "inherit_stat",
-    "enable_on_exec",
-    "task",
-    "watermark",
-    "precise_ip_1",
-    "precise_ip_2",
-    "mmap_data",
-    "sample_id_all",
-    "exclude_host",
-    "exclude_guest",
-    "exclude_callchain_kernel",
-    "exclude_callchain_user",
-    "mmap2",
-    "comm_exec",
-    "use_clockid",
-    "context_switch",
-    "write_backward",
-    "namespaces",
-    "ksymbol",
-    "bpf_event",
-    "aux_output",
-    "cgroup",
-    "text_poke",
-    "build_id",
-    "inherit_thread",
-    "remove_on_exec",
-    "sigtrap",
-];
-
-/// Names of the read format's bits, from the lowest (`perf_event_read_format`).
-pub const READ_FORMAT: &[&str] = &[
-    "TOTAL_TIME_ENABLED",
-    "TOTAL_TIME_RUNNING",
-    "ID",
-    "GROUP",
-    "LOST",
-];
-
-/// Displays a number in hexadecimal and the names of its set bits, from the lowest.
+/// Displays flags in hexadecimal and the names of those that are set, in lower case if `is_lower`. A flag of
+/// several bits has a number for each.
 #[derive(Clone, Copy)]
-pub struct BitNames {
-    /// The number.
-    pub bits: u64,
-    /// The names of the bits from the lowest.
-    pub names: &'static [&'static str],
+pub struct FlagNames<F> {
+    /// The flags.
+    pub flags: F,
+    /// Whether the names are in lower case.
+    pub is_lower: bool,
 }
 
-impl fmt::Display for BitNames {
+impl<F: Flags<Bits = u64>> fmt::Display for FlagNames<F> {
     fn fmt<W: fmt::Write>(&self, f: &mut fmt::Formatter<W>) -> fmt::Result {
-        write!(f, "{:#x}", self.bits)?;
-        let mut remaining = self.bits;
-        for name in self.names {
-            if remaining % 2 == 1 {
-                write!(f, " {name}")?;
+        let set = self.flags.bits();
+        write!(f, "{set:#x}")?;
+        for flag in F::flags() {
+            let bits = flag.value().bits();
+            write_flag(f, Name(flag.name(), self.is_lower), bits, set)?;
+        }
+        Ok(())
+    }
+}
+
+// Writes the name of a flag for each of its bits that is set.
+fn write_flag<W: fmt::Write>(
+    f: &mut fmt::Formatter<W>,
+    name: Name<'_>,
+    bits: u64,
+    set: u64,
+) -> fmt::Result {
+    let first = bits.trailing_zeros();
+    for at in 0..bits.count_ones() {
+        if set.unbounded_shr(first.saturating_add(at)) % 2 == 1 {
+            write!(f, " {name}")?;
+            if bits.count_ones() > 1 {
+                write!(f, "_{}", at.saturating_add(1))?;
             }
-            remaining /= 2;
+        }
+    }
+    Ok(())
+}
+
+// The name of a flag, in lower case if so.
+#[derive(Clone, Copy)]
+struct Name<'a>(&'a str, bool);
+
+impl fmt::Display for Name<'_> {
+    fn fmt<W: fmt::Write>(&self, f: &mut fmt::Formatter<W>) -> fmt::Result {
+        for character in self.0.chars() {
+            f.write_char(if self.1 {
+                character.to_ascii_lowercase()
+            } else {
+                character
+            })?;
         }
         Ok(())
     }

@@ -53,7 +53,7 @@ fn frame_address(encoding: Encoding, bytes: &[u8], address: u64) -> Option<u64> 
     if encoding.is_64_bit {
         Some(found)
     } else {
-        Some(found % (1 << 32))
+        Some(found % 0x1_0000_0000)
     }
 }
 

@@ -167,9 +167,9 @@ fn relocation_of(machine: u16, entry: Entry<'_>) -> Relocation
 {
     let info = entry.word(4, 8);
     let (symbol, relocation_type) = if entry.encoding.is_64_bit {
-        (info >> 32, info % (1 << 32))
+        (info >> 32, info % 0x1_0000_0000)
     } else {
-        (info >> 8, info % (1 << 8))
+        (info >> 8, info % 0x100)
     };
     Relocation {
         offset: entry.word(0, 0),

@@ -1,0 +1,64 @@
+//! The functions that the documentation of types shows, run on the perf.data files in its arguments.
+#![tactic(auto)]
+
+mod address_spaces;
+mod ordered_records;
+mod reading;
+mod symbol_table;
+
+use linux_perf_data::source::Counted;
+use linux_perf_data::{PerfFileReader, PerfFileRecord};
+use std::env;
+use std::fs::File;
+use std::io::{BufReader, Read};
+
+// Prints the type of the last record of a file.
+fn print_last_type(rt: &HostRuntime, path: &str) -> anyhow::Result<()> {
+    let mut bytes = Vec::new(rt.alloc());
+    File::open(rt, path)?.read_to_end(&mut bytes)?;
+    match reading::last_record(rt.alloc(), &bytes)? {
+        Some(PerfFileRecord::EventRecord { event, .. }) => {
+            println!(rt; "last record: type {}", event.record_type.0)?
+        }
+        Some(PerfFileRecord::UserRecord(record)) => {
+            println!(rt; "last record: {:?}", record.record_type)?
+        }
+        None => println!(rt; "no record")?,
+    }
+    Ok(())
+}
+
+// Prints the longest time between two records of a file.
+fn print_longest_pause(rt: &HostRuntime, path: &str) -> anyhow::Result<()> {
+    let file = BufReader::new(rt.alloc(), File::open(rt, path)?)?;
+    let reader = PerfFileReader::parse_file(rt.alloc(), Counted::new(file))?;
+    let pause = ordered_records::longest_pause(rt.alloc(), reader)?;
+    println!(rt; "longest pause: {pause} ns")?;
+    Ok(())
+}
+
+// Prints the offset in a file of an address of process 7.
+fn print_offset(rt: &HostRuntime, address: u64) -> anyhow::Result<()> {
+    let records = [(0, address_spaces::mapping())];
+    match address_spaces::offset_in_file(rt.alloc(), &records, 7, address)? {
+        Some(offset) => println!(rt; "{address:#x} at offset {offset:#x} of its file")?,
+        None => println!(rt; "{address:#x} in no file")?,
+    }
+    Ok(())
+}
+
+fn main(rt: HostRuntime) -> anyhow::Result<()> {
+    for path in env::args(&rt)?.skip(1) {
+        reading::print_types(&rt, path.as_str())?;
+        print_last_type(&rt, path.as_str())?;
+        print_longest_pause(&rt, path.as_str())?;
+    }
+    for address in [0xfff, 0x1000, 0x101f, 0x1020] {
+        let is_in_main = symbol_table::is_in_main(rt.alloc(), address)?;
+        println!(rt; "{address:#x} in main: {is_in_main}")?;
+    }
+    for address in [0x40_0123, 0x40_1000] {
+        print_offset(&rt, address)?;
+    }
+    Ok(())
+}
