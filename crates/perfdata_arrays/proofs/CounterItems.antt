@@ -1,5 +1,5 @@
 -- The counters that records add are determined by the records.
-use Rattle.std.proofs.Common.{◌≡◌, ℕ, zero, suc, ◌+◌, ◌-◌, ◌*◌, ◌/◌, ◌++◌, List, [], ◌∷◌, length, refl, ap, Option, None, Some}
+use Rattle.std.proofs.Common.{◌≡◌, ℕ, zero, suc, ◌+◌, ◌-◌, ◌*◌, ◌/◌, ◌++◌, false, List, [], ◌∷◌, length, refl, ap, Option, None, Some}
 use Rattle.std.specs.Prelude.{slice_index, if◌then◌else◌}
 use Rattle.std.specs.Option.{option_map, unwrap_or}
 use Rattle.perfdata_base.specs.declared.event.RawEventRecord.{RawEventRecord}
@@ -73,4 +73,4 @@ counters_by_view envelope raw (Sample v) = by_values envelope.offset v.values
 counters_by_view envelope raw _ = refl
 
 pub counter_laws : KindLaws counter_kind
-counter_laws = event_laws is_counter_type event_counters false (has_unique_entries is_counter_type event_counters counters_of_view counters_by_view) (λ is envelope e. absurd is)
+counter_laws = event_laws is_counter_type event_counters false (has_unique_entries is_counter_type event_counters counters_of_view counters_by_view) (λ is envelope e. absurd cc)

@@ -166,8 +166,7 @@ module _ {A B : Type 0} (kind : EntryKind A B) (laws : KindLaws kind) where
 
     -- no frames without entries
     no_frames : length s ≡ 0 → length f ≡ 0
-    no_frames none = ap length (no_seconds_from of_page (endian_of_file page.page.file) (attributes_of_file page.page.file) page.base 0 page.records f
-    (subst (λ l. ItemsFrom of_page (endian_of_file page.page.file) (attributes_of_file page.page.file) page.base 0 page.records l f) (nil_from_length s none) page_items))
+    no_frames none = ap length (no_seconds_from of_page (endian_of_file page.page.file) (attributes_of_file page.page.file) page.base 0 page.records f (subst (λ l. ItemsFrom of_page (endian_of_file page.page.file) (attributes_of_file page.page.file) page.base 0 page.records l f) (nil_from_length s none) page_items))
 
     -- the numbers that it writes, by its status
     abbrev WritesNumbers : Type 0

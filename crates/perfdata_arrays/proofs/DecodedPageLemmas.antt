@@ -1,5 +1,6 @@
 -- A page of entries and frames, and those of a pipe.
-use Rattle.std.proofs.Common.{◌≡◌, ◌⊎◌, ℕ, zero, suc, ◌+◌, ◌++◌, true, false, List, [], ◌∷◌, length, refl, sym, ap, ◌∙◌, subst, inl, inr, arith, length-append, None, Result, Ok, Err, nat_tests}
+use Rattle.std.proofs.Common.{◌≡◌, ◌⊎◌, ℕ, zero, suc, ◌+◌, ◌++◌, true, false, List, [], ◌∷◌, length, refl, sym, ap, ◌∙◌, subst, inl, inr, arith, length-append, None, Result, Ok, Err}
+use Rattle.std.proofs.lemmas.Bool.Decides.{nat_tests}
 use Rattle.std.specs.Prelude.{◌==◌, ◌-◌, if◌then◌else◌}
 use Rattle.std.specs.List.{concat}
 use Rattle.std.proofs.lemmas.List.{append_cancel_right}
@@ -16,7 +17,7 @@ use Rattle.linux_perf_data.specs.declared.in_memory.InMemoryReader.{InMemoryRead
 use Rattle.linux_perf_data.specs.declared.in_memory.InMemoryRecords.{InMemoryRecords}
 use Rattle.linux_perf_data.specs.declared.in_memory.position.RecordPosition.{RecordPosition}
 use Rattle.linux_perf_data.specs.declared.perf_file.PerfFile.{PerfFile}
-use Rattle.perfdata_arrays.proofs.PageLemmas.{first_at, header_of, page_of, page_to_end, unchanged}
+use Rattle.perfdata_arrays.proofs.PageLemmas.{first_at, header_of, page_of, page_to_end, same_attributes}
 use Rattle.perfdata_arrays.proofs.PipeRecordsLemmas.{PipeEnds, pipe_ends}
 use Rattle.perfdata_arrays.proofs.WalkLemmas.{streams_records}
 use Rattle.perfdata_arrays.specs.DecodedPages.{DecodesRecords, EndsWalk, IsDecodedPage, IsDecodedPipe, ReadsDecodedPage, ReadsDecodedPipe, RecordsEnd, ReportsNoSpace, attributes_after, page_result, result_of_end}
@@ -67,7 +68,7 @@ module _ {A B : Type 0} (kind : EntryKind A B) where
     module _ (capacity frames_capacity : ℕ) (records : List RecordView) (now : InMemoryRecords) (now_file : PerfFile) (all : ReturnsRecordsInMemory reader.records file records now now_file) (own : List A) (own_frames : List B)
         (are : AreEntriesOf (kind.Adds (wants_frames frames_capacity)) (endian_of_file file) (attributes_after reader.records file) first records own own_frames) (new : InMemoryRecords) (file' : PerfFile) where
       here : AreEntriesOf (kind.Adds (wants_frames frames_capacity)) (endian_of_file file) (λ _. attributes_of_file file) first records own own_frames
-      here = subst (λ f. AreEntriesOf (kind.Adds (wants_frames frames_capacity)) (endian_of_file file) f first records own own_frames) (λ i. λ before. unchanged bytes from reader parsed before i) are
+      here = subst (λ f. AreEntriesOf (kind.Adds (wants_frames frames_capacity)) (endian_of_file file) f first records own own_frames) (λ i. λ before. same_attributes bytes from reader parsed before i) are
 
       -- where another record follows, the first one is at the start of the data section
       next_at_base : (next : RecordView) → ReturnsRecordsInMemory reader.records file (records ++ next ∷ []) new file' → first ≡ base
@@ -106,7 +107,7 @@ module _ {A B : Type 0} (kind : EntryKind A B) where
             own = f.own;
             own_frames = f.own_frames;
             adds = subst (λ n. kind.Adds (wants_frames frames_capacity) (endian_of_file file) (attributes_of_file file) n (length own_frames) f.next f.own f.own_frames) (next_at_base f.next f.returned)
-                (subst (λ l. kind.Adds (wants_frames frames_capacity) (endian_of_file file) l first (length own_frames) f.next f.own f.own_frames) (unchanged bytes from reader parsed (records ++ f.next ∷ [])) f.adds);
+                (subst (λ l. kind.Adds (wants_frames frames_capacity) (endian_of_file file) l first (length own_frames) f.next f.own f.own_frames) (same_attributes bytes from reader parsed (records ++ f.next ∷ [])) f.adds);
             exceeds = f.exceeds;
             after = position_of new;
             follows = page_of bytes from reader parsed (records ++ f.next ∷ []) new file' f.returned (length records + 1) Success (inl (refl, length-append records (f.next ∷ [])));
@@ -180,7 +181,7 @@ module _ {A B : Type 0} (kind : EntryKind A B) where
 
       ends_with : (end : PageEnd) → EndsWalk kind true reader.records pipe_file w.records (length entries) (length frames) (length w.own) (length w.own_frames) w.input_at_end w.file_at_end end new file' → (r : Result (Unit {0}) Error) × (end ≡ Records r) × EndsWith r
       ends_with Full (page, _) = absurd cc
-      ends_with (Exceeded needed) (page, _) = absurd cc
+      ends_with (Exceeded needed) (page, _, _) = absurd cc
       ends_with (Records r) e = (r, refl, e)
 
       module _ (r : Result (Unit {0}) Error) (e : EndsWith r) where

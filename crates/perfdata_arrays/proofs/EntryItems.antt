@@ -1,6 +1,6 @@
 -- The entries that records add are determined by the records.
 use Rattle.std.proofs.Common.{◌≡◌, ◌⊎◌, ℕ, ◌+◌, ◌≤◌, Bool, true, false, List, [], ◌∷◌, length, refl, sym, ap, ◌∙◌, subst, inl, inr, arith, Option, None, Some}
-use Rattle.std.specs.Prelude.{IsTrue, map, pos, min, replicate}
+use Rattle.std.specs.Prelude.{map, pos, min, replicate}
 use Rattle.perfdata_base.specs.Raw.{bytes_of}
 use Rattle.perfdata_base.specs.declared.event.RawEventRecord.{RawEventRecord}
 use Rattle.perfdata_base.specs.declared.raw.Endianness.{Endianness}
@@ -71,9 +71,9 @@ module _ {E : Type 0} (has_type : ℕ → Bool) (entries_of : EntryEnvelope → 
 
 -- ---- kinds of entries
 
-module _ {E : Type 0} (has_type : ℕ → Bool) (entries_of : EntryEnvelope → EventRecord → List E) (is_single : Bool) (unique : IsUnique (HasEntries has_type entries_of)) (single : IsTrue is_single → (envelope : EntryEnvelope) (e : EventRecord) → length (entries_of envelope e) ≤ 1) where
+module _ {E : Type 0} (has_type : ℕ → Bool) (entries_of : EntryEnvelope → EventRecord → List E) (is_single : Bool) (unique : IsUnique (HasEntries has_type entries_of)) (single : is_single ≡ true → (envelope : EntryEnvelope) (e : EventRecord) → length (entries_of envelope e) ≤ 1) where
   -- a record of such a kind has one entry at most
-  one_at_most : IsTrue is_single → (order : Endianness) (attrs : List Attribute) (base : ℕ) (h : RecordView) (s : List E) → HasEntries has_type entries_of order attrs base h s → length s ≤ 1
+  one_at_most : is_single ≡ true → (order : Endianness) (attrs : List Attribute) (base : ℕ) (h : RecordView) (s : List E) → HasEntries has_type entries_of order attrs base h s → length s ≤ 1
   one_at_most is order attrs base h s (inl p) = (let few = single is (entry_envelope base h) p.1.parsed in omega (arith, few, ap length p.1.entries_are))
   one_at_most is order attrs base h s (inr q) = (let none = ap length q.0 in omega (arith, none))
 

@@ -18,7 +18,6 @@ use Rattle.perfdata_arrays.specs.declared.status.Status.{Status}
 use Rattle.perfdata_arrays.specs.declared.status.Status.TheVariants.{NoSpace, OutOfMemory, Success}
 use Rattle.perfdata_arrays.proofs.PageItems.{AllItems, ItemsUpTo, all_items_join, at_most_all, items_join, of_fewer_records, same_end, same_items}
 use Rattle.perfdata_arrays.proofs.RecordItems.{ItemKind, ItemsFrom, joined, no_seconds_from, unshifted_all}
-use Rattle.perfdata_arrays.specs.declared.status.X
 
 -- ---- a file that doesn't open
 

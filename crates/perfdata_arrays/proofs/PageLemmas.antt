@@ -202,7 +202,7 @@ module _ (bytes : List ℕ) (from : RecordPosition) where
     abbrev pub header_of : PerfHeader
     header_of = parsed.0.header
 
-    at : IsAtPosition bytes from header_of file it
+    pub at : IsAtPosition bytes from header_of file it
     at = parsed.0.at_position
 
     abbrev base : ℕ
@@ -222,11 +222,11 @@ module _ (bytes : List ℕ) (from : RecordPosition) where
         inr (omega (arith, ap length same, length-drop (first + it.offset) (input_of reader.records), length-drop (base + from.offset) bytes, ap length parsed.1, start, long, length-append step.markers one, length-append step.header_bytes h.body, eight))
 
     -- late metadata don't add attributes in a file
-    pub unchanged : (records : List RecordView) → attributes_of_file file ++ attributes_in_views it.endian (section_size_of memory_state it) records ≡ attributes_of_file file
-    unchanged records = ap (λ l. attributes_of_file file ++ l) (no_attributes it.endian (section_size_of memory_state it) header_of.data_section.size records at.section_size) ∙ append-nil (attributes_of_file file)
+    pub same_attributes : (records : List RecordView) → attributes_of_file file ++ attributes_in_views it.endian (section_size_of memory_state it) records ≡ attributes_of_file file
+    same_attributes records = ap (λ l. attributes_of_file file ++ l) (no_attributes it.endian (section_size_of memory_state it) header_of.data_section.size records at.section_size) ∙ append-nil (attributes_of_file file)
 
     module _ (records : List RecordView) (now : InMemoryRecords) (now_file : PerfFile) (all : ReturnsRecordsInMemory reader.records file records now now_file) where
-      streamed : (buffer : Vec ℕ Global) × ReturnsRecords memory_state it file records (with_buffer now.records buffer) now_file
+      pub streamed : (buffer : Vec ℕ Global) × ReturnsRecords memory_state it file records (with_buffer now.records buffer) now_file
       streamed = same_records reader.records now file now_file records all
 
       abbrev streaming : MemoryIter

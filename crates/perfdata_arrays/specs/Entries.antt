@@ -1,5 +1,5 @@
 -- The entries of the records of one kind, as plain numbers.
-use Rattle.std.specs.Prelude.{◌≡◌, ◌⊎◌, ℕ, ◌+◌, ◌<◌, ◌≤◌, Bool, true, false, IsTrue, List, [], ◌∷◌, length, Option, None, Some, Result, Ok, Err}
+use Rattle.std.specs.Prelude.{◌≡◌, ◌⊎◌, ℕ, ◌+◌, ◌<◌, ◌≤◌, Bool, true, false, List, [], ◌∷◌, length, Option, None, Some, Result, Ok, Err}
 use Rattle.std.specs.declared.io.ErrorKind.{ErrorKind}
 use Rattle.perfdata_base.specs.Raw.{bytes_of}
 use Rattle.perfdata_base.specs.declared.event.RawEventRecord.{RawEventRecord}
@@ -69,7 +69,7 @@ abbrev pub event_kind : {E : Type 0} → (ℕ → Bool) → (EntryEnvelope → E
 event_kind has_type entries_of is_single = record {
   Adds = λ wants order attrs base used h entries frames. HasEntries has_type entries_of order attrs base h entries × (frames ≡ []);
   Exceeds = λ capacity frames_capacity count used entries frames needed. (needed.entries ≡ length entries) × (needed.frames ≡ 0) × (capacity < count + length entries);
-  AlwaysFits = λ frames_capacity. IsTrue is_single;
+  AlwaysFits = λ frames_capacity. is_single ≡ true;
   after_frames = λ count entry. entry;
 }
 

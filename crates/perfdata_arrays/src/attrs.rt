@@ -226,7 +226,7 @@ fn attrs_of(
     names: &mut [u8],
     ids: &mut [u64],
 ) -> AttrsResult
-    ensures { ReadsAttrs read.entry entries.old names.old ids.old result entries.new names.new ids.new }
+    ensures { ReadsAttrs read entries.old names.old ids.old result entries.new names.new ids.new }
 {
     match read {
         Ok(metadata) => write_attrs(

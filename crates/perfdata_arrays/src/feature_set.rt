@@ -60,7 +60,7 @@ fn no_features(status: Status) -> FeaturesResult
 
 // The features of a recording that was read.
 fn features_of(read: Result<Metadata, Status>) -> FeaturesResult
-    ensures { ReadsFeatures read.entry result }
+    ensures { ReadsFeatures read result }
 {
     match read {
         Ok(metadata) => FeaturesResult {

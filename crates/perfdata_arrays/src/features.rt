@@ -45,7 +45,7 @@ fn copy_feature(perf_file: &PerfFile, feature: u32, buf: &mut [u8], status: Stat
 
 // Copies the bytes of a feature of a recording that was read into `buf`, up to its capacity.
 fn feature_of(read: Result<Metadata, Status>, feature: u32, buf: &mut [u8]) -> FeatureResult
-    ensures { ReadsFeature read.entry feature buf.old result buf.new }
+    ensures { ReadsFeature read feature buf.old result buf.new }
 {
     match read {
         Ok(metadata) => copy_feature(&metadata.perf_file, feature, buf, metadata.status),

@@ -8,8 +8,8 @@ use Rattle.perfdata_arrays.proofs.pages.decode_records.Goals as goal
 pub records-init : goal.records-init
 records-init g c = record { so_far = none_so_far g.D.RecordDecoder.kind c.args.counts_all c.args.input.now c.args.perf_file.now c.args.entries.now c.args.frames.now }
 
-pub decode-requires-in_range : goal.decode-requires-in_range
-decode-requires-in_range g c =
+pub decode-requires-clause-in_range : goal.decode-requires-clause-in_range
+decode-requires-clause-in_range g c =
     let step = rw (c.in-Ok-Some.is ∙ ap Ok c.in-Ok-Some.field-0-is) at c.next_record.ensures.returns_next in
     let within = step.in_input.ends_in_input in
     let fits = c.next_record.ensures.input_len_fits in
@@ -66,7 +66,7 @@ returns-in-Ok-None g c =
     let same = same_length g.D.RecordDecoder.kind c.args.counts_all c.args.input.now c.args.perf_file.now c.args.entries.now c.args.frames.now c.records.count c.records.used c.records.input c.records.perf_file c.records.entries c.records.frames c.records.invariant.so_far in
     let so_far = c.records.invariant.so_far in
     let counted = so_far.count_is in
-    decodes_records g.D.RecordDecoder.kind c.args.counts_all c.args.input.now c.args.perf_file.now c.args.entries.now c.args.frames.now c.records.count c.records.used c.records.input c.records.perf_file c.records.entries c.records.frames c.records.invariant.so_far c.next_record.new.self c.next_record.new.perf_file c.records.entries c.records.frames c.position-next.result (Records (Ok tt)) c.walk_end.result c.walk_end.ensures c.position-next.ensures refl refl
+    decodes_records g.D.RecordDecoder.kind c.args.counts_all c.args.input.now c.args.perf_file.now c.args.entries.now c.args.frames.now c.records.count c.records.used c.records.input c.records.perf_file c.records.entries c.records.frames c.records.invariant.so_far c.next_record.new.self c.next_record.new.perf_file c.records.entries c.records.frames c.position-next.result (Records (Ok tt)) c.walk_end-in-Ok-None.result c.walk_end-in-Ok-None.ensures c.position-next.ensures refl refl
     record {
       fewer = λ page. (let free = c.reads_more.ensures.more c.records-test.true page in omega (arith, free, same, counted));
       ends = ended;
@@ -81,7 +81,7 @@ returns-in-Err g c =
     let same = same_length g.D.RecordDecoder.kind c.args.counts_all c.args.input.now c.args.perf_file.now c.args.entries.now c.args.frames.now c.records.count c.records.used c.records.input c.records.perf_file c.records.entries c.records.frames c.records.invariant.so_far in
     let so_far = c.records.invariant.so_far in
     let counted = so_far.count_is in
-    decodes_records g.D.RecordDecoder.kind c.args.counts_all c.args.input.now c.args.perf_file.now c.args.entries.now c.args.frames.now c.records.count c.records.used c.records.input c.records.perf_file c.records.entries c.records.frames c.records.invariant.so_far c.next_record.new.self c.next_record.new.perf_file c.records.entries c.records.frames c.position-next.result (Records (Err c.in-Err.error)) c.walk_end.result c.walk_end.ensures c.position-next.ensures refl refl
+    decodes_records g.D.RecordDecoder.kind c.args.counts_all c.args.input.now c.args.perf_file.now c.args.entries.now c.args.frames.now c.records.count c.records.used c.records.input c.records.perf_file c.records.entries c.records.frames c.records.invariant.so_far c.next_record.new.self c.next_record.new.perf_file c.records.entries c.records.frames c.position-next.result (Records (Err c.in-Err.error)) c.walk_end-in-Err.result c.walk_end-in-Err.ensures c.position-next.ensures refl refl
     record {
       fewer = λ page. (let free = c.reads_more.ensures.more c.records-test.true page in omega (arith, free, same, counted));
       ends = failed;
@@ -98,4 +98,4 @@ returns g c =
     let page = c.reads_more.ensures.full c.records-test.false in
     let full = c.reads_more.ensures.at_capacity c.records-test.false in
     let fits = (so_far.fits page).0 in
-    decodes_records g.D.RecordDecoder.kind c.args.counts_all c.args.input.now c.args.perf_file.now c.args.entries.now c.args.frames.now c.records.count c.records.used c.records.input c.records.perf_file c.records.entries c.records.frames c.records.invariant.so_far c.records.input c.records.perf_file c.records.entries c.records.frames c.position.result Full c.walk_end.result c.walk_end.ensures c.position.ensures refl refl (page, omega (arith, full, same, fits, counted))
+    decodes_records g.D.RecordDecoder.kind c.args.counts_all c.args.input.now c.args.perf_file.now c.args.entries.now c.args.frames.now c.records.count c.records.used c.records.input c.records.perf_file c.records.entries c.records.frames c.records.invariant.so_far c.records.input c.records.perf_file c.records.entries c.records.frames c.position.result Full c.walk_end-2.result c.walk_end-2.ensures c.position.ensures refl refl (page, omega (arith, full, same, fits, counted))

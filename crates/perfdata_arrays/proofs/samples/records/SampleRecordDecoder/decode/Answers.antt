@@ -6,9 +6,9 @@ use Rattle.perfdata_arrays.specs.Decoding.{wants}
 use Rattle.perfdata_arrays.specs.SampleRecords.{sample_kind}
 use Rattle.perfdata_arrays.proofs.samples.records.SampleRecordDecoder.decode.Goals as goal
 
-pub returns-in-None : goal.returns-in-None
-returns-in-None c =
-    adds_nothing sample_kind c.args.counts_all (endian_of_file c.args.perf_file.now) (attributes_of_file c.args.perf_file.now) c.args._base (record_view_of c.args.place c.args.record.now) c.args.count c.args.used c.args.samples.now c.args.frames.now c.requires.free c.requires.within (c.in-None.ensures c.args.place, refl)
+pub returns-in_default : goal.returns-in_default
+returns-in_default c =
+    adds_nothing sample_kind c.args.counts_all (endian_of_file c.args.perf_file.now) (attributes_of_file c.args.perf_file.now) c.args._base (record_view_of c.args.place c.args.record.now) c.args.count c.args.used c.args.samples.now c.args.frames.now c.requires.free c.requires.within (c.in_default.ensures c.args.place, refl)
 
 pub returns-in-Ok : goal.returns-in-Ok
 returns-in-Ok c =
