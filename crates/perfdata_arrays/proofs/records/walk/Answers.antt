@@ -1,4 +1,4 @@
-use Rattle.std.proofs.Common.{arith, Ok, [], ◌∷◌, ◌++◌, ◌+◌, ◌<◌, length, refl, ap, ◌∙◌, sym}
+use Rattle.std.proofs.Common.{arith, Ok, [], ◌∷◌, ◌++◌, ap, ◌∙◌, sym}
 use Rattle.std.proofs.lemmas.List.{length-map}
 use Rattle.linux_perf_data.specs.InMemoryReading.{first_record_offset_of}
 use Rattle.linux_perf_data.specs.RecordEntries.{record_entries_at, record_entry_at}

@@ -1,7 +1,6 @@
-use Rattle.std.proofs.Common.{ℕ, ◌+◌, sym, ap, ◌∙◌, refl, inl, inr, None, Some}
+use Rattle.std.proofs.Common.{ℕ, ◌+◌, sym, ap, ◌∙◌, refl, inl, inr}
 use Rattle.std.specs.IoError.{error_kind}
 use Rattle.linux_perf_data.specs.PerfFile.{attributes_of_file, endian_of_file}
-use Rattle.linux_perf_data.specs.RecordViews.{record_view_of}
 use Rattle.perfdata_arrays.proofs.RecordLemmas.{adds_nothing, decodes_entries, unwrap_zero}
 use Rattle.perfdata_arrays.specs.Entries.{event_kind}
 use Rattle.perfdata_arrays.proofs.event_entries.EventEntriesRecordDecoder.decode.Goals as goal
