@@ -1,38 +1,36 @@
-//! C exports of the calls of `perfdata_arrays`, `perfdata_samples`, `perfdata_stack_arrays` and
-//! `perfdata_demangle`; `include/dewikura.h` declares them.
+//! C exports of the calls of `perfdata_arrays`, `perfdata_stack_arrays` and `perfdata_demangle`;
+//! `include/dewikura.h` declares them.
 //!
 //! The names end in `_raw` where a call takes pointers: no pointer may be NULL. The functions of the header
 //! that have the names without `_raw` accept NULL.
 #![tactic(auto)]
 
-ghost use Rattle.std.specs.Prelude.{◌≡◌, ◌<◌, ◌-◌, ◌++◌, ◌∷◌, [], length, take};
+ghost use Rattle.std.specs.Prelude.{◌≡◌, ℕ, ◌<◌, ◌-◌, ◌++◌, ◌∷◌, [], length, take};
 ghost use Rattle.std.specs.Bool.{nat_eq};
 ghost use Rattle.std.specs.List.{starts_with};
 ghost use Rattle.perfdata_base.specs.declared.raw.Endianness.TheVariants.{BigEndian};
 ghost use Rattle.perfdata_base.specs.Header.{magic_of};
 ghost use Rattle.perfdata_arrays.specs.Attrs.{ReadsFileAttrs, ReadsPipeAttrs};
 ghost use Rattle.perfdata_arrays.specs.BuildIds.{ReadsBuildId};
+ghost use Rattle.perfdata_arrays.specs.Counters.{ReadsCounterPage, ReadsPipeCounters};
+ghost use Rattle.perfdata_arrays.specs.Details.{ReadsDetails, format_of_attr};
 ghost use Rattle.perfdata_arrays.specs.FeatureSets.{ReadsFileFeatures, ReadsPipeFeatures};
 ghost use Rattle.perfdata_arrays.specs.Features.{ReadsFileFeature, ReadsPipeFeature};
 ghost use Rattle.perfdata_arrays.specs.Jit.{ReadsJitHeader, ReadsJitRecords, ReadsJitLoad};
 ghost use Rattle.perfdata_arrays.specs.JitBodies.{ReadsJitMove, ReadsJitUnwinding};
 ghost use Rattle.perfdata_arrays.specs.JitDebug.{ReadsJitDebugInfo};
+ghost use Rattle.perfdata_arrays.specs.Mappings.{ReadsMappingPage, ReadsPipeMappings};
 ghost use Rattle.perfdata_arrays.specs.MetaPairs.{ReadsMetaInfo};
 ghost use Rattle.linux_perf_data.specs.RecordEntries.{with_prefix};
 ghost use Rattle.perfdata_arrays.specs.Pages.{ReadsFilePage};
 ghost use Rattle.perfdata_arrays.specs.Records.{ReadsPipeRecords};
+ghost use Rattle.perfdata_arrays.specs.SampleRecords.{ReadsPipeSamples, ReadsSamplePage};
 ghost use Rattle.perfdata_arrays.specs.Sorting.{SortsByTime};
-ghost use Rattle.perfdata_arrays.specs.Status.{IsCodeOf};
+ghost use Rattle.perfdata_arrays.specs.Status.{IsCodeOf, code_text};
 ghost use Rattle.perfdata_arrays.specs.Strings.{ReadsString};
 ghost use Rattle.perfdata_arrays.specs.SymbolTables.{ReadsSymbolTables};
+ghost use Rattle.perfdata_arrays.specs.Tasks.{ReadsPipeTasks, ReadsTaskPage};
 ghost use Rattle.perfdata_demangle.specs.Prefix.{IsMangled};
-ghost use Rattle.perfdata_samples.specs.CounterPages.{ReadsCounterPage, ReadsPipeCounters};
-ghost use Rattle.perfdata_samples.specs.Details.{ReadsDetails, format_of_attr};
-ghost use Rattle.perfdata_samples.specs.MappingPages.{ReadsMappingPage, ReadsPipeMappings};
-ghost use Rattle.perfdata_samples.specs.Pages.{ReadsSamplePage};
-ghost use Rattle.perfdata_samples.specs.Pipes.{ReadsPipeSamples};
-ghost use Rattle.perfdata_samples.specs.Status.{IsSamplesCodeOf, all_code_text};
-ghost use Rattle.perfdata_samples.specs.TaskPages.{ReadsPipeTasks, ReadsTaskPage};
 ghost use Rattle.perfdata_stack_arrays.specs.Reading.{ReadsFileStacks, ReadsPipeStacks};
 ghost use Rattle.dewikura.specs.Demangling.{Demangles};
 ghost use Rattle.dewikura.specs.Numbers.{endian_from, number_of_bool, IsNumberOfKind};
@@ -45,25 +43,25 @@ use linux_perf_data::in_memory::position::RecordPosition;
 use linux_perf_data::input_kind::InputKind;
 use perfdata_arrays::attrs::{Attr, AttrTotals};
 use perfdata_arrays::build_ids::BuildId;
+use perfdata_arrays::counters::CounterEntry;
 use perfdata_arrays::feature_set::FeatureBits;
 use perfdata_arrays::jit::{JitHeader, JitLoad, JitRecord};
 use perfdata_arrays::jit_bodies::{JitMove, JitUnwinding};
 use perfdata_arrays::jit_debug::JitDebugEntry;
+use perfdata_arrays::mappings::MappingEntry;
 use perfdata_arrays::meta_info::MetaPair;
+use perfdata_arrays::samples::details;
+use perfdata_arrays::samples::details::SampleDetails;
+use perfdata_arrays::samples::frame::FrameEntry;
+use perfdata_arrays::samples::sample::Sample;
 use perfdata_arrays::strings::StringEntry;
 use perfdata_arrays::symbol_tables::{Symbol, SymbolFile, SymbolTotals};
+use perfdata_arrays::tasks::TaskEntry;
 use perfdata_arrays::{
-    attrs, build_ids, byte_order, feature_set, features, jit, jit_bodies, jit_debug, meta_info,
-    records, sort, strings, symbol_tables,
+    attrs, build_ids, byte_order, counters, feature_set, features, jit, jit_bodies, jit_debug,
+    mappings, meta_info, records, samples, sort, status, strings, symbol_tables, tasks,
 };
 use perfdata_demangle::Style;
-use perfdata_samples::counters::CounterEntry;
-use perfdata_samples::details::SampleDetails;
-use perfdata_samples::frame::FrameEntry;
-use perfdata_samples::mappings::MappingEntry;
-use perfdata_samples::sample::Sample;
-use perfdata_samples::tasks::TaskEntry;
-use perfdata_samples::{counters, details, mappings, pages, pipes, status, tasks};
 use perfdata_stack_arrays::frame::StackFrame;
 use perfdata_stack_arrays::mapping::StackMapping;
 use perfdata_stack_arrays::stack::Stack;
@@ -103,11 +101,11 @@ pub extern "C" fn dewikura_version() -> u32
     VERSION
 }
 
-/// Writes the text of a status code, as `perfdata_samples::status::status_text` does.
+/// Writes the text of a status code, as `perfdata_arrays::status::status_text` does.
 #[unsafe(no_mangle)]
 pub extern "C" fn dewikura_status_text_raw(code: u32, buf: &mut [u8]) -> usize
-    ensures size { result ≡ length (all_code_text code) }
-    ensures written { buf.new ≡ with_prefix (take (length buf.old - 1) (all_code_text code) ++ 0 ∷ [])
+    ensures size { result ≡ length (code_text code) }
+    ensures written { buf.new ≡ with_prefix (take (length buf.old - 1) (code_text code) ++ 0 ∷ [])
         buf.old }
 {
     status::status_text(code, buf)
@@ -170,7 +168,7 @@ pub extern "C" fn dewikura_read_pipe_records_raw(
     outcome.status.code()
 }
 
-/// Reads the samples of a perf.data file from a cursor on, as `pages::file_samples` does.
+/// Reads the samples of a perf.data file from a cursor on, as `samples::file_samples` does.
 #[unsafe(no_mangle)]
 pub extern "C" fn dewikura_read_file_samples_raw(
     alloc: Global,
@@ -181,17 +179,17 @@ pub extern "C" fn dewikura_read_file_samples_raw(
     frames: &mut [FrameEntry],
     frames_count: &mut u64,
 ) -> u32
-    ensures { IsSamplesCodeOf result (λ s. ReadsSamplePage input.now cursor.old samples.old frames.old
+    ensures { IsCodeOf result (λ s. ReadsSamplePage input.now cursor.old samples.old frames.old
         (record { count = count.new; frames_count = frames_count.new; status = s }) cursor.new samples.new
         frames.new) }
 {
-    let outcome = pages::file_samples(alloc, input, cursor, samples, frames);
+    let outcome = samples::file_samples(alloc, input, cursor, samples, frames);
     *count = outcome.count;
     *frames_count = outcome.frames_count;
     outcome.status.code()
 }
 
-/// Reads the samples of a perf.data pipe, as `pipes::pipe_samples` does.
+/// Reads the samples of a perf.data pipe, as `samples::pipe_samples` does.
 #[unsafe(no_mangle)]
 pub extern "C" fn dewikura_read_pipe_samples_raw(
     alloc: Global,
@@ -201,10 +199,10 @@ pub extern "C" fn dewikura_read_pipe_samples_raw(
     frames: &mut [FrameEntry],
     frames_total: &mut u64,
 ) -> u32
-    ensures { IsSamplesCodeOf result (λ s. ReadsPipeSamples input.now samples.old frames.old
+    ensures { IsCodeOf result (λ s. ReadsPipeSamples input.now samples.old frames.old
         (record { count = total.new; frames_count = frames_total.new; status = s }) samples.new frames.new) }
 {
-    let outcome = pipes::pipe_samples(alloc, input, samples, frames);
+    let outcome = samples::pipe_samples(alloc, input, samples, frames);
     *total = outcome.count;
     *frames_total = outcome.frames_count;
     outcome.status.code()
@@ -233,8 +231,9 @@ pub extern "C" fn dewikura_read_file_tasks_raw(
     entries: &mut [TaskEntry],
     count: &mut u64,
 ) -> u32
-    ensures { IsCodeOf result (λ s. ReadsTaskPage input.now cursor.old entries.old
-        (record { count = count.new; status = s }) cursor.new entries.new) }
+    ensures { IsCodeOf result (λ s. (frames_count : ℕ) × ReadsTaskPage input.now cursor.old
+        entries.old (record { count = count.new; frames_count = frames_count; status = s }) cursor.new
+        entries.new) }
 {
     let outcome = tasks::file_tasks(alloc, input, cursor, entries);
     *count = outcome.count;
@@ -249,8 +248,8 @@ pub extern "C" fn dewikura_read_pipe_tasks_raw(
     entries: &mut [TaskEntry],
     total: &mut u64,
 ) -> u32
-    ensures { IsCodeOf result (λ s. ReadsPipeTasks input.now entries.old
-        (record { count = total.new; status = s }) entries.new) }
+    ensures { IsCodeOf result (λ s. (frames_count : ℕ) × ReadsPipeTasks input.now entries.old
+        (record { count = total.new; frames_count = frames_count; status = s }) entries.new) }
 {
     let outcome = tasks::pipe_tasks(alloc, input, entries);
     *total = outcome.count;
@@ -266,8 +265,9 @@ pub extern "C" fn dewikura_read_file_mappings_raw(
     entries: &mut [MappingEntry],
     count: &mut u64,
 ) -> u32
-    ensures { IsCodeOf result (λ s. ReadsMappingPage input.now cursor.old entries.old
-        (record { count = count.new; status = s }) cursor.new entries.new) }
+    ensures { IsCodeOf result (λ s. (frames_count : ℕ) × ReadsMappingPage input.now cursor.old
+        entries.old (record { count = count.new; frames_count = frames_count; status = s }) cursor.new
+        entries.new) }
 {
     let outcome = mappings::file_mappings(alloc, input, cursor, entries);
     *count = outcome.count;
@@ -282,8 +282,8 @@ pub extern "C" fn dewikura_read_pipe_mappings_raw(
     entries: &mut [MappingEntry],
     total: &mut u64,
 ) -> u32
-    ensures { IsCodeOf result (λ s. ReadsPipeMappings input.now entries.old
-        (record { count = total.new; status = s }) entries.new) }
+    ensures { IsCodeOf result (λ s. (frames_count : ℕ) × ReadsPipeMappings input.now entries.old
+        (record { count = total.new; frames_count = frames_count; status = s }) entries.new) }
 {
     let outcome = mappings::pipe_mappings(alloc, input, entries);
     *total = outcome.count;
@@ -299,8 +299,9 @@ pub extern "C" fn dewikura_read_file_counters_raw(
     entries: &mut [CounterEntry],
     count: &mut u64,
 ) -> u32
-    ensures { IsSamplesCodeOf result (λ s. ReadsCounterPage input.now cursor.old entries.old
-        (record { count = count.new; status = s }) cursor.new entries.new) }
+    ensures { IsCodeOf result (λ s. (frames_count : ℕ) × ReadsCounterPage input.now cursor.old
+        entries.old (record { count = count.new; frames_count = frames_count; status = s }) cursor.new
+        entries.new) }
 {
     let outcome = counters::file_counters(alloc, input, cursor, entries);
     *count = outcome.count;
@@ -315,8 +316,8 @@ pub extern "C" fn dewikura_read_pipe_counters_raw(
     entries: &mut [CounterEntry],
     total: &mut u64,
 ) -> u32
-    ensures { IsCodeOf result (λ s. ReadsPipeCounters input.now entries.old
-        (record { count = total.new; status = s }) entries.new) }
+    ensures { IsCodeOf result (λ s. (frames_count : ℕ) × ReadsPipeCounters input.now entries.old
+        (record { count = total.new; frames_count = frames_count; status = s }) entries.new) }
 {
     let outcome = counters::pipe_counters(alloc, input, entries);
     *total = outcome.count;

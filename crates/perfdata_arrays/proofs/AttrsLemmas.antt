@@ -1,35 +1,17 @@
 -- Lemmas on the attributes that are written one after another.
-use Rattle.std.proofs.Common.{◌≡◌, ◌≢◌, ℕ, zero, suc, ◌+◌, ◌<◌, ◌++◌, List, [], ◌∷◌, length, take, drop, refl, sym, ap, ◌∙◌, arith, inl, inr, length-append, Ok, get_or}
+use Rattle.std.proofs.Common.{◌≡◌, ℕ, zero, suc, ◌+◌, ◌<◌, ◌++◌, List, [], ◌∷◌, length, take, drop, refl, sym, ap, ◌∙◌, arith, inr, length-append, get_or}
 use Rattle.std.specs.Prelude.{flat_map}
 use Rattle.std.proofs.lemmas.List.{append-nil, take-append-drop, length-take-le}
 use Rattle.std.proofs.lemmas.Grind.{flat_map-append, take_at_read}
-use Rattle.perfdata_base.specs.Source.{at_start}
 use Rattle.perfdata_sections.specs.AttributeDescription.{ids_in}
-use Rattle.perfdata_sections.specs.declared.error.Error.{Error}
-use Rattle.perfdata_sections.specs.declared.error.Error.TheVariants.{Memory}
 use Rattle.perfdata_sections.specs.declared.feature_sections.AttributeDescription.{AttributeDescription}
-use Rattle.linux_perf_data.specs.declared.in_memory.InMemoryReader.{InMemoryReader}
-use Rattle.linux_perf_data.specs.declared.in_memory.InMemoryRecords.{InMemoryRecords}
-use Rattle.linux_perf_data.specs.declared.perf_file.PerfFile.{PerfFile}
-use Rattle.linux_perf_data.specs.FileOpening.{IsFileError}
-use Rattle.linux_perf_data.specs.InMemory.{memory_state}
-use Rattle.linux_perf_data.specs.InMemoryReading.{ParsesFileInMemory, ParsesPipeInMemory}
-use Rattle.linux_perf_data.specs.OpenedFile.{FileOpensAt}
-use Rattle.linux_perf_data.specs.PerfFile.{descriptions_of_file}
-use Rattle.linux_perf_data.specs.PipeOpening.{IsPipeError}
-use Rattle.perfdata_arrays.specs.Attrs.{ReadsFileAttrs, ExceedsU64, ReadsPipeAttrs, WritesAttrsOrPrefix, WritesAttrs, all_ids, attr_entry_at, attr_entries_at, name_bytes, all_names, no_attrs_with}
+use Rattle.perfdata_arrays.specs.Attrs.{ExceedsU64, WritesAttrsOrPrefix, WritesAttrs, all_ids, attr_entry_at, attr_entries_at, name_bytes, all_names}
 use Rattle.linux_perf_data.specs.RecordEntries.{with_prefix}
 use Rattle.perfdata_arrays.specs.Overwrites.{WritesOneMore, with_entries_at}
-use Rattle.perfdata_arrays.specs.Status.{error_status}
-use Rattle.perfdata_arrays.specs.Walk.{WalksRecords, walk_status}
 use Rattle.perfdata_arrays.specs.declared.attrs.Attr.{Attr}
-use Rattle.perfdata_arrays.specs.declared.attrs.AttrsResult.{AttrsResult}
 use Rattle.perfdata_arrays.specs.declared.status.Status.{Status}
-use Rattle.perfdata_arrays.specs.declared.status.Status.TheVariants.{OutOfMemory, Success}
-use Rattle.linux_perf_data.specs.declared.in_memory.entries.RecordEntry.{RecordEntry}
-use Rattle.perfdata_arrays.specs.declared.records.WalkResult.{WalkResult}
+use Rattle.perfdata_arrays.specs.declared.status.Status.TheVariants.{OutOfMemory}
 use Rattle.perfdata_arrays.proofs.OverwriteLemmas.{with_entries_at-with_prefix}
-use Rattle.perfdata_arrays.proofs.PipeRecordsLemmas.{is_pipe_with_records}
 
 flat_map-snoc : {X : Type 0} (f : X → List ℕ) (xs : List X) (x : X) → flat_map f (xs ++ x ∷ []) ≡ flat_map f xs ++ f x
 flat_map-snoc f xs x = flat_map-append f xs (x ∷ []) ∙ ap (λ l. flat_map f xs ++ l) (append-nil (f x))
@@ -98,26 +80,3 @@ writes_prefix all status entries entries' names ids names' ids' index name_offse
   writes = w;
   ends = inr (refl, (d, (drop (suc index) all, drop-suc all index d within is, uncounted)));
 }
-
-pub reads_file_attrs : (bytes : List ℕ) (reader : InMemoryReader) → ParsesFileInMemory bytes (Ok reader)
-    → (entries entries' : List Attr) (names ids names' ids' : List ℕ) (outcome : AttrsResult) → WritesAttrsOrPrefix (descriptions_of_file reader.perf_file) Success entries names ids outcome entries' names' ids' → ReadsFileAttrs bytes entries names ids outcome entries' names' ids'
-reads_file_attrs bytes reader opened entries entries' names ids names' ids' outcome written =
-    let opens : FileOpensAt memory_state (at_start bytes) reader.perf_file reader.records.records = opened.0.file_opened in
-    inl (reader.perf_file, (opens.header, opens.describes, written))
-
-pub file_attrs_error : (bytes : List ℕ) (entries : List Attr) (names ids : List ℕ) (outcome : AttrsResult) (e : Error) (status : Status) → outcome ≡ no_attrs_with status → status ≡ error_status e → (e ≢ Memory → IsFileError (at_start bytes) e)
-    → ReadsFileAttrs bytes entries names ids outcome entries names ids
-file_attrs_error bytes entries names ids outcome e status none is cause =
-    inr ((e, ap (λ t. t.status) none ∙ is, cause), none ∙ ap no_attrs_with (sym (ap (λ t. t.status) none)), refl, refl, refl)
-
-pub pipe_attrs_error : (bytes : List ℕ) (entries : List Attr) (names ids : List ℕ) (outcome : AttrsResult) (e : Error) (status : Status) → outcome ≡ no_attrs_with status → status ≡ error_status e → (e ≢ Memory → IsPipeError bytes e)
-    → ReadsPipeAttrs bytes entries names ids outcome entries names ids
-pipe_attrs_error bytes entries names ids outcome e status none is cause =
-    inr ((e, ap (λ t. t.status) none ∙ is, cause), none ∙ ap no_attrs_with (sym (ap (λ t. t.status) none)), refl, refl, refl)
-
-pub reads_pipe_attrs : (bytes : List ℕ) (reader : InMemoryReader) (opened : ParsesPipeInMemory bytes (Ok reader))
-    (start : ℕ) (table table' : List RecordEntry) (walked : WalkResult) (new : InMemoryRecords) (file' : PerfFile) → WalksRecords reader.records reader.perf_file start table walked new file' table'
-    → (status : Status) → status ≡ walk_status walked.end → (entries entries' : List Attr) (names ids names' ids' : List ℕ) (outcome : AttrsResult) → WritesAttrsOrPrefix (descriptions_of_file file') status entries names ids outcome entries' names' ids'
-    → ReadsPipeAttrs bytes entries names ids outcome entries' names' ids'
-reads_pipe_attrs bytes reader opened start table table' walked new file' w status is entries entries' names ids names' ids' outcome written =
-    inl (w.records, (file', (status, is_pipe_with_records bytes reader opened start table table' walked new file' w status is, written)))

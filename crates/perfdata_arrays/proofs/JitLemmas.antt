@@ -8,7 +8,7 @@ use Rattle.perfdata_base.specs.Endian.{number_in}
 use Rattle.perfdata_base.specs.declared.raw.Endianness.{Endianness}
 use Rattle.perfdata_jit.proofs.ConsecutiveRecords.{concat-snoc, records-snoc}
 use Rattle.perfdata_jit.proofs.RecordHeaders.{header_front}
-use Rattle.perfdata_jit.specs.RecordBytes.{record_header_at, AreRecords, IsOneRecord}
+use Rattle.perfdata_jit.specs.RecordBytes.{record_header_at, IsOneRecord}
 use Rattle.perfdata_base.specs.Raw.{bytes_of}
 use Rattle.perfdata_jit.specs.JitRecords.{IsLoad}
 use Rattle.perfdata_jit.specs.declared.records.JitCodeLoadRecord.{JitCodeLoadRecord}

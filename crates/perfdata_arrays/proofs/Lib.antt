@@ -1,5 +1,6 @@
 -- The modules that proofs of goals use.
 pub mod OverwriteLemmas
+pub mod Arrays
 pub mod WalkLemmas
 pub mod FileErrors
 pub mod PageLemmas
@@ -8,11 +9,26 @@ pub mod PageChainLemmas
 pub mod PipeRecordsLemmas
 pub mod JitLemmas
 pub mod JitBodiesLemmas
-pub mod FeaturesLemmas
-pub mod FeatureSetsLemmas
 pub mod AttrsLemmas
 pub mod BuildIdsLemmas
 pub mod MetaPairsLemmas
 pub mod MetadataLemmas
+pub mod MetadataReports
 pub mod SymbolTablesLemmas
 pub mod JitDebugLemmas
+pub mod LedFormats
+pub mod FrameLemmas
+pub mod RecordLemmas
+pub mod SampleBounds
+pub mod CounterLemmas
+pub mod DecodedWalks
+pub mod DecodedPageLemmas
+pub mod RecordItems
+pub mod PageItems
+pub mod ItemChains
+pub mod KindLaws
+pub mod SampleItems
+pub mod ParsedOnce
+pub mod EntryItems
+pub mod CounterItems
+pub mod DecodedChainLemmas

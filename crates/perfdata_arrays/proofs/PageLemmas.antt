@@ -1,11 +1,10 @@
 -- Lemmas on a page of a file's records.
-use Rattle.std.proofs.Common.{◌≡◌, ◌≢◌, ◌⊎◌, ℕ, ◌+◌, ◌^◌, ◌<◌, ◌≤◌, ◌++◌, List, [], ◌∷◌, length, drop, refl, sym, ap, ◌∙◌, subst, arith, inl, inr, length-append, length-drop, None, Some, Result, Ok, Err}
-use Rattle.std.specs.Prelude.{IfSome, IsTrue, Vec, min}
+use Rattle.std.proofs.Common.{◌≡◌, ◌≢◌, ◌⊎◌, ℕ, ◌+◌, ◌<◌, ◌++◌, List, [], ◌∷◌, length, drop, refl, sym, ap, ◌∙◌, subst, arith, inl, inr, length-append, length-drop, Some, Result, Ok, Err}
+use Rattle.std.specs.Prelude.{IfSome, IsTrue, Vec}
 use Rattle.std.specs.declared.alloc.Global.{Global}
 use Rattle.std.specs.List.{concat}
 use Rattle.std.proofs.lemmas.List.{append-nil, drop-drop}
-use Rattle.std.proofs.Math.Seq.{drop-nil}
-use Rattle.perfdata_base.specs.Source.{at_start, memory_source_at}
+use Rattle.perfdata_base.specs.Source.{at_start}
 use Rattle.perfdata_base.specs.declared.raw.Endianness.{Endianness}
 use Rattle.perfdata_base.specs.declared.header.PerfHeader.{PerfHeader}
 use Rattle.perfdata_sections.specs.Error.{IsUnexpectedEof, IsUnsupported}
@@ -21,26 +20,25 @@ use Rattle.linux_perf_data.specs.AttributeLookup.{Represents}
 use Rattle.linux_perf_data.specs.Reading.{HasMatchingFile, ReturnsRecords, end_after}
 use Rattle.linux_perf_data.specs.InMemory.{memory_state, MemoryIter, with_buffer}
 use Rattle.linux_perf_data.specs.InMemoryPositions.{FileRecordsFrom, IsAtPosition, ParsesFileAt, position_of, round_at}
-use Rattle.linux_perf_data.specs.InMemoryReading.{NeedsMemoryInPipeOnly, first_record_offset_of, input_of}
-use Rattle.linux_perf_data.specs.Iter.{HasRemainingRecords, ReturnsEnd, ReturnsError, iter_source_state, section_size_of}
-use Rattle.linux_perf_data.specs.Layout.{ErrorAt, LayoutEnd, LayoutError, MetadataError, RecordView, RemainingRecords, SectionSize, attributes_in_records, attributes_in_views, ends_complete, ends_with_error, truncated_header, size_below_header, end_overflows, truncated_body, compressed_record, aux_body_too_short, aux_end_overflows, truncated_aux_data, invalid_metadata, invalid_event_desc, inconsistent_attributes}
-use Rattle.linux_perf_data.specs.OpenedFile.{DescribesFile, FileParseError}
+use Rattle.linux_perf_data.specs.InMemoryReading.{NeedsMemoryInPipeOnly, ReturnsRecordsInMemory, first_record_offset_of, input_of}
+use Rattle.linux_perf_data.specs.Iter.{HasRemainingRecords, iter_source_state, section_size_of}
+use Rattle.linux_perf_data.specs.Layout.{ErrorAt, LayoutEnd, LayoutError, RecordView, RemainingRecords, SectionSize, attributes_in_records, attributes_in_views, ends_complete, ends_with_error, truncated_header, size_below_header, end_overflows, truncated_body, compressed_record, aux_body_too_short, aux_end_overflows, truncated_aux_data, invalid_metadata, invalid_event_desc, inconsistent_attributes}
+use Rattle.linux_perf_data.specs.FileOpening.{IsFileError}
 use Rattle.linux_perf_data.specs.PerfFile.{attributes_of_file, endian_of_file}
 use Rattle.linux_perf_data.specs.RecordFraming.{IsErrorFor}
 use Rattle.linux_perf_data.proofs.FileReadings.{after_prefix_is, consumed_of, fits_of, offset_of, own_of, read_so_far_of, runs_of, source_error_none, stops_of, whole_of}
 use Rattle.linux_perf_data.proofs.InMemoryPlaces.{section_view}
 use Rattle.linux_perf_data.proofs.InMemoryReadings.{same_end, same_error, same_records}
-use Rattle.linux_perf_data.specs.RecordEntries.{with_prefix, HasBodiesAt, record_entries_at}
-use Rattle.perfdata_arrays.specs.Overwrites.{with_prefix_from}
+use Rattle.linux_perf_data.specs.RecordEntries.{HasBodiesAt}
 use Rattle.perfdata_arrays.specs.Pages.{IsPage, ReadsFilePage, WalksPage, layout_end_status, layout_error_status, position_after, round_after}
-use Rattle.perfdata_arrays.specs.Status.{error_status, io_kind_status}
-use Rattle.perfdata_arrays.specs.Walk.{WalkEnds, walk_status}
+use Rattle.perfdata_arrays.specs.Records.{FailsWithStatus}
+use Rattle.perfdata_arrays.specs.Status.{error_status, io_kind_status, walk_status}
+use Rattle.perfdata_arrays.specs.Walk.{WalkEnds}
 use Rattle.linux_perf_data.specs.declared.in_memory.entries.RecordEntry.{RecordEntry}
 use Rattle.perfdata_arrays.specs.declared.records.PageWalk.{PageWalk}
 use Rattle.perfdata_arrays.specs.declared.records.RecordsResult.{RecordsResult}
 use Rattle.perfdata_arrays.specs.declared.status.Status.{Status}
 use Rattle.perfdata_arrays.specs.declared.status.Status.TheVariants.{Compressed, Success, Truncated}
-use Rattle.perfdata_arrays.proofs.FileErrors.{file_open_error}
 use Rattle.perfdata_arrays.proofs.WalkLemmas.{length-prefix, writes_at}
 
 -- ---- the status of an error
@@ -107,7 +105,7 @@ module _ (bytes : List ℕ) (header : PerfHeader) (file : PerfFile) where
     same_remaining : RemainIn ≡ Remain q
     same_remaining = λ i. RemainingRecords (at.same_endian i) rest_at (at.section_size i) (at.offset i) (at.round i) attrs
 
-    pub remain_of_iter : (rs : List RecordView) (end : LayoutEnd) → HasRemainingRecords memory_state it attrs rs end → Remain q rs end
+    remain_of_iter : (rs : List RecordView) (end : LayoutEnd) → HasRemainingRecords memory_state it attrs rs end → Remain q rs end
     remain_of_iter rs end remain =
         subst (λ C. C rs end) same_remaining (subst (λ b. IfSome b (λ l. RemainingRecords it.endian l (section_size_of memory_state it) it.offset it.round attrs rs end)) at.bytes_known remain)
 
@@ -185,13 +183,13 @@ module _ (bytes : List ℕ) (header : PerfHeader) (file : PerfFile) where
 
 module _ (bytes : List ℕ) (from : RecordPosition) where
   -- the position is unchanged if the file doesn't open
-  pub no_page : (entries : List RecordEntry) (e : Error) (result : RecordsResult) → result.count ≡ 0 → result.status ≡ error_status e → FileParseError (memory_source_at bytes 0) e → ReadsFilePage bytes from entries result from entries
-  no_page entries e result none is error = record {
+  pub no_page : (entries : List RecordEntry) (result : RecordsResult) → result.count ≡ 0 → FailsWithStatus result.status (IsFileError (at_start bytes)) → ReadsFilePage bytes from entries result from entries
+  no_page entries result none failed = record {
     records = [];
     base = 0;
     writes = record { count = none; written = refl; body_bytes_at = tt };
     fits = omega arith;
-    ends = inl (refl, refl, (e, is, file_open_error bytes e error));
+    ends = inl (refl, refl, failed);
   }
 
   module _ (reader : InMemoryReader) (parsed : ParsesFileAt bytes from (Ok reader)) where
@@ -201,17 +199,14 @@ module _ (bytes : List ℕ) (from : RecordPosition) where
     abbrev file : PerfFile
     file = reader.perf_file
 
-    abbrev header : PerfHeader
-    header = parsed.0.header
+    abbrev pub header_of : PerfHeader
+    header_of = parsed.0.header
 
-    at : IsAtPosition bytes from header file it
+    pub at : IsAtPosition bytes from header_of file it
     at = parsed.0.at_position
 
     abbrev base : ℕ
-    base = header.data_section.offset
-
-    at_fits : it.offset < 2 ^ 64
-    at_fits = at.offset_fits
+    base = header_of.data_section.offset
 
     -- the first record starts at the start of the data section
     first_is_base : (records : List RecordView) (now : MemoryIter) (file' : PerfFile) → ReturnsRecords memory_state it file records now file' → (records ≡ []) ⊎ (first_record_offset_of reader.records ≡ base)
@@ -226,53 +221,63 @@ module _ (bytes : List ℕ) (from : RecordPosition) where
         let eight = step.header_len in
         inr (omega (arith, ap length same, length-drop (first + it.offset) (input_of reader.records), length-drop (base + from.offset) bytes, ap length parsed.1, start, long, length-append step.markers one, length-append step.header_bytes h.body, eight))
 
-    module _ (before after : List RecordEntry) (walked : PageWalk) (new : InMemoryRecords) (file' : PerfFile) (w : WalksPage reader.records file before walked new file' after) where
-      streamed : (buffer : Vec ℕ Global) × ReturnsRecords memory_state it file w.records (with_buffer w.input_at_end.records buffer) w.file_at_end
-      streamed = same_records reader.records w.input_at_end file w.file_at_end w.records w.returned
+    -- late metadata don't add attributes in a file
+    pub same_attributes : (records : List RecordView) → attributes_of_file file ++ attributes_in_views it.endian (section_size_of memory_state it) records ≡ attributes_of_file file
+    same_attributes records = ap (λ l. attributes_of_file file ++ l) (no_attributes it.endian (section_size_of memory_state it) header_of.data_section.size records at.section_size) ∙ append-nil (attributes_of_file file)
 
-      abbrev now : MemoryIter
-      now = with_buffer w.input_at_end.records streamed.0
+    module _ (records : List RecordView) (now : InMemoryRecords) (now_file : PerfFile) (all : ReturnsRecordsInMemory reader.records file records now now_file) where
+      pub streamed : (buffer : Vec ℕ Global) × ReturnsRecords memory_state it file records (with_buffer now.records buffer) now_file
+      streamed = same_records reader.records now file now_file records all
 
-      next_is : walked.next ≡ next bytes header file from it at now w.file_at_end w.records streamed.1
-      next_is = w.next
+      abbrev streaming : MemoryIter
+      streaming = with_buffer now.records streamed.0
 
-      with_own_buffer : {A : Type 0} (r : Result A Error) → w.input_at_end.records.stage ≡ Running → WalkEnds w.input_at_end.records w.file_at_end r new.records file' → WalkEnds now w.file_at_end r new.records file'
-      with_own_buffer (Ok _) runs ended = same_end w.input_at_end new w.file_at_end file' streamed.0 runs ended
-      with_own_buffer (Err e) runs failed = same_error w.input_at_end new w.file_at_end file' e streamed.0 runs failed
+      pub first_at : (records ≡ []) ⊎ (first_record_offset_of reader.records ≡ base)
+      first_at = first_is_base records streaming now_file streamed.1
 
-      abbrev RemainFrom : RecordPosition → List RecordView → LayoutEnd → Type 0
-      RemainFrom = Remain bytes header file
+      abbrev pub PageEnds : ℕ → Status → Type 0
+      PageEnds capacity status = ((status ≡ Success) × (length records ≡ capacity)) ⊎ ((length records < capacity) × ((end : LayoutEnd) × FileRecordsFrom bytes (endian_of_file file) header_of (position_of now) (attributes_of_file file) [] end × (status ≡ layout_end_status end)))
 
-      abbrev PageEnd : RecordPosition → Status → Type 0
-      PageEnd q status = ((status ≡ Success) × (length w.records ≡ length before)) ⊎ ((length w.records < length before) × ((end : LayoutEnd) × RemainFrom q [] end × (status ≡ layout_end_status end)))
-
-      page_end : PageEnd walked.next (walk_status walked.end)
-      page_end = elim w.ends [
-        | inl full ↦ inl ((let e : walk_status walked.end ≡ Success = ap (λ r. walk_status r) full.0 in e), full.1)
-        | inr ended ↦
-            let here = at_next bytes header file from it at now w.file_at_end w.records streamed.1 in
-            let q = next bytes header file from it at now w.file_at_end w.records streamed.1 in
-            let found = ends_at bytes header file q now here new.records w.file_at_end file' walked.end (own_next bytes header file from it at now w.file_at_end w.records streamed.1)
-            (with_own_buffer walked.end here.stage_running ended.1) (never_memory w.input_at_end header.data_section.size walked.end here.section_size ended.2) in
-            inr (ended.0, (found.0, subst (λ p. RemainFrom p [] found.0) (sym next_is) found.1, found.2))
-      ]
-
-      pub reads_file_page : (result : RecordsResult) → result.count ≡ walked.count → result.status ≡ walk_status walked.end → ReadsFilePage bytes from before result walked.next after
-      reads_file_page result count status = record {
-        records = w.records;
-        base = base;
-        writes = writes_at bytes (first_record_offset_of reader.records) base 0 w.records before after result (first_is_base w.records now w.file_at_end streamed.1) (count ∙ w.count) w.written
-            (subst (λ l. HasBodiesAt l (first_record_offset_of reader.records) w.records) parsed.1 w.body_bytes_at);
-        fits = w.fits;
-        ends = inr (record {
-          file = file;
-          header = header;
-          describes = parsed.0.describes;
-          first_record_at = refl;
-          extends_remaining = λ rest end remain. extends bytes header file from it at now w.file_at_end w.records streamed.1 rest end (subst (λ q. RemainFrom q rest end) next_is remain);
-          ends = subst (PageEnd walked.next) (sym status) page_end;
-          next_position = next_is ∙ next_position bytes header file from it at now w.file_at_end w.records streamed.1;
-          next_fits = subst (λ q. q.offset < 2 ^ 64) (sym next_is) (fits_of memory_state it now file w.file_at_end w.records at_fits streamed.1);
-          next_round_fits = subst (λ q. q.round ≤ q.offset) (sym next_is) now.rounds_fit;
-        });
+      abbrev pub page_of : (capacity : ℕ) (status : Status) → PageEnds capacity status → IsPage bytes base from capacity records status (position_of now)
+      page_of capacity status ends = record {
+        file = file;
+        header = header_of;
+        describes = parsed.0.describes;
+        first_record_at = refl;
+        extends_remaining = λ rest end remain. extends bytes header_of file from it at streaming now_file records streamed.1 rest end remain;
+        ends = ends;
+        next_position = next_position bytes header_of file from it at streaming now_file records streamed.1;
+        next_fits = fits_of memory_state it streaming file now_file records at.offset_fits streamed.1;
+        next_round_fits = streaming.rounds_fit;
       }
+
+      with_own_buffer : {A : Type 0} (new : InMemoryRecords) (file' : PerfFile) (r : Result A Error) → now.records.stage ≡ Running → WalkEnds now.records now_file r new.records file' → WalkEnds streaming now_file r new.records file'
+      with_own_buffer new file' (Ok _) runs ended = same_end now new now_file file' streamed.0 runs ended
+      with_own_buffer new file' (Err e) runs failed = same_error now new now_file file' e streamed.0 runs failed
+
+      -- a page whose records end
+      pub page_to_end : {A : Type 0} (capacity : ℕ) → length records < capacity → (new : InMemoryRecords) (file' : PerfFile) (r : Result A Error) → WalkEnds now.records now_file r new.records file' → NeedsMemoryInPipeOnly now r
+          → PageEnds capacity (walk_status r)
+      page_to_end capacity fewer new file' r ended needs =
+          let here = at_next bytes header_of file from it at streaming now_file records streamed.1 in
+          let found = ends_at bytes header_of file (position_of now) streaming here new.records now_file file' r (own_next bytes header_of file from it at streaming now_file records streamed.1)
+          (with_own_buffer new file' r here.stage_running ended) (never_memory now header_of.data_section.size r here.section_size needs) in
+          inr (fewer, (found.0, found.1, found.2))
+
+    pub reads_file_page : (before after : List RecordEntry) (walked : PageWalk) (new : InMemoryRecords) (file' : PerfFile) → WalksPage reader.records file before walked new file' after
+        → (result : RecordsResult) → result.count ≡ walked.count → result.status ≡ walk_status walked.end → ReadsFilePage bytes from before result walked.next after
+    reads_file_page before after walked new file' w result count status =
+        let first = first_record_offset_of reader.records in
+        let ends : PageEnds w.records w.input_at_end w.file_at_end w.returned (length before) (walk_status walked.end) = elim w.ends [
+          | inl full ↦ inl ((let e : walk_status walked.end ≡ Success = ap (λ r. walk_status r) full.0 in e), full.1)
+          | inr ended ↦ page_to_end w.records w.input_at_end w.file_at_end w.returned (length before) ended.0 new file' walked.end ended.1 ended.2
+        ] in
+        let page = page_of w.records w.input_at_end w.file_at_end w.returned (length before) result.status (subst (PageEnds w.records w.input_at_end w.file_at_end w.returned (length before)) (sym status) ends) in
+        record {
+          records = w.records;
+          base = base;
+          writes = writes_at bytes first base 0 w.records before after result (first_at w.records w.input_at_end w.file_at_end w.returned) (count ∙ w.count) w.written
+              (subst (λ l. HasBodiesAt l first w.records) parsed.1 w.body_bytes_at);
+          fits = w.fits;
+          ends = inr (subst (IsPage bytes base from (length before) w.records result.status) (sym w.next) page);
+        }

@@ -1,13 +1,11 @@
 -- Consecutive pages of a file are one page, and a page is unique.
-use Rattle.std.proofs.Common.{◌≡◌, ◌⊎◌, ℕ, ◌+◌, ◌<◌, ◌≤◌, ◌++◌, List, [], ◌∷◌, length, take, drop, refl, sym, ap, ◌∙◌, subst, arith, inl, inr, append_assoc, append-nil, length-append, Some}
+use Rattle.std.proofs.Common.{◌≡◌, ℕ, ◌+◌, ◌≤◌, ◌++◌, List, [], ◌∷◌, length, take, drop, refl, sym, ap, ◌∙◌, subst, arith, inl, inr, append_assoc, append-nil, length-append, Some}
 use Rattle.std.specs.Prelude.{map}
 use Rattle.std.proofs.Math.Seq.{take-append_seam}
 use Rattle.perfdata_base.specs.Source.{at_start}
-use Rattle.perfdata_base.specs.declared.header.PerfHeader.{PerfHeader}
 use Rattle.perfdata_sections.specs.AttributeDescription.{DescribedEvent, attr_in, events_in, ids_in}
 use Rattle.perfdata_sections.specs.declared.feature_sections.AttributeDescription.{AttributeDescription}
 use Rattle.linux_perf_data.specs.declared.in_memory.position.RecordPosition.{RecordPosition}
-use Rattle.linux_perf_data.specs.declared.perf_file.PerfFile.{PerfFile}
 use Rattle.linux_perf_data.specs.Attribute.{Attribute}
 use Rattle.linux_perf_data.specs.Descriptions.{described_attributes}
 use Rattle.linux_perf_data.specs.InMemoryPositions.{FileRecordsFrom, round_at}
@@ -19,7 +17,6 @@ use Rattle.linux_perf_data.proofs.FileUniqueness.{file_description_is_unique}
 use Rattle.linux_perf_data.proofs.LayoutUniqueness.{layout_exists, remaining_is_unique}
 use Rattle.perfdata_arrays.specs.Pages.{IsPage, PageIsUnique, PagesJoin, layout_end_status, position_after, round_after}
 use Rattle.perfdata_arrays.specs.declared.status.Status.{Status}
-use Rattle.perfdata_arrays.specs.declared.status.Status.TheVariants.{Success}
 
 abbrev attribute_of_event : DescribedEvent → Attribute
 attribute_of_event e = record { attr = e.attr; ids = e.ids }

@@ -1,5 +1,5 @@
 -- Lemmas on a walk over a pipe's records.
-use Rattle.std.proofs.Common.{◌≡◌, ◌≢◌, ◌⊎◌, ℕ, ◌+◌, ◌-◌, ◌^◌, ◌<◌, ◌≤◌, ◌++◌, List, [], length, drop, refl, sym, ap, ◌∙◌, subst, arith, inl, inr, append_assoc, length-append, length-drop, None, Some, Result, Ok, Err}
+use Rattle.std.proofs.Common.{◌≡◌, ◌≢◌, ◌⊎◌, ℕ, ◌+◌, ◌-◌, ◌^◌, ◌<◌, ◌++◌, List, [], length, drop, refl, sym, ap, ◌∙◌, subst, arith, inl, inr, append_assoc, length-append, length-drop, None, Some, Result, Ok, Err}
 use Rattle.std.specs.List.{concat}
 use Rattle.std.proofs.Math.Seq.{drop-append_seam, drop-nil}
 use Rattle.perfdata_base.specs.Features.{HasFeature}
@@ -30,10 +30,10 @@ use Rattle.linux_perf_data.specs.Reading.{AreFirstRecords, ReturnsRecords, end_a
 use Rattle.linux_perf_data.proofs.PipeReadings.{begins, ends_there, error_there, first_there, holds_all, opening_prefix, own_pipe, pipe_up_to_end, whole_there}
 use Rattle.linux_perf_data.proofs.FileReadings.{after_prefix_is, consumed_of, first_of, holds_of, none_of, offset_of, read_so_far_of, runs_of, source_error_none, stops_of, whole_of}
 use Rattle.perfdata_arrays.specs.Overwrites.{with_prefix_from}
-use Rattle.perfdata_arrays.specs.Status.{error_status}
+use Rattle.perfdata_arrays.specs.Status.{error_status, walk_status}
 use Rattle.linux_perf_data.specs.RecordEntries.{HasBodiesAt}
-use Rattle.perfdata_arrays.specs.Records.{EndsWithStatus, FollowedByMetadata, IsPipeWithRecords, ReadsPipeRecords}
-use Rattle.perfdata_arrays.specs.Walk.{WalkEnds, WalksRecords, walk_status}
+use Rattle.perfdata_arrays.specs.Records.{FailsWithStatus, EndsWithStatus, FollowedByMetadata, IsPipeWithRecords, ReadsPipeRecords}
+use Rattle.perfdata_arrays.specs.Walk.{WalkEnds, WalksRecords}
 use Rattle.perfdata_arrays.specs.declared.status.Status.{Status}
 use Rattle.perfdata_arrays.specs.declared.status.Status.TheVariants.{Success}
 use Rattle.linux_perf_data.specs.declared.in_memory.entries.RecordEntry.{RecordEntry}
@@ -63,12 +63,12 @@ module _ (bytes : List ℕ) where
         ]
       ]
 
-  pub no_records_written : (start : ℕ) (entries : List RecordEntry) (e : Error) (total : RecordsResult) → total.count ≡ 0 → total.status ≡ error_status e → PipeParseError memory_state (memory_source_at bytes 0) e → ReadsPipeRecords bytes start entries total entries
-  no_records_written start entries e total none is error = record {
+  pub no_records_written : (start : ℕ) (entries : List RecordEntry) (total : RecordsResult) → total.count ≡ 0 → FailsWithStatus total.status (IsPipeError bytes) → ReadsPipeRecords bytes start entries total entries
+  no_records_written start entries total none failed = record {
     records = [];
     base = 0;
     writes = record { count = none; written = ap (λ l. with_prefix_from 0 l entries) (sym (drop-nil start)); body_bytes_at = tt };
-    ends = inl (refl, (e, is, pipe_open_error e error));
+    ends = inl (refl, failed);
   }
 
 -- The rest after the same metadata records is the same, because the bytes of a pipe header determine its size.

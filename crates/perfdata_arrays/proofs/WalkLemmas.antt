@@ -1,6 +1,6 @@
 -- A walk over records in memory, as the walk of a streaming iterator over the same bytes.
 use Rattle.std.proofs.Common.{◌≡◌, ℕ, ◌+◌, ◌^◌, ◌<◌, ◌≤◌, ◌++◌, ◌⊎◌, List, [], ◌∷◌, length, refl, sym, ap, ◌∙◌, subst, arith, inl, inr, length-append, Option, None, Some, Result, Ok, Err}
-use Rattle.std.specs.Prelude.{Vec, drop}
+use Rattle.std.specs.Prelude.{Vec}
 use Rattle.std.proofs.lemmas.List.{length-map, map-append, map_push}
 use Rattle.std.proofs.Math.Seq.{drop-nil}
 use Rattle.std.specs.declared.alloc.Global.{Global}
@@ -16,7 +16,7 @@ use Rattle.linux_perf_data.specs.declared.perf_file.PerfFile.{PerfFile}
 use Rattle.linux_perf_data.specs.declared.records.iter.RecordPlace.{RecordPlace}
 use Rattle.linux_perf_data.specs.declared.records.iter.Stage.TheVariants.{Running}
 use Rattle.linux_perf_data.specs.RecordViews.{record_view_of}
-use Rattle.linux_perf_data.specs.Iter.{ConsumesMetadata, iter_source_state, ReturnsRecord}
+use Rattle.linux_perf_data.specs.Iter.{ConsumesMetadata}
 use Rattle.linux_perf_data.specs.Reading.{ReturnsRecords}
 use Rattle.linux_perf_data.specs.InMemory.{memory_state, MemoryIter, with_buffer}
 use Rattle.linux_perf_data.specs.InMemoryReading.{KeepsInput, NeedsMemoryForMetadataOnly, ReturnsRecordInMemory, ReturnsRecordsInMemory, input_of, first_record_offset_of}

@@ -1,21 +1,16 @@
 -- The results for attributes, with their names and IDs.
-use Rattle.std.specs.Prelude.{◌≡◌, ◌⊎◌, ℕ, ◌+◌, ◌^◌, ◌≤◌, List, [], ◌∷◌, ◌++◌, length, flat_map, Option, None, Some}
-use Rattle.perfdata_base.specs.Source.{at_start}
-use Rattle.perfdata_base.specs.declared.header.PerfHeader.{PerfHeader}
+use Rattle.std.specs.Prelude.{◌≡◌, ◌⊎◌, ℕ, ◌+◌, ◌^◌, ◌≤◌, List, [], ◌∷◌, ◌++◌, length, flat_map, Option, None, Some, Result}
 use Rattle.perfdata_sections.specs.AttributeDescription.{attr_in, ids_in, name_in}
 use Rattle.perfdata_sections.specs.declared.feature_sections.AttributeDescription.{AttributeDescription}
 use Rattle.linux_perf_data.specs.declared.perf_file.PerfFile.{PerfFile}
-use Rattle.linux_perf_data.specs.Layout.{RecordView}
-use Rattle.linux_perf_data.specs.FileOpening.{IsFileError}
-use Rattle.linux_perf_data.specs.OpenedFile.{DescribesFile}
 use Rattle.linux_perf_data.specs.PerfFile.{descriptions_of_file}
-use Rattle.linux_perf_data.specs.PipeOpening.{IsPipeError}
 use Rattle.linux_perf_data.specs.RecordEntries.{with_prefix, one_if_some}
-use Rattle.perfdata_arrays.specs.Records.{IsPipeWithRecords, FailsWithStatus}
+use Rattle.perfdata_arrays.specs.Metadata.{ReportsFile, ReportsOf, ReportsPipe}
+use Rattle.perfdata_arrays.specs.declared.metadata.Metadata.{Metadata}
 use Rattle.perfdata_arrays.specs.declared.attrs.Attr.{Attr}
 use Rattle.perfdata_arrays.specs.declared.attrs.AttrsResult.{AttrsResult}
 use Rattle.perfdata_arrays.specs.declared.status.Status.{Status}
-use Rattle.perfdata_arrays.specs.declared.status.Status.TheVariants.{Success, OutOfMemory}
+use Rattle.perfdata_arrays.specs.declared.status.Status.TheVariants.{OutOfMemory}
 
 -- the text, or no bytes for `None`
 abbrev pub text_or_empty : Option (List ℕ) → List ℕ
@@ -110,19 +105,22 @@ pub record WritesAttrsOrPrefix (all : List AttributeDescription) (status : Statu
 abbrev pub no_attrs_with : Status → AttrsResult
 no_attrs_with status = record { totals = record { attr_count = 0; names_size = 0; ids_count = 0 }; status = status }
 
--- nothing is written, and all totals are 0
-abbrev pub WritesNothing : (Status → Type 0) → List Attr → List ℕ → List ℕ → AttrsResult → List Attr → List ℕ → List ℕ → Type 0
-WritesNothing Cause entries names ids outcome entries' names' ids' =
-    Cause outcome.status × (outcome ≡ no_attrs_with outcome.status) × (entries' ≡ entries) × (names' ≡ names) × (ids' ≡ ids)
+module _ (entries : List Attr) (names ids : List ℕ) (outcome : AttrsResult) (entries' : List Attr) (names' ids' : List ℕ) where
+  abbrev pub WritesAttrsOf : PerfFile → Status → Type 0
+  WritesAttrsOf file status = WritesAttrsOrPrefix (descriptions_of_file file) status entries names ids outcome entries' names' ids'
+
+  -- nothing is written, and all totals are 0
+  abbrev pub WritesNothing : Status → Type 0
+  WritesNothing status = (outcome ≡ no_attrs_with status) × (entries' ≡ entries) × (names' ≡ names) × (ids' ≡ ids)
+
+-- The result for the attributes of a recording that was read.
+abbrev pub ReadsAttrs : Result Metadata Status → List Attr → List ℕ → List ℕ → AttrsResult → List Attr → List ℕ → List ℕ → Type 0
+ReadsAttrs read entries names ids outcome entries' names' ids' = ReportsOf (WritesAttrsOf entries names ids outcome entries' names' ids') (WritesNothing entries names ids outcome entries' names' ids') read
 
 -- The result for a file's attributes. If the file doesn't open, nothing is written.
 abbrev pub ReadsFileAttrs : List ℕ → List Attr → List ℕ → List ℕ → AttrsResult → List Attr → List ℕ → List ℕ → Type 0
-ReadsFileAttrs bytes entries names ids outcome entries' names' ids' =
-    ((file : PerfFile) × ((header : PerfHeader) × DescribesFile (at_start bytes) header file × WritesAttrsOrPrefix (descriptions_of_file file) Success entries names ids outcome entries' names' ids'))
-    ⊎ WritesNothing (λ s. FailsWithStatus s (IsFileError (at_start bytes))) entries names ids outcome entries' names' ids'
+ReadsFileAttrs bytes entries names ids outcome entries' names' ids' = ReportsFile bytes (WritesAttrsOf entries names ids outcome entries' names' ids') (WritesNothing entries names ids outcome entries' names' ids')
 
 -- The result for a pipe's attributes, up to the pipe's end or first error. If the pipe doesn't open, nothing is written.
 abbrev pub ReadsPipeAttrs : List ℕ → List Attr → List ℕ → List ℕ → AttrsResult → List Attr → List ℕ → List ℕ → Type 0
-ReadsPipeAttrs bytes entries names ids outcome entries' names' ids' =
-    ((records : List RecordView) × ((file : PerfFile) × ((status : Status) × IsPipeWithRecords bytes records file status × WritesAttrsOrPrefix (descriptions_of_file file) status entries names ids outcome entries' names' ids')))
-    ⊎ WritesNothing (λ s. FailsWithStatus s (IsPipeError bytes)) entries names ids outcome entries' names' ids'
+ReadsPipeAttrs bytes entries names ids outcome entries' names' ids' = ReportsPipe bytes (WritesAttrsOf entries names ids outcome entries' names' ids') (WritesNothing entries names ids outcome entries' names' ids')

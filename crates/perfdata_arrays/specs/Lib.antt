@@ -2,6 +2,8 @@
 pub mod Overwrites
 pub mod Status
 pub mod Records
+pub mod Opening
+pub mod Metadata
 pub mod Sorting
 pub mod Walk
 pub mod Jit
@@ -16,3 +18,14 @@ pub mod Attrs
 pub mod BuildIds
 pub mod Pages
 pub mod PageChains
+pub mod Decoding
+pub mod DecodedPages
+pub mod DecodedChains
+pub mod Bodies
+pub mod Samples
+pub mod SampleRecords
+pub mod Details
+pub mod Entries
+pub mod Tasks
+pub mod Mappings
+pub mod Counters

@@ -1,5 +1,5 @@
 -- The statuses of calls, their codes and their texts.
-use Rattle.std.specs.Prelude.{◌≡◌, ℕ, List, [], ◌∷◌, codes, find}
+use Rattle.std.specs.Prelude.{◌≡◌, ℕ, List, [], ◌∷◌, codes, find, Result, Ok, Err}
 use Rattle.std.specs.Bool.{nat_eq}
 use Rattle.std.specs.IoError.{error_kind}
 use Rattle.std.specs.Option.{option_map, unwrap_or}
@@ -12,7 +12,7 @@ use Rattle.perfdata_sections.specs.declared.error.ReadError.TheVariants as part
 use Rattle.perfdata_jit.specs.declared.error.JitDumpError.{JitDumpError}
 use Rattle.perfdata_jit.specs.declared.error.JitDumpError.TheVariants as jit
 use Rattle.perfdata_arrays.specs.declared.status.Status.{Status}
-use Rattle.perfdata_arrays.specs.declared.status.Status.TheVariants.{Success, OutOfMemory, Truncated, InvalidData, InvalidHeaderSize, Compressed, Other, BadMagic, NoAttributes, BadDataSection, BadAttribute, AttributeTooLarge, MissingIdentifier, SampleIdAllMismatch, NoEventTypes, InvalidUtf8, BadRecordSize, TruncatedRecord, JitTruncatedHeader, JitBadHeaderSize, JitBadMagic, JitBadRecordSize, JitWrongType, JitBadBody, BadSymbolTable}
+use Rattle.perfdata_arrays.specs.declared.status.Status.TheVariants.{Success, OutOfMemory, Truncated, InvalidData, InvalidHeaderSize, Compressed, Other, BadMagic, NoAttributes, BadDataSection, BadAttribute, AttributeTooLarge, MissingIdentifier, SampleIdAllMismatch, NoEventTypes, InvalidUtf8, BadRecordSize, TruncatedRecord, JitTruncatedHeader, JitBadHeaderSize, JitBadMagic, JitBadRecordSize, JitWrongType, JitBadBody, BadSymbolTable, NoSpace}
 
 -- the code of a status
 abbrev pub status_code : Status → ℕ
@@ -41,6 +41,7 @@ status_code JitBadRecordSize = 21
 status_code JitWrongType = 22
 status_code JitBadBody = 23
 status_code BadSymbolTable = 24
+status_code NoSpace = 25
 
 -- the number is the code of a status with this property
 abbrev pub IsCodeOf : ℕ → (Status → Type 0) → Type 0
@@ -73,7 +74,8 @@ status_texts =
     (21, codes "a jitdump record contains a size below 16, or ends past 2^64 - 1") ∷
     (22, codes "the jitdump record has another type") ∷
     (23, codes "the body of the jitdump record is malformed") ∷
-    (24, codes "a record of simpleperf's symbol tables is malformed") ∷ []
+    (24, codes "a record of simpleperf's symbol tables is malformed") ∷
+    (25, codes "the array is too small for the next record") ∷ []
 
 -- the text of a status code
 unfoldable pub code_text : ℕ → List ℕ
@@ -111,6 +113,11 @@ error_status error.FeatureSectionTooSmall = Truncated
 error_status (error.ProtobufParsingSimpleperfFileSection e) = BadSymbolTable
 error_status (error.ParsingSimpleperfFileV1Section e) = BadSymbolTable
 error_status _ = Other
+
+-- the status for the end of a walk over records
+abbrev pub walk_status : {A : Type 0} → Result A Error → Status
+walk_status (Ok _) = Success
+walk_status (Err e) = error_status e
 
 -- the status of a jitdump header's error
 abbrev pub jit_error_status : JitDumpError → Status

@@ -8,17 +8,9 @@ use Rattle.linux_perf_data.specs.InMemory.{memory_state, MemoryIter}
 use Rattle.linux_perf_data.specs.InMemoryReading.{KeepsInput, NeedsMemoryForMetadataOnly, ReturnsRecordsInMemory, input_of, first_record_offset_of}
 use Rattle.linux_perf_data.specs.Layout.{RecordView}
 use Rattle.perfdata_arrays.specs.Overwrites.{with_prefix_from}
-use Rattle.perfdata_arrays.specs.Status.{error_status}
 use Rattle.linux_perf_data.specs.RecordEntries.{HasBodiesAt, record_entries_at}
-use Rattle.perfdata_arrays.specs.declared.status.Status.{Status}
-use Rattle.perfdata_arrays.specs.declared.status.Status.TheVariants.{Success}
 use Rattle.linux_perf_data.specs.declared.in_memory.entries.RecordEntry.{RecordEntry}
 use Rattle.perfdata_arrays.specs.declared.records.WalkResult.{WalkResult}
-
--- the status of a walk's end
-abbrev pub walk_status : {A : Type 0} → Result A Error → Status
-walk_status (Ok _) = Success
-walk_status (Err e) = error_status e
 
 -- The walk ends with the end of the records or with an error.
 abbrev pub WalkEnds : {A : Type 0} → MemoryIter → PerfFile → Result A Error → MemoryIter → PerfFile → Type 0

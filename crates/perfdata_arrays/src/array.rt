@@ -1,25 +1,20 @@
 //! Functions that write elements into an array, up to its capacity.
-ghost use Rattle.std.specs.Prelude.{◌≡◌, ◌^◌, ◌<◌, length};
+ghost use Rattle.std.specs.Prelude.{◌≡◌, ◌^◌, ◌<◌, ◌∷◌, [], length};
 ghost use Rattle.linux_perf_data.specs.RecordEntries.{with_prefix};
 ghost use Rattle.perfdata_arrays.specs.Overwrites.{WritesOneMore, with_entries_at};
 
-/// Writes `entry`, which has index `index`, into an array that begins with entry `start`.
-///
-/// Leaves the array unchanged if it has no element for that index.
-pub(crate) fn write_entry<T: Copy>(array: &mut [T], index: u64, start: u64, entry: T)
-    ensures { WritesOneMore start index entry array.old array.new }
+/// Writes `entry` at an index. Leaves the array unchanged if it has no element for that index.
+pub fn write_entry<T: Copy>(array: &mut [T], index: usize, entry: T)
+    ensures one_more { WritesOneMore 0 index entry array.old array.new }
+    ensures written { array.new ≡ with_entries_at index (entry ∷ []) array.old }
 {
-    if index < start {
-        return;
-    }
-    let position = index - start;
-    if position < array.len() as u64 {
-        array[position as usize] = entry;
+    if index < array.len() {
+        array[index] = entry;
     }
 }
 
 /// Copies `entries` over the start of `array`, up to its capacity.
-pub(crate) fn copy_prefix<T: Copy>(array: &mut [T], entries: &[T])
+pub fn copy_prefix<T: Copy>(array: &mut [T], entries: &[T])
     ensures { array.new ≡ with_prefix entries.now array.old }
 {
     let count = array.len().min(entries.len());
@@ -27,7 +22,7 @@ pub(crate) fn copy_prefix<T: Copy>(array: &mut [T], entries: &[T])
 }
 
 /// Copies `entries` into `array` after its first `offset` elements, up to its capacity.
-pub(crate) fn copy_at<T: Copy>(array: &mut [T], offset: u64, entries: &[T])
+pub fn copy_at<T: Copy>(array: &mut [T], offset: u64, entries: &[T])
     ensures { array.new ≡ with_entries_at offset entries.now array.old }
 {
     if offset < array.len() as u64 {

@@ -1,14 +1,13 @@
 //! The attributes of a perf.data file or pipe, with their names and IDs.
 ghost use Rattle.std.specs.Prelude.{◌≡◌};
-ghost use Rattle.perfdata_arrays.specs.Attrs.{AreEndOffsets, ReadsFileAttrs, ReadsPipeAttrs, IsCheckedSum};
+ghost use Rattle.perfdata_arrays.specs.Attrs.{AreEndOffsets, ReadsAttrs, ReadsFileAttrs, ReadsPipeAttrs};
 ghost use Rattle.perfdata_arrays.specs.Attrs.{WritesAttrsOrPrefix, attr_entry_at, has_name_number};
 ghost use Rattle.perfdata_arrays.specs.Attrs.{name_bytes, no_attrs_with};
 
 use crate::array::{copy_at, write_entry};
-use crate::records::{walk, walk_result_status};
-use crate::status::{Status, status_of_error};
+use crate::metadata::{Metadata, file_metadata, pipe_metadata};
+use crate::status::Status;
 use linux_perf_data::AttributeDescription;
-use linux_perf_data::in_memory::InMemoryReader;
 use std::alloc::Global;
 
 /// An attribute as plain numbers (`perf_event_attr` in Linux's `perf_event.h`), with the positions of its
@@ -193,7 +192,7 @@ fn write_attrs(
             };
         };
         let entry = attr_entry(description, name_offset, ids_start);
-        write_entry(entries, index as u64, 0, entry);
+        write_entry(entries, index, entry);
         copy_at(names, name_offset, attr_name(description));
         copy_at(ids, ids_start, description.ids());
         name_offset = names_end;
@@ -220,6 +219,27 @@ fn no_attrs(status: Status) -> AttrsResult
     AttrsResult { totals, status }
 }
 
+// Writes the attributes of a recording that was read.
+fn attrs_of(
+    read: Result<Metadata, Status>,
+    entries: &mut [Attr],
+    names: &mut [u8],
+    ids: &mut [u64],
+) -> AttrsResult
+    ensures { ReadsAttrs read entries.old names.old ids.old result entries.new names.new ids.new }
+{
+    match read {
+        Ok(metadata) => write_attrs(
+            metadata.perf_file.event_attributes(),
+            entries,
+            names,
+            ids,
+            metadata.status,
+        ),
+        Err(status) => no_attrs(status),
+    }
+}
+
 /// Writes the attributes of a perf.data file, their concatenated names and their IDs.
 ///
 /// Each array receives as many elements as it has capacity for. The totals count all elements.
@@ -236,16 +256,7 @@ pub fn file_attrs(
 ) -> AttrsResult
     ensures { ReadsFileAttrs bytes.now entries.old names.old ids.old result entries.new names.new ids.new }
 {
-    match InMemoryReader::parse_file(alloc, bytes) {
-        Ok(reader) => write_attrs(
-            reader.perf_file.event_attributes(),
-            entries,
-            names,
-            ids,
-            Status::Success,
-        ),
-        Err(error) => no_attrs(status_of_error(&error)),
-    }
+    attrs_of(file_metadata(alloc, bytes), entries, names, ids)
 }
 
 /// Writes the attributes of a perf.data pipe, including late ones, as [`file_attrs`] does.
@@ -262,13 +273,5 @@ pub fn pipe_attrs(
 ) -> AttrsResult
     ensures { ReadsPipeAttrs bytes.now entries.old names.old ids.old result entries.new names.new ids.new }
 {
-    let reader = match InMemoryReader::parse_pipe(alloc, bytes) {
-        Ok(reader) => reader,
-        Err(error) => return no_attrs(status_of_error(&error)),
-    };
-    let mut perf_file = reader.perf_file;
-    let mut input = reader.records;
-    let walked = walk(&mut input, &mut perf_file, 0, &mut []);
-    let status = walk_result_status(&walked.end);
-    write_attrs(perf_file.event_attributes(), entries, names, ids, status)
+    attrs_of(pipe_metadata(alloc, bytes), entries, names, ids)
 }

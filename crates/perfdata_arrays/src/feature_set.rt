@@ -1,11 +1,10 @@
 //! The set of features of a perf.data file or pipe.
 ghost use Rattle.std.specs.Prelude.{◌≡◌};
 ghost use Rattle.perfdata_arrays.specs.FeatureSets.{AreBitsOf, ReadsFileFeatures, ReadsPipeFeatures};
-ghost use Rattle.perfdata_arrays.specs.FeatureSets.{no_features_with};
+ghost use Rattle.perfdata_arrays.specs.FeatureSets.{ReadsFeatures, no_features_with};
 
-use crate::records::{walk, walk_result_status};
-use crate::status::{Status, status_of_error};
-use linux_perf_data::in_memory::InMemoryReader;
+use crate::metadata::{Metadata, file_metadata, pipe_metadata};
+use crate::status::Status;
 use perfdata_base::features::FeatureSet;
 use std::alloc::Global;
 
@@ -59,6 +58,19 @@ fn no_features(status: Status) -> FeaturesResult
     FeaturesResult { features, status }
 }
 
+// The features of a recording that was read.
+fn features_of(read: Result<Metadata, Status>) -> FeaturesResult
+    ensures { ReadsFeatures read result }
+{
+    match read {
+        Ok(metadata) => FeaturesResult {
+            features: bits_of(metadata.perf_file.features()),
+            status: metadata.status,
+        },
+        Err(status) => no_features(status),
+    }
+}
+
 /// Returns the features of a perf.data file.
 ///
 /// The status is `Success` if the file opens. If it doesn't open, the status is that of the error, and the
@@ -66,13 +78,7 @@ fn no_features(status: Status) -> FeaturesResult
 pub fn file_features(alloc: Global, bytes: &[u8]) -> FeaturesResult
     ensures { ReadsFileFeatures bytes.now result }
 {
-    match InMemoryReader::parse_file(alloc, bytes) {
-        Ok(reader) => FeaturesResult {
-            features: bits_of(reader.perf_file.features()),
-            status: Status::Success,
-        },
-        Err(error) => no_features(status_of_error(&error)),
-    }
+    features_of(file_metadata(alloc, bytes))
 }
 
 /// Returns the features of a perf.data pipe, up to its end or to its first error.
@@ -81,15 +87,5 @@ pub fn file_features(alloc: Global, bytes: &[u8]) -> FeaturesResult
 pub fn pipe_features(alloc: Global, bytes: &[u8]) -> FeaturesResult
     ensures { ReadsPipeFeatures bytes.now result }
 {
-    let reader = match InMemoryReader::parse_pipe(alloc, bytes) {
-        Ok(reader) => reader,
-        Err(error) => return no_features(status_of_error(&error)),
-    };
-    let mut perf_file = reader.perf_file;
-    let mut input = reader.records;
-    let walked = walk(&mut input, &mut perf_file, 0, &mut []);
-    FeaturesResult {
-        features: bits_of(perf_file.features()),
-        status: walk_result_status(&walked.end),
-    }
+    features_of(pipe_metadata(alloc, bytes))
 }

@@ -1,12 +1,12 @@
 //! The bytes of a feature of a perf.data file or pipe.
 ghost use Rattle.std.specs.Prelude.{◌≡◌};
 ghost use Rattle.linux_perf_data.specs.PerfFile.{feature_data_in_file};
-ghost use Rattle.perfdata_arrays.specs.Features.{CopiesFeature, ReadsFileFeature, ReadsPipeFeature};
+ghost use Rattle.perfdata_arrays.specs.Features.{CopiesFeature, ReadsFeature, ReadsFileFeature};
+ghost use Rattle.perfdata_arrays.specs.Features.{ReadsPipeFeature};
 
 use crate::array::copy_prefix;
-use crate::records::{walk, walk_result_status};
-use crate::status::{Status, status_of_error};
-use linux_perf_data::in_memory::InMemoryReader;
+use crate::metadata::{Metadata, file_metadata, pipe_metadata};
+use crate::status::Status;
 use linux_perf_data::{Feature, PerfFile};
 use std::alloc::Global;
 
@@ -43,6 +43,20 @@ fn copy_feature(perf_file: &PerfFile, feature: u32, buf: &mut [u8], status: Stat
     }
 }
 
+// Copies the bytes of a feature of a recording that was read into `buf`, up to its capacity.
+fn feature_of(read: Result<Metadata, Status>, feature: u32, buf: &mut [u8]) -> FeatureResult
+    ensures { ReadsFeature read feature buf.old result buf.new }
+{
+    match read {
+        Ok(metadata) => copy_feature(&metadata.perf_file, feature, buf, metadata.status),
+        Err(status) => FeatureResult {
+            size: 0,
+            is_present: 0,
+            status,
+        },
+    }
+}
+
 /// Copies the bytes of a feature of a perf.data file into `buf`, up to its capacity.
 ///
 /// The status is `Success` if the file opens. If it doesn't open, the status is that of the error, `size` is
@@ -50,17 +64,7 @@ fn copy_feature(perf_file: &PerfFile, feature: u32, buf: &mut [u8], status: Stat
 pub fn file_feature(alloc: Global, bytes: &[u8], feature: u32, buf: &mut [u8]) -> FeatureResult
     ensures { ReadsFileFeature bytes.now feature buf.old result buf.new }
 {
-    match InMemoryReader::parse_file(alloc, bytes) {
-        Ok(reader) => copy_feature(&reader.perf_file, feature, buf, Status::Success),
-        Err(error) => {
-            let status = status_of_error(&error);
-            FeatureResult {
-                size: 0,
-                is_present: 0,
-                status,
-            }
-        }
-    }
+    feature_of(file_metadata(alloc, bytes), feature, buf)
 }
 
 /// Copies the bytes of a feature of a perf.data pipe into `buf`, up to its capacity.
@@ -70,20 +74,5 @@ pub fn file_feature(alloc: Global, bytes: &[u8], feature: u32, buf: &mut [u8]) -
 pub fn pipe_feature(alloc: Global, bytes: &[u8], feature: u32, buf: &mut [u8]) -> FeatureResult
     ensures { ReadsPipeFeature bytes.now feature buf.old result buf.new }
 {
-    let reader = match InMemoryReader::parse_pipe(alloc, bytes) {
-        Ok(reader) => reader,
-        Err(error) => {
-            let status = status_of_error(&error);
-            return FeatureResult {
-                size: 0,
-                is_present: 0,
-                status,
-            };
-        }
-    };
-    let mut perf_file = reader.perf_file;
-    let mut input = reader.records;
-    let walked = walk(&mut input, &mut perf_file, 0, &mut []);
-    let status = walk_result_status(&walked.end);
-    copy_feature(&perf_file, feature, buf, status)
+    feature_of(pipe_metadata(alloc, bytes), feature, buf)
 }

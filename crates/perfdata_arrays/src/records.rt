@@ -2,13 +2,14 @@
 ghost use Rattle.std.specs.Prelude.{◌≡◌};
 ghost use Rattle.perfdata_arrays.specs.Pages.{ReadsFilePage, WalksPage};
 ghost use Rattle.perfdata_arrays.specs.Records.{ReadsPipeRecords};
-ghost use Rattle.perfdata_arrays.specs.Walk.{ReadsMoreEntries, WalksRecords, walk_status};
+ghost use Rattle.perfdata_arrays.specs.Overwrites.{WritesOneMore};
+ghost use Rattle.perfdata_arrays.specs.Walk.{ReadsMoreEntries, WalksRecords};
 
-use crate::array::write_entry;
-use crate::status::{Status, status_of_error};
+use crate::opening::{Recording, open};
+use crate::status::{Status, status_of_end};
+use linux_perf_data::in_memory::InMemoryRecords;
 use linux_perf_data::in_memory::entries::RecordEntry;
 use linux_perf_data::in_memory::position::RecordPosition;
-use linux_perf_data::in_memory::{InMemoryReader, InMemoryRecords};
 use linux_perf_data::{Error, PerfFile};
 use std::alloc::Global;
 
@@ -46,6 +47,20 @@ fn read_more_entries(
     input.read_entries(perf_file, &mut entries[written..]) as u64
 }
 
+// Writes the entry of record `index` into an array that begins with the entry of record `start`. Leaves the
+// array unchanged if it has no element for it.
+fn write_record(entries: &mut [RecordEntry], index: u64, start: u64, entry: RecordEntry)
+    ensures { WritesOneMore start index entry entries.old entries.new }
+{
+    if index < start {
+        return;
+    }
+    let position = index - start;
+    if position < entries.len() as u64 {
+        entries[position as usize] = entry;
+    }
+}
+
 // Reads all records and writes the entries of the records from index `start` on, up to the capacity of
 // `entries`.
 pub(crate) fn walk(
@@ -64,7 +79,7 @@ pub(crate) fn walk(
         match input.next_record(perf_file) {
             Ok(Some((place, record))) => {
                 let entry = RecordEntry::new(first_record_offset, place, &record);
-                write_entry(entries, count, start, entry);
+                write_record(entries, count, start, entry);
                 count += 1;
             }
             Ok(None) => {
@@ -77,16 +92,6 @@ pub(crate) fn walk(
                 };
             }
         }
-    }
-}
-
-// The status for the end of a walk.
-pub(crate) fn walk_result_status(end: &Result<(), Error>) -> Status
-    ensures { result ≡ walk_status end.now }
-{
-    match end {
-        Ok(()) => Status::Success,
-        Err(error) => status_of_error(error),
     }
 }
 
@@ -166,12 +171,9 @@ pub fn file_records(
 ) -> RecordsResult
     ensures { ReadsFilePage bytes.now position.old entries.old result position.new entries.new }
 {
-    let reader = match InMemoryReader::parse_file_at(alloc, bytes, *position) {
+    let reader = match open(alloc, bytes, Recording::File(*position)) {
         Ok(reader) => reader,
-        Err(error) => {
-            let status = status_of_error(&error);
-            return RecordsResult { count: 0, status };
-        }
+        Err(status) => return RecordsResult { count: 0, status },
     };
     let mut perf_file = reader.perf_file;
     let mut input = reader.records;
@@ -179,7 +181,7 @@ pub fn file_records(
     *position = walked.next;
     RecordsResult {
         count: walked.count,
-        status: walk_result_status(&walked.end),
+        status: status_of_end(&walked.end),
     }
 }
 
@@ -202,18 +204,15 @@ pub fn pipe_records(
 ) -> RecordsResult
     ensures { ReadsPipeRecords bytes.now start entries.old result entries.new }
 {
-    let reader = match InMemoryReader::parse_pipe(alloc, bytes) {
+    let reader = match open(alloc, bytes, Recording::Pipe) {
         Ok(reader) => reader,
-        Err(error) => {
-            let status = status_of_error(&error);
-            return RecordsResult { count: 0, status };
-        }
+        Err(status) => return RecordsResult { count: 0, status },
     };
     let mut perf_file = reader.perf_file;
     let mut input = reader.records;
     let walked = walk(&mut input, &mut perf_file, start, entries);
     RecordsResult {
         count: walked.count,
-        status: walk_result_status(&walked.end),
+        status: status_of_end(&walked.end),
     }
 }

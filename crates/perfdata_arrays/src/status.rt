@@ -2,7 +2,7 @@
 ghost use Rattle.std.specs.Prelude.{◌≡◌, ◌-◌, ◌++◌, ◌∷◌, [], length, take};
 ghost use Rattle.linux_perf_data.specs.RecordEntries.{with_prefix};
 ghost use Rattle.perfdata_arrays.specs.Status.{io_kind_status, read_error_status, error_status};
-ghost use Rattle.perfdata_arrays.specs.Status.{jit_error_status, status_code, code_text};
+ghost use Rattle.perfdata_arrays.specs.Status.{jit_error_status, status_code, code_text, walk_status};
 
 use crate::array::{copy_prefix, write_entry};
 use linux_perf_data::jitdump::JitDumpError;
@@ -86,6 +86,10 @@ pub enum Status {
 
     /// A record of a symbol table section of simpleperf is malformed.
     BadSymbolTable,
+
+    /// The call chain of the next sample has more frames than the array of frames has elements, or the next
+    /// record has more counter values than their array.
+    NoSpace,
 }
 
 impl Status {
@@ -119,6 +123,7 @@ impl Status {
             Status::JitWrongType => 22,
             Status::JitBadBody => 23,
             Status::BadSymbolTable => 24,
+            Status::NoSpace => 25,
         }
     }
 }
@@ -154,6 +159,7 @@ fn text_of_code(code: u32) -> &'static str
         22 => "the jitdump record has another type",
         23 => "the body of the jitdump record is malformed",
         24 => "a record of simpleperf's symbol tables is malformed",
+        25 => "the array is too small for the next record",
         _ => "unknown status",
     }
 }
@@ -164,7 +170,7 @@ fn write_c_text(buf: &mut [u8], text: &[u8])
 {
     let count = text.len().min(buf.len().saturating_sub(1));
     copy_prefix(buf, &text[..count]);
-    write_entry(buf, count as u64, 0, 0);
+    write_entry(buf, count, 0);
 }
 
 /// Writes the text of a status code into `buf`, with a NUL after it, and returns the size of the text in
@@ -228,6 +234,16 @@ pub fn status_of_error(error: &Error) -> Status
         Error::ProtobufParsingSimpleperfFileSection(_) => Status::BadSymbolTable,
         Error::ParsingSimpleperfFileV1Section(_) => Status::BadSymbolTable,
         _ => Status::Other,
+    }
+}
+
+/// Returns the status for the end of a walk over records.
+pub fn status_of_end(end: &Result<(), Error>) -> Status
+    ensures { result ≡ walk_status end.now }
+{
+    match end {
+        Ok(()) => Status::Success,
+        Err(error) => status_of_error(error),
     }
 }
 

@@ -8,8 +8,8 @@ use Rattle.perfdata_spaces.specs.Effects.{Applied}
 use Rattle.perfdata_spaces.specs.Mappings.{MappingValue}
 use Rattle.perfdata_stacks.specs.Frames.{lookup_address}
 use Rattle.perfdata_stacks.specs.declared.frames.SampleFrame.{SampleFrame}
-use Rattle.perfdata_samples.proofs.Arrays.{no_entries}
-use Rattle.perfdata_samples.specs.Tasks.{one_if_true}
+use Rattle.perfdata_arrays.proofs.Arrays.{no_entries}
+use Rattle.perfdata_arrays.specs.Tasks.{one_if_true}
 use Rattle.perfdata_stack_arrays.proofs.ArrayWrites.{count_append, more_at, related_push}
 use Rattle.perfdata_stack_arrays.specs.Arrays.{count_of, saturated}
 use Rattle.perfdata_stack_arrays.specs.Frames.{FindsPlace, IsFrameOf, WritesFrames, frame_entry_at, place_at, place_of}

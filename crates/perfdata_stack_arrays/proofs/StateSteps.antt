@@ -9,7 +9,7 @@ use Rattle.perfdata_spaces.specs.AddressSpaces.{AddsMappings, Follows, mapping_a
 use Rattle.perfdata_spaces.specs.Effects.{Applied, SpaceEffect, Maps, MapsKernel, Registers, Removes, Copies, Clears, Leaves, added, name_effect, space_effect}
 use Rattle.perfdata_spaces.specs.Mappings.{MappingValue}
 use Rattle.perfdata_spaces.specs.declared.address_spaces.AddressSpaces.{AddressSpaces}
-use Rattle.perfdata_samples.proofs.Arrays.{no_entries}
+use Rattle.perfdata_arrays.proofs.Arrays.{no_entries}
 use Rattle.perfdata_stack_arrays.proofs.ArrayWrites.{count_append, more_at}
 use Rattle.perfdata_stack_arrays.proofs.NameSteps.{text_push}
 use Rattle.perfdata_stack_arrays.specs.Arrays.{count_of, saturated}

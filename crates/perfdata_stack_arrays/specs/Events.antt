@@ -12,7 +12,7 @@ use Rattle.linux_perf_data.specs.RecordEntries.{attr_index_or_zero}
 use Rattle.perfdata_events.specs.Event.{IsParsed, ParseFails}
 use Rattle.perfdata_events.specs.EventFormat.{big_endian_format_of, event_format_of}
 use Rattle.perfdata_events.specs.declared.format.EventFormat.{EventFormat}
-use Rattle.perfdata_samples.specs.Entries.{IsRawOf}
+use Rattle.perfdata_arrays.specs.Entries.{IsRawOf}
 use Rattle.perfdata_stack_arrays.specs.declared.events.Event.{Event}
 
 -- The format of the records of an attribute. A big-endian compiler laid out the flags of a big-endian recording.

@@ -4,8 +4,8 @@ use Rattle.perfdata_arrays.specs.Overwrites.{with_entries_at}
 use Rattle.perfdata_base.specs.RecordType.{cpu_mode_of}
 use Rattle.perfdata_events.specs.declared.fields.call_chain.CallContext.{CallContext}
 use Rattle.perfdata_events.specs.declared.sample.SampleRecord.{SampleRecord}
-use Rattle.perfdata_samples.specs.Tasks.{one_if_true}
-use Rattle.perfdata_samples.specs.Samples.{context_code}
+use Rattle.perfdata_arrays.specs.Tasks.{one_if_true}
+use Rattle.perfdata_arrays.specs.Samples.{context_code}
 use Rattle.perfdata_spaces.specs.AddressSpaces.{space_effects}
 use Rattle.perfdata_spaces.specs.Effects.{Applied}
 use Rattle.perfdata_spaces.specs.Histories.{IndexedMapping, IsFound, context_in}

@@ -7,8 +7,7 @@ use Rattle.linux_perf_data.specs.PerfFile.{attributes_of_file, descriptions_of_f
 use Rattle.linux_perf_data.specs.RecordViews.{record_view_of}
 use Rattle.linux_perf_data.specs.declared.in_memory.InMemoryReader.{InMemoryReader}
 use Rattle.linux_perf_data.specs.declared.perf_file.PerfFile.{PerfFile}
-use Rattle.perfdata_arrays.specs.Status.{error_status}
-use Rattle.perfdata_arrays.specs.Walk.{walk_status}
+use Rattle.perfdata_arrays.specs.Status.{error_status, walk_status}
 use Rattle.perfdata_arrays.specs.declared.status.Status.{Status}
 use Rattle.perfdata_order.specs.InMemoryOrder.{Entry}
 use Rattle.perfdata_spaces.specs.Effects.{Applied}

@@ -5,10 +5,11 @@ ghost use Rattle.perfdata_spaces.specs.Effects.{Applied};
 ghost use Rattle.perfdata_stack_arrays.specs.Frames.{FindsPlace, IsFrameOf, WritesFrames, frames_in};
 ghost use Rattle.perfdata_stack_arrays.specs.Frames.{place_at};
 
-use crate::array::{add_counts, write_entry};
+use crate::array::add_counts;
+use perfdata_arrays::array::write_entry;
+use perfdata_arrays::samples::frame::FrameEntry;
 use perfdata_events::call_chain::CallContext;
 use perfdata_events::sample::SampleRecord;
-use perfdata_samples::frame::FrameEntry;
 use perfdata_spaces::address_spaces::{AddressSpaces, context_of_mode};
 use perfdata_stacks::frames::{SampleFrame, SampleFrames};
 

@@ -3,7 +3,7 @@ ghost use Rattle.std.specs.Prelude.{◌≡◌};
 ghost use Rattle.perfdata_spaces.specs.Mappings.{mapping_value};
 ghost use Rattle.perfdata_stack_arrays.specs.Mappings.{kind_code, mapping_entry_of, padded_build_id};
 
-use crate::array::copy_prefix;
+use perfdata_arrays::array::copy_prefix;
 use perfdata_spaces::mapping::{Mapping, MappingKind};
 
 // The maximum size of a build id in bytes.

@@ -6,9 +6,9 @@ ghost use Rattle.perfdata_spaces.specs.Effects.{Applied};
 ghost use Rattle.perfdata_stack_arrays.specs.Names.{FollowsRanges};
 ghost use Rattle.perfdata_stack_arrays.specs.Stacks.{WritesStack, stack_entry_of, task_of};
 
-use crate::array::write_entry;
 use crate::frame::{StackFrame, write_frames};
 use crate::names::{NameRanges, TextRange};
+use perfdata_arrays::array::write_entry;
 use perfdata_events::fields::task::Task;
 use perfdata_events::sample::SampleRecord;
 use perfdata_spaces::address_spaces::AddressSpaces;

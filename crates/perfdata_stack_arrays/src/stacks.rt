@@ -2,7 +2,6 @@
 ghost use Rattle.std.specs.Prelude.{◌≡◌};
 ghost use Rattle.linux_perf_data.specs.PerfFile.{attributes_of_file, endian_of_file};
 ghost use Rattle.linux_perf_data.specs.RecordViews.{record_view_of};
-ghost use Rattle.perfdata_arrays.specs.Walk.{walk_status};
 ghost use Rattle.perfdata_stack_arrays.specs.Adding.{AddsRecord, totals_so_far};
 ghost use Rattle.perfdata_stack_arrays.specs.Reading.{ReadsFileStacks, ReadsPipeStacks, ReadsStacksOf};
 ghost use Rattle.perfdata_stack_arrays.specs.Reading.{WalksStacks};
@@ -18,7 +17,7 @@ use crate::state::State;
 use crate::totals::StackTotals;
 use linux_perf_data::in_memory::{InMemoryReader, InMemoryRecords};
 use linux_perf_data::{Error, PerfFile, PerfFileRecord, RecordPlace};
-use perfdata_arrays::status::{Status, status_of_error};
+use perfdata_arrays::status::{Status, status_of_end, status_of_error};
 use perfdata_events::event::EventRecord;
 use std::alloc::{AllocError, Global};
 
@@ -163,16 +162,6 @@ const NO_STACKS: StackTotals = StackTotals {
     mapping_count: 0,
     text_size: 0,
 };
-
-// The status for the end of a walk.
-fn status_of_end(end: &Result<(), Error>) -> Status
-    ensures { result ≡ walk_status end.now }
-{
-    match end {
-        Ok(()) => Status::Success,
-        Err(error) => status_of_error(error),
-    }
-}
 
 // Writes the stacks of an opened recording.
 fn stacks_of(

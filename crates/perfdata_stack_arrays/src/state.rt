@@ -9,9 +9,10 @@ ghost use Rattle.perfdata_spaces.specs.Mappings.{mapping_value};
 ghost use Rattle.perfdata_stack_arrays.specs.Mappings.{name_in};
 ghost use Rattle.perfdata_stack_arrays.specs.MappingWrites.{WritesMapping, with_text};
 
-use crate::array::{add_counts, copy_at, write_entry};
+use crate::array::add_counts;
 use crate::mapping::{StackMapping, mapping_entry};
 use crate::names::NameRanges;
+use perfdata_arrays::array::{copy_at, write_entry};
 use perfdata_events::event::EventRecord;
 use perfdata_spaces::address_spaces::AddressSpaces;
 use perfdata_spaces::mapping::Mapping;
@@ -62,7 +63,7 @@ fn write_text(counts: TextCounts, bytes: &[u8], text: &mut [u8]) -> TextCounts
 {
     // For the prover: a slice is shorter than 2^63 bytes.
     let _capacity = text.len();
-    copy_at(text, counts.text, bytes);
+    copy_at(text, counts.text as u64, bytes);
     TextCounts {
         text: add_counts(counts.text, bytes.len()),
         ..counts

@@ -1,5 +1,5 @@
 use Rattle.std.proofs.Common.{subst}
-use Rattle.perfdata_samples.specs.Details.{ReadsDetails, format_of_attr}
+use Rattle.perfdata_arrays.specs.Details.{ReadsDetails, format_of_attr}
 use Rattle.dewikura.proofs.dewikura_read_sample_details_raw.Goals as goal
 
 pub returns : goal.returns

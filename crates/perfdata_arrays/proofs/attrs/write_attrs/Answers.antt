@@ -30,5 +30,5 @@ attributes-preserved c =
       ids_count = omega (arith, ids_end, ids_counted, length-all_ids-snoc descriptions d, ap (λ l. length (all_ids l)) prefix);
       writes = subst (λ l. WritesAttrs l c.args.entries.now c.args.names.now c.args.ids.now c.write_entry.new.array c.copy_at.new.array c.copy_at-in-attributes.new.array) (sym prefix)
           (writes_attrs-snoc descriptions d c.args.entries.now c.attributes.entries c.write_entry.new.array c.args.names.now c.args.ids.now c.attributes.names c.attributes.ids c.copy_at.new.array c.copy_at-in-attributes.new.array
-          index c.attributes.name_offset c.attributes.ids_start c.attr_entry-entry.result c.attr_name.result.now c.ids.result.now inv.writes (sym (length-take-le index all inv.within)) names_counted ids_counted c.attr_entry-entry.ensures name own c.write_entry.ensures c.copy_at.ensures c.copy_at-in-attributes.ensures);
+          index c.attributes.name_offset c.attributes.ids_start c.attr_entry-entry.result c.attr_name.result.now c.ids.result.now inv.writes (sym (length-take-le index all inv.within)) names_counted ids_counted c.attr_entry-entry.ensures name own c.write_entry.ensures.one_more c.copy_at.ensures c.copy_at-in-attributes.ensures);
     }

@@ -1,4 +1,4 @@
-use Rattle.std.proofs.Common.{arith, ◌≤◌, ◌-◌, ◌∙◌, ap, length, subst, take, drop, length-drop}
+use Rattle.std.proofs.Common.{arith, ◌≤◌, ◌∙◌, ap, length, subst, length-drop}
 use Rattle.perfdata_jit.specs.RecordBytes.{record_header_at}
 use Rattle.perfdata_arrays.proofs.JitLemmas.{finds_whole}
 use Rattle.perfdata_arrays.proofs.OverwriteLemmas.{take-drop-length}

@@ -1,4 +1,4 @@
-use Rattle.std.proofs.Common.{arith, Ok, [], ◌∷◌, ◌++◌, ◌+◌, ◌<◌, length, refl, ap, ◌∙◌, sym}
+use Rattle.std.proofs.Common.{arith, Ok, [], ◌∷◌, ◌++◌, ap, ◌∙◌, sym}
 use Rattle.std.proofs.lemmas.List.{length-map}
 use Rattle.linux_perf_data.specs.InMemoryReading.{first_record_offset_of}
 use Rattle.linux_perf_data.specs.RecordEntries.{record_entries_at, record_entry_at}
@@ -32,9 +32,9 @@ records-preserved c =
     let step = rw (c.in-Ok-Some.is ∙ ap Ok c.in-Ok-Some.field-0-is) at c.next_record.ensures.returns_next in
     let some = record_entries_at base so_far.records in
     let entry = c.new-entry.ensures ∙ ap (λ n. record_entry_at n (record_view_of place found)) c.first_record_offset-first_record_offset.ensures in
-    let written = c.write_entry.ensures some array (so_far.count_is ∙ sym (length-map so_far.records (record_entry_at base))) so_far.written
+    let written = c.write_record.ensures some array (so_far.count_is ∙ sym (length-map so_far.records (record_entry_at base))) so_far.written
     ∙ ap (λ e. with_prefix_from c.args.start (some ++ e ∷ []) array) entry in
-    record { so_far = read_next start middle c.next_record.new.self c.args.perf_file.now c.records.perf_file c.next_record.new.perf_file c.args.start _ array c.read_more_entries-count.new.entries c.write_entry.new.array place found so_far step c.next_record.ensures.same_input written }
+    record { so_far = read_next start middle c.next_record.new.self c.args.perf_file.now c.records.perf_file c.next_record.new.perf_file c.args.start _ array c.read_more_entries-count.new.entries c.write_record.new.entries place found so_far step c.next_record.ensures.same_input written }
 
 pub returns-in-Ok-None : goal.returns-in-Ok-None
 returns-in-Ok-None c =

@@ -1,8 +1,8 @@
-use Rattle.std.proofs.Common.{arith, ◌≡◌, Ok, [], ◌∷◌, ◌++◌, ◌+◌, ◌<◌, length, ap, ◌∙◌, sym, inr}
-use Rattle.std.proofs.lemmas.List.{length-map, map_push}
+use Rattle.std.proofs.Common.{arith, ◌≡◌, Ok, ◌<◌, length, ap, ◌∙◌, sym, inr}
+use Rattle.std.proofs.lemmas.List.{length-map}
 use Rattle.std.specs.Prelude.{slice_set}
 use Rattle.linux_perf_data.specs.InMemoryReading.{first_record_offset_of}
-use Rattle.linux_perf_data.specs.RecordEntries.{record_entries_at, record_entry_at, with_prefix}
+use Rattle.linux_perf_data.specs.RecordEntries.{record_entries_at, record_entry_at}
 use Rattle.linux_perf_data.specs.RecordViews.{record_view_of}
 use Rattle.linux_perf_data.proofs.EntryLemmas.{length-with_prefix, with_prefix-snoc}
 use Rattle.perfdata_arrays.proofs.WalkLemmas.{ReadSoFar, full_page, read_more, read_next, read_none}

@@ -12,4 +12,4 @@ returns c =
     let count = c.min-count.result in
     let is : count ≡ min (length text) (length old - 1) = c.min-count.ensures ∙ ap (λ n. min (length text) n) c.saturating_sub.ensures in
     let long : count ≡ length (take count text) = sym (length-take-le count text (omega (arith, is))) in
-    c.write_entry.ensures (take count text) old long c.copy_prefix.ensures ∙ ap (λ l. with_prefix (l ++ 0 ∷ []) old) (take-min count (length old - 1) text is)
+    c.write_entry.ensures.one_more (take count text) old long c.copy_prefix.ensures ∙ ap (λ l. with_prefix (l ++ 0 ∷ []) old) (take-min count (length old - 1) text is)

@@ -17,7 +17,7 @@ frames-preserved c = λ before follows.
     let pid = to_z-of_z w32 c.args.pid c.ranges.pid in
     let steps = ap (λ (l : List SampleFrame). old.0 ++ l) c.in-Some.ensures.steps in
     let is = rw pid at (c.frame_entry-entry.ensures before follows) in
-    let more = writes_more before c.args.pid old.0 frame c.args.used c.args.frames.now _ c.write_entry.new.array _ _ c.add_counts-count.result _ (rw pid at old.2) is (omega arith) c.add_counts.ensures c.write_entry.ensures c.add_counts-count.ensures in (
+    let more = writes_more before c.args.pid old.0 frame c.args.used c.args.frames.now _ c.write_entry.new.array _ _ c.add_counts-count.result _ (rw pid at old.2) is (omega arith) c.add_counts.ensures c.write_entry.ensures.written c.add_counts-count.ensures in (
       old.0 ++ frame ∷ [],
       old.1 ∙ steps ∙ sym (append_assoc old.0 (frame ∷ []) (remaining_frames c.next.new.self)),
       subst (λ (p : ℤ). WritesFrames before p (old.0 ++ frame ∷ []) c.args.used c.args.frames.now c.add_counts-count.result c.write_entry.new.array) (sym pid) more,

@@ -23,6 +23,6 @@ returns c = λ before follows names.
         stack_is = c.stack_entry-entry.ensures ∙ ap (λ (n : ℕ). stack_entry_of c.args.envelope sample (record { start = c.args.used; count = n }) c.get.result) frames.count_is;
       };
       added_is = frames.count_is;
-      written = c.write_entry.ensures;
+      written = c.write_entry.ensures.written;
       frames_written = frames.written;
     }

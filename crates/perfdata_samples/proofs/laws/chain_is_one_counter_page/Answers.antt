@@ -1,5 +1,0 @@
-use Rattle.perfdata_samples.proofs.CounterChainLemmas as lemma
-use Rattle.perfdata_samples.proofs.laws.chain_is_one_counter_page.Goals as goal
-
-pub returns : goal.returns
-returns c = lemma.chain_is_one_counter_page
