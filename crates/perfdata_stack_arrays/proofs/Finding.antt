@@ -1,5 +1,5 @@
 -- Frames as they are looked up.
-use Rattle.std.proofs.Common.{◌≡◌, ◌∙◌, ap, refl, sym, subst, arith, ℕ, ℤ, ◌+◌, ◌^◌, ◌<◌, List, [], ◌∷◌, ◌++◌, append_assoc, length, Bool, true, false, Option, Some}
+use Rattle.std.proofs.Common.{◌≡◌, ◌∙◌, ap, refl, sym, arith, ℕ, ℤ, ◌+◌, ◌^◌, ◌<◌, List, [], ◌∷◌, ◌++◌, length, Bool, true, false, Option, Some}
 use Rattle.std.specs.Prelude.{slice_get}
 use mir.Val.{bool_byte}
 use Rattle.std.specs.Option.{option_map}
@@ -11,7 +11,7 @@ use Rattle.perfdata_stacks.specs.declared.frames.SampleFrame.{SampleFrame}
 use Rattle.perfdata_arrays.proofs.Arrays.{no_entries}
 use Rattle.perfdata_arrays.specs.Tasks.{one_if_true}
 use Rattle.perfdata_stack_arrays.proofs.ArrayWrites.{count_append, more_at, related_push}
-use Rattle.perfdata_stack_arrays.specs.Arrays.{count_of, saturated}
+use Rattle.perfdata_stack_arrays.specs.Arrays.{saturated}
 use Rattle.perfdata_stack_arrays.specs.Frames.{FindsPlace, IsFrameOf, WritesFrames, frame_entry_at, place_at, place_of}
 use Rattle.perfdata_stack_arrays.specs.declared.frame.CodePlace.{CodePlace}
 use Rattle.perfdata_stack_arrays.specs.declared.frame.StackFrame.{StackFrame}

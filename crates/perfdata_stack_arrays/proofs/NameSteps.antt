@@ -1,5 +1,5 @@
 -- Where the names of threads are after one more record.
-use Rattle.std.proofs.Common.{◌≡◌, ◌∙◌, ap, refl, sym, subst, arith, ℕ, ℤ, ◌+◌, ◌^◌, ◌<◌, ◌≤◌, Bool, true, false, cond, List, [], ◌∷◌, ◌++◌, append_assoc, length, length-append, length-drop, take, drop, map, Option, None, Some}
+use Rattle.std.proofs.Common.{◌≡◌, ◌∙◌, ap, refl, sym, subst, arith, ℕ, ℤ, ◌+◌, ◌^◌, ◌<◌, ◌≤◌, Bool, true, false, cond, List, [], ◌∷◌, ◌++◌, length, length-append, length-drop, take, drop, Option, None, Some}
 use Rattle.std.proofs.Math.Seq.{drop-append_seam, take-append_seam}
 use Rattle.std.proofs.lemmas.List.{drop-append-le, map_push, take-append-le}
 use Rattle.std.proofs.lemmas.List.Concat.{flat_map-append}
@@ -7,11 +7,11 @@ use Rattle.perfdata_spaces.proofs.Lists.{flat_map_push}
 use Rattle.perfdata_spaces.proofs.NameSteps.{inherited_step, name_push, named_step}
 use Rattle.perfdata_spaces.specs.AddressSpaces.{name_effects}
 use Rattle.perfdata_spaces.specs.Effects.{Applied, Inherits, KeepsAll, NameEffect, Names, name_effect}
-use Rattle.perfdata_spaces.specs.NameHistories.{IsName, names}
+use Rattle.perfdata_spaces.specs.NameHistories.{IsName}
 use Rattle.perfdata_spaces.specs.Processes.{is_same}
 use Rattle.perfdata_stack_arrays.specs.Arrays.{count_of}
 use Rattle.perfdata_stack_arrays.specs.Mappings.{name_in, path_of, text_in, text_of}
-use Rattle.perfdata_stack_arrays.specs.Names.{FollowsRanges, IsNameAt, IsRangeOf, range_after, range_at, range_of}
+use Rattle.perfdata_stack_arrays.specs.Names.{FollowsRanges, IsRangeOf, range_after, range_at, range_of}
 use Rattle.perfdata_stack_arrays.specs.declared.names.NameRanges.{NameRanges}
 use Rattle.perfdata_stack_arrays.specs.declared.names.TextRange.{TextRange}
 

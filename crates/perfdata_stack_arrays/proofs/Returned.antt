@@ -1,5 +1,5 @@
 -- The number of the records that are returned.
-use Rattle.std.proofs.Common.{◌≡◌, ◌∙◌, ap, refl, sym, subst, arith, ℕ, ◌+◌, ◌^◌, ◌<◌, ◌≤◌, true, false, List, [], ◌∷◌, ◌++◌, length, length-append, map, Option, None, Some, Ok}
+use Rattle.std.proofs.Common.{◌≡◌, ◌∙◌, ap, refl, sym, subst, arith, ◌+◌, ◌^◌, ◌<◌, ◌≤◌, true, false, List, [], ◌∷◌, ◌++◌, length, length-append, map, Some, Ok}
 use Rattle.std.proofs.lemmas.List.{length-map, map_push}
 use Rattle.std.proofs.lemmas.List.Sorted.{length_permutation}
 use Rattle.std.specs.List.Sorted.{IsPermutation}
@@ -18,7 +18,7 @@ use Rattle.perfdata_order.specs.SorterLaws.Call.{ends_all, ends_round, inserts, 
 use Rattle.perfdata_order.specs.declared.in_memory.InMemoryOrderedRecords.{InMemoryOrderedRecords}
 use Rattle.perfdata_stack_arrays.specs.Laws.{AreReadOnce, ReturnsRecordsOnce}
 use Rattle.perfdata_stack_arrays.specs.Reading.{ReadsEvents, event_returned, no_calls, other_returned}
-use Rattle.perfdata_stack_arrays.specs.Records.{IsStart, ReturnsNext, StartsRecords}
+use Rattle.perfdata_stack_arrays.specs.Records.{IsStart, ReturnsNext}
 use Rattle.perfdata_stack_arrays.specs.declared.events.Event.{Event}
 use Rattle.perfdata_stack_arrays.specs.declared.records.Records.{Records}
 use Rattle.perfdata_stack_arrays.specs.declared.records.Records.TheVariants.{ByTime, InInputOrder}

@@ -1,16 +1,15 @@
 -- What is mapped, and the mappings and the text that are written, after one more record.
-use Rattle.std.proofs.Common.{◌≡◌, ◌∙◌, ap, refl, sym, subst, arith, ℕ, ◌+◌, ◌-◌, ◌^◌, ◌<◌, ◌≤◌, List, [], ◌∷◌, ◌++◌, append_assoc, length, length-append, map, Option, None, Some}
+use Rattle.std.proofs.Common.{◌≡◌, ◌∙◌, ap, refl, sym, subst, arith, ℕ, ◌+◌, ◌^◌, ◌<◌, ◌≤◌, List, [], ◌∷◌, ◌++◌, append_assoc, length, length-append, map, Option, None, Some}
 use Rattle.std.specs.Prelude.{slice_get}
 use Rattle.std.specs.List.{flat_map}
 use Rattle.std.proofs.lemmas.List.{append-nil, length-map}
 use Rattle.perfdata_arrays.specs.Overwrites.{with_entries_at}
-use Rattle.perfdata_events.specs.declared.event.EventRecord.{EventRecord}
 use Rattle.perfdata_spaces.specs.AddressSpaces.{AddsMappings, Follows, mapping_at, mapping_values}
 use Rattle.perfdata_spaces.specs.Effects.{Applied, SpaceEffect, Maps, MapsKernel, Registers, Removes, Copies, Clears, Leaves, added, name_effect, space_effect}
 use Rattle.perfdata_spaces.specs.Mappings.{MappingValue}
 use Rattle.perfdata_spaces.specs.declared.address_spaces.AddressSpaces.{AddressSpaces}
 use Rattle.perfdata_arrays.proofs.Arrays.{no_entries}
-use Rattle.perfdata_stack_arrays.proofs.ArrayWrites.{count_append, more_at}
+use Rattle.perfdata_stack_arrays.proofs.ArrayWrites.{more_at}
 use Rattle.perfdata_stack_arrays.proofs.NameSteps.{text_push}
 use Rattle.perfdata_stack_arrays.specs.Arrays.{count_of, saturated}
 use Rattle.perfdata_stack_arrays.specs.MappingWrites.{WritesMapping, with_text}

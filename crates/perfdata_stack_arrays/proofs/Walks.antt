@@ -1,5 +1,5 @@
 -- The records that a walk returned so far, and the stacks of these.
-use Rattle.std.proofs.Common.{◌≡◌, ◌∙◌, ap, refl, sym, subst, arith, inl, inr, ℕ, ◌+◌, ◌^◌, ◌<◌, List, [], ◌∷◌, ◌++◌, length, length-append, Option, None, Some, Result, Ok, Err}
+use Rattle.std.proofs.Common.{◌≡◌, ◌∙◌, ap, refl, sym, subst, arith, inl, inr, ℕ, ◌+◌, ◌^◌, ◌<◌, List, [], ◌∷◌, ◌++◌, length, length-append, Some, Result, Ok}
 use Rattle.std.specs.Prelude.{◌⊎◌}
 use Rattle.std.proofs.lemmas.List.{append-nil}
 use Rattle.linux_perf_data.specs.PerfFile.{attributes_of_file, endian_of_file}
@@ -21,11 +21,11 @@ use Rattle.perfdata_stack_arrays.proofs.StateSteps.{mappings_push}
 use Rattle.perfdata_stack_arrays.specs.Adding.{AddsApplied, AddsEvent, AddsRecord, AddsSample, FailsToAdd, PassesRecord, totals_so_far}
 use Rattle.perfdata_stack_arrays.specs.Arrays.{count_of, saturated}
 use Rattle.perfdata_stack_arrays.specs.Mappings.{mappings_in, mappings_of, text_in, text_of}
-use Rattle.perfdata_stack_arrays.specs.Reading.{EndsWalk, HasStacks, ReadsEvents, RunsOut, WalksStacks, event_returned, no_calls, other_returned}
+use Rattle.perfdata_stack_arrays.specs.Reading.{EndsWalk, ReadsEvents, RunsOut, WalksStacks, event_returned, no_calls, other_returned}
 use Rattle.perfdata_stack_arrays.specs.Records.{ReturnsNext}
 use Rattle.perfdata_stack_arrays.specs.Stacks.{AreStacksOf, IsStackOf, applied_as, applied_by, applied_in, none, passed, sampled}
 use Rattle.perfdata_stack_arrays.specs.State.{FollowsState}
-use Rattle.perfdata_stack_arrays.specs.Written.{WritesAll, Written, totals_of}
+use Rattle.perfdata_stack_arrays.specs.Written.{WritesAll, Written}
 use Rattle.perfdata_stack_arrays.specs.declared.events.Event.{Event}
 use Rattle.perfdata_stack_arrays.specs.declared.frame.StackFrame.{StackFrame}
 use Rattle.perfdata_stack_arrays.specs.declared.records.Records.{Records}

@@ -1,11 +1,10 @@
 -- The records of a recording in the order in which they apply.
-use Rattle.std.specs.Prelude.{◌≡◌, Bool, true, false, List, Option, Result}
+use Rattle.std.specs.Prelude.{◌≡◌, Bool, true, false, Option, Result}
 use Rattle.perfdata_sections.specs.declared.error.Error.{Error}
 use Rattle.linux_perf_data.specs.InMemoryReading.{ReturnsNextInMemory}
 use Rattle.linux_perf_data.specs.declared.in_memory.InMemoryRecords.{InMemoryRecords}
 use Rattle.linux_perf_data.specs.declared.perf_file.PerfFile.{PerfFile}
 use Rattle.perfdata_order.specs.InMemoryOrder.{Entry, IsNewOrder, ReturnsInOrder}
-use Rattle.perfdata_order.specs.declared.in_memory.InMemoryOrderedRecords.{InMemoryOrderedRecords}
 use Rattle.perfdata_stack_arrays.specs.declared.records.Records.{Records}
 use Rattle.perfdata_stack_arrays.specs.declared.records.Records.TheVariants.{ByTime, InInputOrder}
 

@@ -43,7 +43,7 @@ fn add_record(
     state: &mut State,
     perf_file: &PerfFile,
     place: RecordPlace,
-    record: &PerfFileRecord<'_>,
+    returned: &PerfFileRecord<'_>,
     counts: StackCounts,
     stacks: &mut [Stack],
     frames: &mut [StackFrame],
@@ -51,12 +51,12 @@ fn add_record(
     text: &mut [u8],
 ) -> Result<StackCounts, AllocError>
     ensures { AddsRecord (endian_of_file perf_file.now) (attributes_of_file perf_file.now)
-        (record_view_of place «record».now) state.old counts
+        (record_view_of place returned.now) state.old counts
         (record { stacks = stacks.old; frames = frames.old; mappings = mappings.old; text = text.old }) result
         state.new
         (record { stacks = stacks.new; frames = frames.new; mappings = mappings.new; text = text.new }) }
 {
-    let Some(event) = event_of(perf_file, place, record) else {
+    let Some(event) = event_of(perf_file, place, returned) else {
         return Ok(counts);
     };
     if let EventRecord::Sample(sample) = &event.parsed {

@@ -46,10 +46,10 @@ fn mapping_at(spaces: &AddressSpaces, index: Option<usize>) -> Option<&Mapping>
 }
 
 // The name that a record gives to a thread; empty if it gives none.
-fn name_in<'a>(alloc: Global, record: &EventRecord<'a>) -> Result<CowSlice<'a, u8>, AllocError>
-    ensures { IfOk result (λ name. cow_slice_items name ≡ name_in (naming_of «record».now)) }
+fn name_in<'a>(alloc: Global, event: &EventRecord<'a>) -> Result<CowSlice<'a, u8>, AllocError>
+    ensures { IfOk result (λ name. cow_slice_items name ≡ name_in (naming_of event.now)) }
 {
-    match record {
+    match event {
         EventRecord::Comm(comm) => comm.name.as_slice(alloc),
         _ => Ok(CowSlice::Borrowed(&[])),
     }
@@ -116,19 +116,19 @@ impl State {
     pub(crate) fn apply(
         &mut self,
         misc: u16,
-        record: &EventRecord<'_>,
+        event: &EventRecord<'_>,
         mappings: &mut [StackMapping],
         text: &mut [u8],
     ) -> Result<(), AllocError>
         ensures ok { OnOk result ((before : List Applied) → FollowsState before self.old →
-            AppliesRecord before (record { misc = misc; event = «record».now }) mappings.old text.old self.new
+            AppliesRecord before (record { misc = misc; event = event.now }) mappings.old text.old self.new
             mappings.new text.new) }
         ensures err { OnErr result
             (KeepsTotals self.old mappings.old text.old self.new mappings.new text.new) }
     {
-        let name = name_in(self.alloc, record)?;
-        let index = self.spaces.apply(misc, record)?;
-        self.names.apply(record, self.counts.text)?;
+        let name = name_in(self.alloc, event)?;
+        let index = self.spaces.apply(misc, event)?;
+        self.names.apply(event, self.counts.text)?;
         let counts = write_text(self.counts, &name, text);
         let mapping = mapping_at(&self.spaces, index);
         self.counts = write_mapping(counts, mapping, mappings, text);

@@ -1,9 +1,7 @@
-use Rattle.std.proofs.Common.{◌∙◌, ap, Option, None, Some}
-use Rattle.std.specs.Option.{option_map}
+use Rattle.std.proofs.Common.{◌∙◌, None, Some}
 use Rattle.perfdata_spaces.specs.AddressSpaces.{mapping_values}
 use Rattle.perfdata_spaces.specs.Mappings.{mapping_value}
 use Rattle.perfdata_stack_arrays.proofs.Finding.{place_with}
-use Rattle.perfdata_stack_arrays.specs.declared.frame.CodePlace.{CodePlace}
 use Rattle.perfdata_stack_arrays.proofs.frame.place_at.Goals as goal
 
 pub returns-in-Some-mapping : goal.returns-in-Some-mapping

@@ -1,4 +1,4 @@
-use Rattle.std.proofs.Common.{◌≡◌, ◌∙◌, ◌∷◌, [], ℕ, ℤ, Option, ap, of_z, rules, subst, sym, to_z, w32}
+use Rattle.std.proofs.Common.{◌≡◌, ◌∙◌, ℕ, ℤ, Option, ap, of_z, rules, subst, sym, to_z, w32}
 use Rattle.std.proofs.lemmas.Int.{to_z-of_z}
 use Rattle.perfdata_events.specs.declared.fields.task.Task.{Task}
 use Rattle.perfdata_stack_arrays.specs.Frames.{WritesFrames, frames_in}

@@ -1,7 +1,6 @@
-use Rattle.std.proofs.Common.{◌≡◌, ◌∙◌, ◌<◌, ◌^◌, ◌+◌, ap, arith, inl, inr, refl, length, Ok, Err}
+use Rattle.std.proofs.Common.{◌∙◌, ap, arith, inl, inr, refl, Ok, Err}
 use Rattle.perfdata_stack_arrays.proofs.Returned.{entries_fit}
 use Rattle.perfdata_stack_arrays.proofs.Walks.{AreShort, nothing_so_far, one_more, runs_out, walk_ends}
-use Rattle.perfdata_stack_arrays.specs.Written.{Written}
 use Rattle.perfdata_stack_arrays.proofs.stacks.walk_stacks.Goals as goal
 
 pub records-init : goal.records-init

@@ -8,7 +8,7 @@ use Rattle.perfdata_stack_arrays.proofs.state.State.apply.Goals as goal
 
 pub returns-clause-ok : goal.returns-clause-ok
 returns-clause-ok c = λ before follows.
-    let applied : Applied = record { misc = c.args.misc; event = c.args.record.now } in
+    let applied : Applied = record { misc = c.args.misc; event = c.args.event.now } in
     let effect = space_effect applied in
     let spaces = c.in_ok-index.ensures.ok before follows.spaces in
     let names = ranges_step before applied c.args.self.now.names c.apply-2.new.self c.args.self.now.counts.text follows.text follows.names c.in_ok-apply.ensures in
