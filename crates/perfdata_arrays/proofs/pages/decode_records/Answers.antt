@@ -56,9 +56,12 @@ returns-in-Err-decode g c =
     let same = same_length g.D.RecordDecoder.kind c.args.counts_all c.args.input.now c.args.perf_file.now c.args.entries.now c.args.frames.now c.records.count c.records.used c.records.input c.records.perf_file c.records.entries c.records.frames c.records.invariant.so_far in
     let counted = c.records.invariant.so_far.count_is in
     let free = c.reads_more.ensures.more c.records-test.true e.in_page in
-    decodes_records g.D.RecordDecoder.kind c.args.counts_all c.args.input.now c.args.perf_file.now c.args.entries.now c.args.frames.now c.records.count c.records.used c.records.input c.records.perf_file c.records.entries c.records.frames c.records.invariant.so_far c.next_record.new.self c.next_record.new.perf_file c.decode.new.entries c.decode.new.frames c.position-next.result (Exceeded c.in-Err-decode.needed) c.walk_end.result c.walk_end.ensures c.position-next.ensures e.unchanged e.frames_unchanged
-    (e.in_page, omega (arith, free, same, counted), exceeds_next g.D.RecordDecoder.kind c.args.counts_all c.args.input.now c.args.perf_file.now c.args.entries.now c.args.frames.now c.records.count c.records.used c.records.input c.records.perf_file c.records.entries c.records.frames c.records.invariant.so_far
-    c.next_record.new.self c.next_record.new.perf_file c.in-Ok-Some.place c.in-Ok-Some.record step c.next_record.ensures.same_input c.first_record_offset-base.result c.first_record_offset-base.ensures c.in-Err-decode.needed c.decode.new.entries c.decode.new.frames e)
+    decodes_records g.D.RecordDecoder.kind c.args.counts_all c.args.input.now c.args.perf_file.now c.args.entries.now c.args.frames.now c.records.count c.records.used c.records.input c.records.perf_file c.records.entries c.records.frames c.records.invariant.so_far c.next_record.new.self c.next_record.new.perf_file c.decode.new.entries c.decode.new.frames c.position-next.result (Exceeded c.in-Err-decode.needed) c.walk_end.result c.walk_end.ensures c.position-next.ensures e.unchanged e.frames_unchanged (
+      e.in_page,
+      omega (arith, free, same, counted),
+      exceeds_next g.D.RecordDecoder.kind c.args.counts_all c.args.input.now c.args.perf_file.now c.args.entries.now c.args.frames.now c.records.count c.records.used c.records.input c.records.perf_file c.records.entries c.records.frames c.records.invariant.so_far
+          c.next_record.new.self c.next_record.new.perf_file c.in-Ok-Some.place c.in-Ok-Some.record step c.next_record.ensures.same_input c.first_record_offset-base.result c.first_record_offset-base.ensures c.in-Err-decode.needed c.decode.new.entries c.decode.new.frames e,
+    )
 
 pub returns-in-Ok-None : goal.returns-in-Ok-None
 returns-in-Ok-None g c =

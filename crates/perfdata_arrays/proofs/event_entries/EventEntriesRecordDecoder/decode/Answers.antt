@@ -35,14 +35,17 @@ pub returns-in_default-format_of_attribute : goal.returns-in_default-format_of_a
 returns-in_default-format_of_attribute g c = rw c.in-EventRecord.is (adds_nothing (event_kind g.E.EventEntry.has_type g.E.EventEntry.entries_of g.E.EventEntry.is_single) c.args.counts_all (endian_of_file c.args.perf_file.now) (attributes_of_file c.args.perf_file.now) c.args.base _ c.args.count c.args._used c.args.entries.now c.args._frames.now c.requires.free c.requires.within (inr (refl, inr (inl (c.in_default-format_of_attribute.ensures c.in-EventRecord.event.parse_info))), refl))
 
 pub returns-in-Err : goal.returns-in-Err
-returns-in-Err g c = rw c.in-EventRecord.is (adds_nothing (event_kind g.E.EventEntry.has_type g.E.EventEntry.entries_of g.E.EventEntry.is_single) c.args.counts_all (endian_of_file c.args.perf_file.now) (attributes_of_file c.args.perf_file.now) c.args.base _ c.args.count c.args._used c.args.entries.now c.args._frames.now c.requires.free c.requires.within (inr (
+returns-in-Err g c = rw c.in-EventRecord.is (adds_nothing (event_kind g.E.EventEntry.has_type g.E.EventEntry.entries_of g.E.EventEntry.is_single) c.args.counts_all (endian_of_file c.args.perf_file.now) (attributes_of_file c.args.perf_file.now) c.args.base _ c.args.count c.args._used c.args.entries.now c.args._frames.now c.requires.free c.requires.within (
+  inr (
+    refl,
+    inr (inr (record {
+      format = c.in-Some.format;
+      format_is = c.in-Some.ensures c.in-EventRecord.event.parse_info;
+      raw = c.in-EventRecord.event;
+      raw_is = record { record_type = refl; misc = refl; body = refl };
+      kind = error_kind c.in-Err.field-0;
+      fails = c.in-Err.ensures.error;
+    })),
+  ),
   refl,
-  inr (inr (record {
-    format = c.in-Some.format;
-    format_is = c.in-Some.ensures c.in-EventRecord.event.parse_info;
-    raw = c.in-EventRecord.event;
-    raw_is = record { record_type = refl; misc = refl; body = refl };
-    kind = error_kind c.in-Err.field-0;
-    fails = c.in-Err.ensures.error;
-  })),
-), refl))
+))
