@@ -17,7 +17,7 @@ def changed(chance, data):
     data = bytearray(data)
     for _ in range(chance.choice((1, 1, 2, 4, 8))):
         index = chance.randrange(min(len(data), chance.choice((400, len(data), len(data)))))
-        # The header size isn't changed: perfjson tells a file from a pipe by it.
+        # The header size stays: by it perfjson distinguishes a file and a pipe.
         index = 16 if 8 <= index < 16 else index
         data[index] = chance.choice((0, 1, 2, 8, 9, 32, 255, chance.randrange(256)))
     return bytes(data[:chance.randrange(len(data))] if chance.random() < 0.2 else data)
