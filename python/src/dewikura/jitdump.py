@@ -1,18 +1,17 @@
 """Jitdumps."""
 
-import contextlib
 import ctypes
 import dataclasses
 import mmap
 from ctypes import c_uint64 as u64
-from typing import Any, ContextManager, Iterator, NamedTuple, Optional, Tuple, Union
+from typing import Any, Iterator, NamedTuple, Optional, Tuple, Union
 
 from . import _native, _structs
 from ._arrays import StructSequence
+from ._input import Buffer, OpenInput, PathLike, map_file
 from ._structs import JitRecord
 from .constants import JitRecordType
 from .errors import check
-from .recording import Buffer, PathLike, map_file
 
 
 @dataclasses.dataclass(frozen=True)
@@ -89,38 +88,17 @@ class JitDebugInfo(NamedTuple):
     entries: Tuple[JitDebugEntry, ...]
 
 
-class JitDump(ContextManager["JitDump"]):
+class JitDump(OpenInput["JitDump"]):
     """A jitdump."""
 
-    def __init__(self, data: Buffer, mapping: Optional[mmap.mmap] = None, path: Optional[PathLike] = None) -> None:
-        self._path = path
-        self._set(data, mapping)
+    _kind_name = "jitdump"
 
-    def _set(self, data: Buffer, mapping: Optional[mmap.mmap]) -> None:
-        self._view: Optional[memoryview] = memoryview(data).cast("B")
-        self._mapping = mapping
+    def __init__(self, data: Buffer, mapping: Optional[mmap.mmap] = None, path: Optional[PathLike] = None) -> None:
+        super().__init__(data, mapping)
+        self._path = path
 
     def __repr__(self) -> str:
         return "<JitDump: closed>" if self._view is None else f"<JitDump: {len(self._view)} bytes>"
-
-    def __exit__(self, *_: object) -> None:
-        self.close()
-
-    def close(self) -> None:
-        """Unmaps the file. The code of a load record keeps the mapping until it is released. Later calls raise ValueError."""
-        if self._view is not None:
-            self._view.release()
-            self._view = None
-        if self._mapping is not None:
-            with contextlib.suppress(BufferError):
-                self._mapping.close()
-            self._mapping = None
-
-    @property
-    def _data(self) -> memoryview:
-        if self._view is None:
-            raise ValueError("the jitdump is closed")
-        return self._view
 
     def refresh(self) -> None:
         """Maps the file again after it has grown. A jitdump over a buffer stays as it is."""

@@ -1,31 +1,22 @@
 """Recordings: perf.data files and pipes."""
 
-import builtins
-import contextlib
 import ctypes
 import dataclasses
 import enum
 import itertools
 import mmap
-import os
-import sys
 from array import array as number_array
 from ctypes import c_uint8 as u8, c_uint64 as u64
-from typing import (Any, ContextManager, Dict, Iterable, Iterator, List, Literal, Mapping as AnyMapping, NamedTuple, Optional, Tuple, Type,
+from typing import (Any, Dict, Iterable, Iterator, List, Literal, Mapping as AnyMapping, NamedTuple, Optional, Tuple, Type,
                     TypeVar, Union)
 
 from . import _native, _structs
 from ._arrays import StructSequence, words_of
+from ._input import Buffer, OpenInput, PathLike, map_file
 from ._structs import Counter, Frame, Mapping, Record, Sample, SampleDetails, Stack, StackFrame, StackMapping, Task, known
 from .constants import AttrFlag, DsoKind, EventType, Feature, InputKind, ReadFormat, SampleType, Status, SymbolFileType
 from .errors import PerfDataError, check, error_of
 
-if sys.version_info >= (3, 12):
-    from collections.abc import Buffer
-else:
-    Buffer = Any
-
-PathLike = Union[str, "os.PathLike[str]"]
 S = TypeVar("S", bound=StructSequence[Any])
 
 
@@ -366,36 +357,18 @@ class _Features(AnyMapping[int, memoryview]):
         return section
 
 
-class Recording(ContextManager["Recording"]):
+class Recording(OpenInput["Recording"]):
     """A perf.data file or pipe. Everything is read once, when it is first used, and kept."""
 
+    _kind_name = "recording"
+
     def __init__(self, data: Buffer, kind: Kind, mapping: Optional[mmap.mmap] = None) -> None:
-        self._view: Optional[memoryview] = memoryview(data).cast("B")
-        self._mapping = mapping
+        super().__init__(data, mapping)
         self._kept: dict = {}
         self.kind = kind
 
     def __repr__(self) -> str:
         return "<Recording: closed>" if self._view is None else f"<Recording: {self.kind.value}, {len(self._view)} bytes>"
-
-    def __exit__(self, *_: object) -> None:
-        self.close()
-
-    def close(self) -> None:
-        """Unmaps the file. A view that `body` returned keeps the mapping until it is released. Later calls raise ValueError."""
-        if self._view is not None:
-            self._view.release()
-            self._view = None
-        if self._mapping is not None:
-            with contextlib.suppress(BufferError):
-                self._mapping.close()
-            self._mapping = None
-
-    @property
-    def _data(self) -> memoryview:
-        if self._view is None:
-            raise ValueError("the recording is closed")
-        return self._view
 
     @property
     def _source(self) -> Source:
@@ -833,15 +806,6 @@ def input_kind(data: Buffer) -> InputKind:
 
 def _kind_of(data: memoryview) -> Kind:
     return Kind.PIPE if input_kind(data) == InputKind.PIPE else Kind.FILE
-
-
-def map_file(path: PathLike) -> Tuple[Buffer, Optional[mmap.mmap]]:
-    """Maps a file privately. An empty file has no mapping."""
-    with builtins.open(path, "rb") as file:
-        if os.fstat(file.fileno()).st_size == 0:
-            return b"", None
-        mapping = mmap.mmap(file.fileno(), 0, flags=mmap.MAP_PRIVATE, prot=mmap.PROT_READ)
-        return mapping, mapping
 
 
 def open(path: PathLike, *, kind: Optional[Kind] = None) -> Recording:
