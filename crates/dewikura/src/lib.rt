@@ -8,7 +8,7 @@
 ghost use Rattle.std.specs.Prelude.{◌≡◌, ℕ, ◌<◌, ◌-◌, ◌++◌, ◌∷◌, [], length, take};
 ghost use Rattle.std.specs.Bool.{nat_eq};
 ghost use Rattle.std.specs.List.{starts_with};
-ghost use Rattle.perfdata_base.specs.declared.raw.Endianness.TheVariants.{BigEndian};
+ghost use Rattle.perfdata_base.specs.declared.endian.Endianness.TheVariants.{BigEndian};
 ghost use Rattle.perfdata_base.specs.Header.{magic_of};
 ghost use Rattle.perfdata_arrays.specs.Attrs.{ReadsFileAttrs, ReadsPipeAttrs};
 ghost use Rattle.perfdata_arrays.specs.BuildIds.{ReadsBuildId};

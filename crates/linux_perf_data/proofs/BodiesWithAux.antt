@@ -4,8 +4,8 @@ use Rattle.perfdata_base.specs.Source.{State, Consumed, AppendedExactly, PartlyA
 use Rattle.perfdata_base.proofs.ConsumedLemmas.{consumed_more, failed_later, consumed_none_later}
 use Rattle.perfdata_base.specs.Endian.{number_in}
 use Rattle.perfdata_base.proofs.Numbers.{number_prefix}
-use Rattle.perfdata_base.specs.declared.raw.Endianness.{Endianness}
-use Rattle.perfdata_base.specs.declared.event.PerfEventHeader.{PerfEventHeader}
+use Rattle.perfdata_base.specs.declared.endian.Endianness.{Endianness}
+use Rattle.perfdata_base.specs.declared.event.record_header.PerfEventHeader.{PerfEventHeader}
 use Rattle.perfdata_sections.specs.declared.error.Error.{Error}
 use Rattle.perfdata_sections.specs.declared.error.Error.TheVariants.{Memory}
 use Rattle.linux_perf_data.specs.Layout.{IsCompressed}

@@ -10,9 +10,9 @@ use Rattle.linux_perf_data.specs.Input.{HasNoPendingHeader, section_size_in, inp
 use Rattle.linux_perf_data.specs.declared.records.input.Input.{Input}
 use Rattle.linux_perf_data.specs.declared.records.input.Input.TheVariants.{Section, Pipe}
 use Rattle.perfdata_base.specs.Buffered.{IsPrefixOfRemaining}
-use Rattle.perfdata_base.specs.declared.raw.Endianness.{Endianness}
+use Rattle.perfdata_base.specs.declared.endian.Endianness.{Endianness}
 use Rattle.std.proofs.lemmas.Bool.{false≢true}
-use Rattle.perfdata_base.specs.declared.raw.Endianness.TheVariants.{LittleEndian}
+use Rattle.perfdata_base.specs.declared.endian.Endianness.TheVariants.{LittleEndian}
 use Rattle.linux_perf_data.specs.BufferedRecord.{IsFinished, IsNextBuffered, ContainsNextRecord, TestsNextBuffered, WholeRecordLength}
 use Rattle.linux_perf_data.specs.Iter.{TestsMayStart, section_size_of}
 use Rattle.linux_perf_data.specs.declared.records.iter.PerfRecordIter.{PerfRecordIter}

@@ -2,7 +2,7 @@
 use Rattle.std.proofs.Common.{◌≡◌, ◌++◌, ℕ, List, [], ◌∷◌, refl, ◌∙◌}
 use Rattle.std.specs.HashMap.{HashMap}
 use Rattle.perfdata_base.specs.Endian.{number_in}
-use Rattle.perfdata_base.specs.declared.raw.Endianness.{Endianness}
+use Rattle.perfdata_base.specs.declared.endian.Endianness.{Endianness}
 use Rattle.perfdata_records.specs.BuildIdEvent.{BuildIdEntry, IsBuildIdEntry}
 use Rattle.perfdata_records.specs.declared.dso_info.DsoInfo.{DsoInfo}
 use Rattle.perfdata_records.specs.declared.dso_key.DsoKey.{DsoKey}

@@ -7,7 +7,7 @@ use Rattle.std.proofs.lemmas.Bool.{cases_eq, cases_lt, cases_Bool, cond-true, co
 use Rattle.std.proofs.lemmas.List.Elements.{All-nil, All-cons, All-head, All-tail, All-take, All-weaker}
 use Rattle.perfdata_base.specs.ParseInfo.{is_set, sample_words, trailing_words, offset_from_start, offset_from_end, identifier_word, id_parse_info_of}
 use Rattle.perfdata_base.specs.declared.attr.PerfEventAttr.{PerfEventAttr}
-use Rattle.perfdata_base.specs.declared.place.RecordIdParseInfo.{RecordIdParseInfo}
+use Rattle.perfdata_base.specs.declared.place.parse_info.RecordIdParseInfo.{RecordIdParseInfo}
 use Rattle.linux_perf_data.specs.Attribute.{Attribute, AreConsistent, Inconsistency, missing_identifier, sample_id_all_differs, has_identifier, has_sample_id_all, ConformsTo, FirstNonconformingAt, FirstInconsistency, AreInconsistent}
 
 -- a prefix of consistent attributes is consistent

@@ -8,8 +8,8 @@ use Rattle.perfdata_base.specs.Endian.{number_in}
 use Rattle.perfdata_base.specs.Features.{features_of}
 use Rattle.perfdata_base.specs.declared.attr.PerfEventAttr.{PerfEventAttr}
 use Rattle.perfdata_base.specs.declared.section.PerfFileSection.{PerfFileSection}
-use Rattle.perfdata_base.specs.declared.raw.Endianness.{Endianness}
-use Rattle.perfdata_base.specs.declared.raw.Endianness.TheVariants.{LittleEndian}
+use Rattle.perfdata_base.specs.declared.endian.Endianness.{Endianness}
+use Rattle.perfdata_base.specs.declared.endian.Endianness.TheVariants.{LittleEndian}
 use Rattle.perfdata_base.specs.declared.header.PerfHeader.{PerfHeader}
 use Rattle.perfdata_base.proofs.Numbers.{in_reads_first}
 use Rattle.perfdata_sections.specs.AttributeDescription.{DescribedEvent, attr_in, ids_in, events_in}

@@ -3,7 +3,7 @@ use Rattle.std.proofs.Common.{◌≡◌, ℕ, List, [], ◌∷◌, Option, None,
 use Rattle.std.specs.Prelude.{All, if◌then◌else◌}
 use Rattle.std.proofs.lemmas.List.Elements.{All-head, All-tail}
 use Rattle.perfdata_base.specs.Endian.{number_in}
-use Rattle.perfdata_base.specs.declared.raw.Endianness.{Endianness}
+use Rattle.perfdata_base.specs.declared.endian.Endianness.{Endianness}
 use Rattle.perfdata_base.proofs.Numbers.{in_reads_first}
 use Rattle.perfdata_sections.specs.AttributeDescription.{DescribedEvent, name_in, ids_in, events_in}
 use Rattle.perfdata_sections.specs.EventDesc.{DescribesByEventDesc, IsEventDescError}

@@ -6,7 +6,7 @@ use Rattle.perfdata_base.specs.Source.{State, RemainsFromPosition, AfterSeek, al
 use Rattle.perfdata_base.specs.Endian.{number_in}
 use Rattle.perfdata_base.proofs.Numbers.{in_reads_first}
 use Rattle.perfdata_base.proofs.ReadErrors.{after_seek_none}
-use Rattle.perfdata_base.specs.declared.raw.Endianness.{Endianness}
+use Rattle.perfdata_base.specs.declared.endian.Endianness.{Endianness}
 use Rattle.perfdata_base.specs.declared.header.PerfHeader.{PerfHeader}
 use Rattle.perfdata_sections.specs.AttrFrames.{IsAttributesSourceError}
 use Rattle.perfdata_sections.specs.EventDesc.{DescribesByEventDesc, IsEventDescError, ReadsEventDesc}

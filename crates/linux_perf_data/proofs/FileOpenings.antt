@@ -8,7 +8,7 @@ use Rattle.perfdata_base.specs.Source.{State, Position, RemainsFromPosition, Aft
 use Rattle.perfdata_base.specs.Section.{EndFitsU64}
 use Rattle.perfdata_base.proofs.ReadErrors.{after_seek_more, failed_after_seek, paused_after_seek, none_or_paused, all_read}
 use Rattle.perfdata_base.specs.Header.{file_header_of, BeginsWithFileHeader, FileHeaderParsed, ExtraSkipError, FileHeaderParseError, magic_of}
-use Rattle.perfdata_base.specs.declared.raw.Endianness.{Endianness}
+use Rattle.perfdata_base.specs.declared.endian.Endianness.{Endianness}
 use Rattle.perfdata_base.specs.declared.header.PerfHeader.{PerfHeader}
 use Rattle.linux_perf_data.specs.Attribute.{Inconsistency, AreInconsistent, AreConsistent}
 use Rattle.linux_perf_data.specs.Descriptions.{described_attributes}

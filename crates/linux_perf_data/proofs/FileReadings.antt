@@ -5,7 +5,7 @@ use Rattle.std.proofs.Math.Seq.{drop-append_seam}
 use Rattle.std.proofs.lemmas.List.{length-map, drop-drop}
 use Rattle.perfdata_base.specs.Endian.{number_in}
 use Rattle.perfdata_base.specs.Source.{State, Position, Consumed, SourceFailed, SourcePaused, prepend}
-use Rattle.perfdata_base.specs.declared.raw.Endianness.{Endianness}
+use Rattle.perfdata_base.specs.declared.endian.Endianness.{Endianness}
 use Rattle.perfdata_base.proofs.ReadErrors.{failed_after_seek, paused_after_seek}
 use Rattle.perfdata_base.proofs.ConsumedLemmas.{consumed_none, consumed_more, failed_later, paused_later}
 use Rattle.perfdata_base.proofs.Numbers.{in_reads_first}

@@ -4,8 +4,8 @@ use Rattle.std.specs.Prelude.{Result, Ok, Err, Vec, Option}
 use Rattle.std.specs.declared.alloc.Global.{Global}
 use Rattle.perfdata_base.specs.Source.{State}
 use Rattle.std.specs.Borrow.{Bor}
-use Rattle.perfdata_base.specs.declared.raw.Endianness.{Endianness}
-use Rattle.perfdata_base.specs.declared.event.PerfEventHeader.{PerfEventHeader}
+use Rattle.perfdata_base.specs.declared.endian.Endianness.{Endianness}
+use Rattle.perfdata_base.specs.declared.event.record_header.PerfEventHeader.{PerfEventHeader}
 use Rattle.perfdata_sections.specs.declared.error.Error.{Error}
 use Rattle.perfdata_sections.specs.declared.error.Error.TheVariants.{Memory}
 use Rattle.perfdata_sections.specs.Error.{IsIoError, IsUnexpectedEof}

@@ -4,8 +4,8 @@ use Rattle.std.proofs.lemmas.List.{drop-drop, length-take-le}
 use Rattle.std.proofs.Math.Seq.{drop-length, take-append_seam}
 use Rattle.perfdata_base.specs.Source.{State, memory_source_at, prepend, Consumed, SkippedExactly, AppendedExactly}
 use Rattle.perfdata_base.proofs.Seeks.{buffered_from_cursor}
-use Rattle.perfdata_base.specs.declared.raw.Endianness.{Endianness}
-use Rattle.perfdata_base.specs.declared.event.PerfEventHeader.{PerfEventHeader}
+use Rattle.perfdata_base.specs.declared.endian.Endianness.{Endianness}
+use Rattle.perfdata_base.specs.declared.event.record_header.PerfEventHeader.{PerfEventHeader}
 use Rattle.perfdata_sections.specs.Error.{IsUnsupported}
 use Rattle.perfdata_sections.specs.declared.error.Error.{Error}
 use Rattle.perfdata_sections.specs.declared.error.Error.TheVariants.{Memory}

@@ -8,8 +8,8 @@ use Rattle.std.proofs.lemmas.List.Folds.{concat-append}
 use Rattle.perfdata_base.specs.Source.{State, prepend, Consumed, SourcePaused}
 use Rattle.perfdata_base.proofs.ConsumedLemmas.{consumed_none, consumed_more, failed_later, paused_later}
 use Rattle.perfdata_base.proofs.ReadErrors.{none_or_paused, all_read}
-use Rattle.perfdata_base.specs.declared.raw.Endianness.{Endianness}
-use Rattle.perfdata_base.specs.declared.event.PerfEventHeader.{PerfEventHeader}
+use Rattle.perfdata_base.specs.declared.endian.Endianness.{Endianness}
+use Rattle.perfdata_base.specs.declared.event.record_header.PerfEventHeader.{PerfEventHeader}
 use Rattle.perfdata_sections.specs.declared.error.Error.{Error}
 use Rattle.perfdata_sections.specs.declared.error.Error.TheVariants as error
 use Rattle.linux_perf_data.specs.declared.records.input.Input.{Input}

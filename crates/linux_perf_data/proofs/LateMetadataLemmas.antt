@@ -11,7 +11,7 @@ use Rattle.perfdata_base.specs.declared.features.FeatureSet.{FeatureSet}
 use Rattle.perfdata_sections.specs.Error.{IsInvalidInput}
 use Rattle.linux_perf_data.specs.Layout.{attributes_in_record}
 use Rattle.perfdata_base.specs.Endian.{number_in}
-use Rattle.perfdata_base.specs.declared.raw.Endianness.{Endianness}
+use Rattle.perfdata_base.specs.declared.endian.Endianness.{Endianness}
 use Rattle.perfdata_sections.specs.EventDesc.{IsEventDescError}
 use Rattle.perfdata_sections.specs.declared.feature_sections.AttributeDescription.{AttributeDescription}
 use Rattle.perfdata_sections.specs.declared.error.Error.{Error}

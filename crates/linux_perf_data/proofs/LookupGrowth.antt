@@ -5,7 +5,7 @@ use Rattle.std.specs.Option.{option_or, unwrap_or}
 use Rattle.std.proofs.lemmas.List.{map-append}
 use Rattle.perfdata_base.specs.IdCache.{cached_index}
 use Rattle.perfdata_base.specs.ParseInfo.{id_parse_info_of, parse_info_of}
-use Rattle.perfdata_base.specs.declared.raw.Endianness.{Endianness}
+use Rattle.perfdata_base.specs.declared.endian.Endianness.{Endianness}
 use Rattle.linux_perf_data.specs.declared.attributes.lookup.AttributeLookup.{AttributeLookup}
 use Rattle.linux_perf_data.specs.Attribute.{Attribute, AreConsistent, missing_identifier, sample_id_all_differs, has_identifier, AreInconsistent, lists_id, last_index_listing}
 use Rattle.linux_perf_data.specs.IdTable.{id_lookup, MapsIds}

@@ -3,11 +3,12 @@ use Rattle.std.proofs.Common.{◌≡◌, ◌≢◌, ℕ, zero, suc, ◌%◌, ◌
 use Rattle.std.specs.Prelude.{if◌then◌else◌, slice_get, Option, None, Some}
 use Rattle.std.specs.Option.{unwrap_or, option_map}
 use Rattle.std.proofs.lemmas.Bool.{cases_eq, cond-true, lt-ltb}
-use Rattle.perfdata_base.specs.ParseInfo.{id_parse_info_of, parse_info_of, identifier_of, time_of}
+use Rattle.perfdata_base.specs.ParseInfo.{id_parse_info_of, parse_info_of}
+use Rattle.perfdata_base.specs.RecordFields.{identifier_of, time_of}
 use Rattle.perfdata_base.specs.IdCache.{cached_index}
 use Rattle.perfdata_base.specs.declared.place.id_cache.IdCache.{IdCache}
-use Rattle.perfdata_base.specs.declared.place.RecordParseInfo.{RecordParseInfo}
-use Rattle.perfdata_base.specs.declared.raw.Endianness.{Endianness}
+use Rattle.perfdata_base.specs.declared.place.parse_info.RecordParseInfo.{RecordParseInfo}
+use Rattle.perfdata_base.specs.declared.endian.Endianness.{Endianness}
 use Rattle.linux_perf_data.specs.declared.attributes.lookup.AttributeLookup.{AttributeLookup}
 use Rattle.linux_perf_data.specs.declared.attributes.id_table.IdTable.{IdTable}
 use Rattle.linux_perf_data.specs.Attribute.{Attribute, EventRef, last_index_listing, lists_id, attr_index_of_id, attr_index_of, event_of, event_time}

@@ -15,7 +15,7 @@ use Rattle.indexmap.specs.IndexMap.{IndexMap, get as index_get}
 use Rattle.perfdata_base.specs.Endian.{number_in}
 use Rattle.perfdata_base.proofs.Numbers.{in_reads_first}
 use Rattle.perfdata_base.specs.declared.features.Feature.{Feature}
-use Rattle.perfdata_base.specs.declared.raw.Endianness.{Endianness}
+use Rattle.perfdata_base.specs.declared.endian.Endianness.{Endianness}
 use Rattle.perfdata_sections.specs.AttributeDescription.{events_in, ids_in, name_in}
 use Rattle.perfdata_sections.specs.EventDesc.{DescribesByEventDesc, BeginsWithEventDesc}
 use Rattle.perfdata_sections.specs.declared.feature_sections.AttributeDescription.{AttributeDescription}

@@ -5,7 +5,7 @@ use Rattle.std.specs.declared.alloc.Global.{Global}
 use Rattle.std.specs.declared.io.Error.{Error as IoErrorValue}
 use Rattle.perfdata_base.specs.Source.{State}
 use Rattle.perfdata_base.specs.Endian.{number_in}
-use Rattle.perfdata_base.specs.declared.raw.Endianness.{Endianness}
+use Rattle.perfdata_base.specs.declared.endian.Endianness.{Endianness}
 use Rattle.perfdata_base.specs.declared.section.PerfFileSection.{PerfFileSection}
 use Rattle.perfdata_sections.specs.AttrFrames.{IsFrameError, ConsumesFrameError, IsFrameReadError}
 use Rattle.perfdata_sections.specs.EventDesc.{IsEventError, IsEventDescError}

@@ -11,8 +11,8 @@ use Rattle.perfdata_base.specs.Header.{endian_by_first_byte, magic_of}
 use Rattle.perfdata_base.specs.Endian.{number_in}
 use Rattle.perfdata_base.specs.PipeHeader.{PipeHeaderWithExtraParsed, pipe_header_of}
 use Rattle.perfdata_base.specs.declared.header.pipe.PerfPipeHeader.{PerfPipeHeader}
-use Rattle.perfdata_base.specs.declared.raw.Endianness.{Endianness}
-use Rattle.perfdata_base.specs.declared.raw.Endianness.TheVariants.{LittleEndian, BigEndian}
+use Rattle.perfdata_base.specs.declared.endian.Endianness.{Endianness}
+use Rattle.perfdata_base.specs.declared.endian.Endianness.TheVariants.{LittleEndian, BigEndian}
 use Rattle.perfdata_base.proofs.Numbers.{number_drop_prefix}
 use Rattle.perfdata_sections.specs.declared.error.Error.{Error}
 use Rattle.perfdata_sections.specs.declared.error.Error.TheVariants.{Memory, NoAttributes, UnrecognizedMagicValue}

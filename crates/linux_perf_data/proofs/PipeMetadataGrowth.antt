@@ -6,7 +6,7 @@ use Rattle.std.proofs.lemmas.Bool.{eq-eqb, eqb-true}
 use Rattle.std.proofs.lemmas.List.Sums.{fold-append}
 use Rattle.perfdata_base.specs.Features.{InsertsFeature}
 use Rattle.perfdata_base.specs.Endian.{number_in}
-use Rattle.perfdata_base.specs.declared.raw.Endianness.{Endianness}
+use Rattle.perfdata_base.specs.declared.endian.Endianness.{Endianness}
 use Rattle.perfdata_records.specs.HeaderFeature.{IsHeaderFeature}
 use Rattle.perfdata_records.specs.declared.user_record.HeaderFeature.{HeaderFeature}
 use Rattle.linux_perf_data.specs.Descriptions.{described_attributes}

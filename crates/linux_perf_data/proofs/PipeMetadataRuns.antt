@@ -6,7 +6,7 @@ use Rattle.std.proofs.lemmas.List.Elements.{All-nil, All-push}
 use Rattle.std.proofs.lemmas.List.Folds.{concat-append}
 use Rattle.perfdata_base.specs.Source.{State, Consumed}
 use Rattle.perfdata_base.proofs.ConsumedLemmas.{consumed_none, consumed_more, consumed_none_later}
-use Rattle.perfdata_base.specs.declared.raw.Endianness.{Endianness}
+use Rattle.perfdata_base.specs.declared.endian.Endianness.{Endianness}
 use Rattle.perfdata_sections.specs.declared.error.Error.{Error}
 use Rattle.linux_perf_data.specs.PipeOpening.{AreMetadata, MetadataEnded, IsMetadataRecord, FailsBy, IsMetadataReadError, IsMetadataRecordError}
 use Rattle.linux_perf_data.specs.PipeSteps.{CollectsMetadata, MetadataEndRead, MetadataRead, NextRecordRead}

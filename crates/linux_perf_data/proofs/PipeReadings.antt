@@ -5,7 +5,7 @@ use Rattle.std.specs.List.{concat}
 use Rattle.std.specs.Map.{update_all}
 use Rattle.std.proofs.Math.Seq.{drop-append_seam}
 use Rattle.perfdata_base.specs.Source.{State, prepend, Consumed, SourcePaused}
-use Rattle.perfdata_base.specs.declared.raw.Endianness.{Endianness}
+use Rattle.perfdata_base.specs.declared.endian.Endianness.{Endianness}
 use Rattle.perfdata_base.proofs.ReadErrors.{none_or_paused}
 use Rattle.perfdata_base.proofs.ConsumedLemmas.{failed_later, paused_later}
 use Rattle.perfdata_sections.specs.declared.error.Error.{Error}

@@ -3,10 +3,10 @@ use Rattle.std.specs.Prelude.{Ok, Err}
 use Rattle.std.proofs.Common.{◌≡◌, ◌≢◌, ℕ, ◌-◌, ◌≤◌, ◌++◌, List, length, drop, sym, ap, ◌∙◌, subst, arith, inl, inr, append_assoc, length-append}
 use Rattle.perfdata_base.specs.Source.{State, Consumed}
 use Rattle.perfdata_base.proofs.ConsumedLemmas.{consumed_more}
-use Rattle.perfdata_base.specs.Event.{record_header_of}
+use Rattle.perfdata_base.specs.RecordHeader.{record_header_of}
 use Rattle.perfdata_base.specs.Endian.{number_in}
-use Rattle.perfdata_base.specs.declared.raw.Endianness.{Endianness}
-use Rattle.perfdata_base.specs.declared.event.PerfEventHeader.{PerfEventHeader}
+use Rattle.perfdata_base.specs.declared.endian.Endianness.{Endianness}
+use Rattle.perfdata_base.specs.declared.event.record_header.PerfEventHeader.{PerfEventHeader}
 use Rattle.perfdata_sections.specs.declared.error.Error.{Error}
 use Rattle.linux_perf_data.specs.Attribute.{HoldsAttribute}
 use Rattle.linux_perf_data.specs.LateMetadata.{IsMetadataType, IsMetadataError}

@@ -7,8 +7,8 @@ use Rattle.std.proofs.lemmas.List.{drop-drop, length-drop}
 use Rattle.perfdata_base.specs.Source.{State}
 use Rattle.perfdata_base.specs.Endian.{number_in}
 use Rattle.perfdata_base.proofs.Numbers.{in_reads_first}
-use Rattle.perfdata_base.specs.declared.raw.Endianness.{Endianness}
-use Rattle.perfdata_base.specs.declared.event.PerfEventHeader.{PerfEventHeader}
+use Rattle.perfdata_base.specs.declared.endian.Endianness.{Endianness}
+use Rattle.perfdata_base.specs.declared.event.record_header.PerfEventHeader.{PerfEventHeader}
 use Rattle.perfdata_sections.specs.declared.error.Error.{Error}
 use Rattle.perfdata_sections.specs.Error.{IsInvalidInput}
 use Rattle.perfdata_sections.specs.AttributeDescription.{events_in}

@@ -8,7 +8,7 @@ use Rattle.perfdata_base.specs.Source.{State, Consumed, ReadExactError, prepend,
 use Rattle.perfdata_base.proofs.ReadErrors.{none_or_paused, all_read}
 use Rattle.perfdata_base.proofs.Numbers.{number_prefix, number_drop_prefix}
 use Rattle.perfdata_base.specs.Endian.{number_in}
-use Rattle.perfdata_base.specs.declared.raw.Endianness.{Endianness}
+use Rattle.perfdata_base.specs.declared.endian.Endianness.{Endianness}
 use Rattle.perfdata_base.specs.declared.source.append.AppendError.{AppendError}
 use Rattle.perfdata_base.specs.declared.source.append.AppendError.TheVariants.{Memory, Source}
 use Rattle.perfdata_sections.specs.ParsedPart.{IsPart, PartRead, PartReadError, file_error_of}

@@ -8,7 +8,7 @@ use Rattle.std.specs.Borrow.{Bor}
 use Rattle.std.specs.declared.io.impls.Cursor.{Cursor}
 use Rattle.std.specs.Io.Cursor.{cursor_inner, cursor_position}
 use Rattle.perfdata_base.specs.Endian.{number_in}
-use Rattle.perfdata_base.specs.Event.{record_header_of}
+use Rattle.perfdata_base.specs.RecordHeader.{record_header_of}
 use Rattle.perfdata_base.specs.Source.{Consumed, memory_source_at}
 use Rattle.perfdata_sections.specs.RecordTypes.{finished_round}
 use Rattle.linux_perf_data.specs.declared.attributes.lookup.AttributeLookup.{AttributeLookup}

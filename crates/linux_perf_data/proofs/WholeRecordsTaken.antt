@@ -6,8 +6,8 @@ use Rattle.std.proofs.lemmas.List.{drop-take, length-take-le, take-append-drop}
 use Rattle.perfdata_base.proofs.Seeks.{buffered_from_cursor}
 use Rattle.perfdata_base.specs.Source.{Consumed, memory_source_at}
 use Rattle.perfdata_base.specs.Endian.{number_in}
-use Rattle.perfdata_base.specs.Event.{record_header_of}
-use Rattle.perfdata_base.specs.declared.event.PerfEventHeader.{PerfEventHeader}
+use Rattle.perfdata_base.specs.RecordHeader.{record_header_of}
+use Rattle.perfdata_base.specs.declared.event.record_header.PerfEventHeader.{PerfEventHeader}
 use Rattle.perfdata_sections.specs.RecordTypes.{finished_round}
 use Rattle.linux_perf_data.specs.BufferedRecord.{WholeRecordLength}
 use Rattle.linux_perf_data.specs.Input.{HasNoPendingHeader, input_source_state, section_size_in}

@@ -1,9 +1,10 @@
 -- The attributes of an input, their consistency, and the attribute of a record.
 use Rattle.std.specs.Prelude.{◌≡◌, ◌≢◌, ℕ, ◌+◌, ◌==◌, nat_lt, Bool, true, false, List, [], ◌∷◌, ◌++◌, length, slice_get, All, if◌then◌else◌, Option, None, Some}
 use Rattle.std.specs.Option.{option_map}
-use Rattle.perfdata_base.specs.ParseInfo.{is_set, id_parse_info_of, parse_info_of, identifier_of, time_of}
-use Rattle.perfdata_base.specs.declared.raw.Endianness.{Endianness}
-use Rattle.perfdata_base.specs.declared.place.RecordParseInfo.{RecordParseInfo}
+use Rattle.perfdata_base.specs.ParseInfo.{is_set, id_parse_info_of, parse_info_of}
+use Rattle.perfdata_base.specs.RecordFields.{identifier_of, time_of}
+use Rattle.perfdata_base.specs.declared.endian.Endianness.{Endianness}
+use Rattle.perfdata_base.specs.declared.place.parse_info.RecordParseInfo.{RecordParseInfo}
 pub use Rattle.perfdata_records.specs.HeaderAttr.{Attribute, HoldsAttribute, attribute_in, u64s_of}
 
 -- All attributes have the same id parse info: the identifier is at the same offset in all records.

@@ -4,8 +4,8 @@ use Rattle.std.specs.Option.{unwrap_or}
 use Rattle.perfdata_base.specs.ParseInfo.{parse_info_of}
 use Rattle.perfdata_base.specs.IdCache.{cached_index}
 use Rattle.perfdata_base.specs.declared.attr.PerfEventAttr.{PerfEventAttr}
-use Rattle.perfdata_base.specs.declared.place.RecordParseInfo.{RecordParseInfo}
-use Rattle.perfdata_base.specs.declared.raw.Endianness.{Endianness}
+use Rattle.perfdata_base.specs.declared.place.parse_info.RecordParseInfo.{RecordParseInfo}
+use Rattle.perfdata_base.specs.declared.endian.Endianness.{Endianness}
 use Rattle.perfdata_sections.specs.declared.error.Error.{Error}
 use Rattle.perfdata_sections.specs.declared.error.Error.TheVariants.{Memory}
 use Rattle.linux_perf_data.specs.declared.attributes.lookup.AttributeLookup.{AttributeLookup}

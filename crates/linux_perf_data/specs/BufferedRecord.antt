@@ -4,9 +4,9 @@ use Rattle.std.specs.List.{concat}
 use Rattle.perfdata_base.specs.Source.{State}
 use Rattle.perfdata_base.specs.Buffered.{IsPrefixOfRemaining}
 use Rattle.perfdata_base.specs.Endian.{number_in}
-use Rattle.perfdata_base.specs.Event.{record_header_of}
-use Rattle.perfdata_base.specs.declared.event.PerfEventHeader.{PerfEventHeader}
-use Rattle.perfdata_base.specs.declared.raw.Endianness.{Endianness}
+use Rattle.perfdata_base.specs.RecordHeader.{record_header_of}
+use Rattle.perfdata_base.specs.declared.event.record_header.PerfEventHeader.{PerfEventHeader}
+use Rattle.perfdata_base.specs.declared.endian.Endianness.{Endianness}
 use Rattle.perfdata_sections.specs.RecordTypes.{finished_round}
 use Rattle.linux_perf_data.specs.declared.records.iter.PerfRecordIter.{PerfRecordIter}
 use Rattle.linux_perf_data.specs.declared.records.iter.Stage.TheVariants.{Running}

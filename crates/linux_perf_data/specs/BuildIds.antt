@@ -4,8 +4,8 @@ use Rattle.std.specs.HashMap.{HashMap}
 use Rattle.std.specs.Map.{lookup, update_all}
 use Rattle.std.specs.Option.{option_map}
 use Rattle.perfdata_base.specs.Endian.{number_in}
-use Rattle.perfdata_base.specs.RecordType.{cpu_mode_of}
-use Rattle.perfdata_base.specs.declared.raw.Endianness.{Endianness}
+use Rattle.perfdata_base.specs.CpuMode.{cpu_mode_of}
+use Rattle.perfdata_base.specs.declared.endian.Endianness.{Endianness}
 use Rattle.perfdata_records.specs.BuildIdEvent.{BuildIdEntry, IsBuildIdEntry, IsTruncatedBuildIdEntry}
 use Rattle.perfdata_records.specs.DsoKey.{Key, key_in, key_of, keys_equal}
 use Rattle.perfdata_records.specs.contracts.dso_key.DsoKeyPartialEq.TheImpl.{ghosts}

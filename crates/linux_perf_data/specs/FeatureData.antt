@@ -8,7 +8,7 @@ use Rattle.perfdata_base.specs.Source.{State, Consumed, EndedOrPaused, AfterSeek
 use Rattle.perfdata_base.specs.Endian.{number_in}
 use Rattle.perfdata_base.specs.Section.{section_entry_of}
 use Rattle.perfdata_base.specs.declared.features.Feature.{Feature}
-use Rattle.perfdata_base.specs.declared.raw.Endianness.{Endianness}
+use Rattle.perfdata_base.specs.declared.endian.Endianness.{Endianness}
 use Rattle.perfdata_base.specs.declared.section.PerfFileSection.{PerfFileSection}
 use Rattle.perfdata_sections.specs.Error.{IsUnexpectedEof, IsIoError}
 use Rattle.perfdata_sections.specs.declared.error.Error.{Error}

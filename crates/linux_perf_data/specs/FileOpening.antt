@@ -4,7 +4,7 @@ use Rattle.std.specs.declared.alloc.Global.{Global}
 use Rattle.perfdata_base.specs.Source.{State, Position, AfterSeek, at_offset, all_bytes_of}
 use Rattle.perfdata_base.specs.Section.{EndFitsU64, EndOverflowsU64}
 use Rattle.perfdata_base.specs.Header.{file_header_of, magic_of}
-use Rattle.perfdata_base.specs.declared.raw.Endianness.{Endianness}
+use Rattle.perfdata_base.specs.declared.endian.Endianness.{Endianness}
 use Rattle.perfdata_base.specs.declared.header.PerfHeader.{PerfHeader}
 use Rattle.perfdata_sections.specs.Error.{IsUnexpectedEof, IsInvalidInput}
 use Rattle.perfdata_sections.specs.AttrFrames.{IsAttributesSourceError}

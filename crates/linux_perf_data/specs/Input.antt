@@ -1,7 +1,7 @@
 -- The input of an iterator: a section of a file, or a pipe, which may have a pending header.
 use Rattle.std.specs.Prelude.{◌≡◌, ◌≢◌, ℕ, List, [], Option, None, Some, Result, Ok, Err}
 use Rattle.perfdata_base.specs.Source.{State, prepend}
-use Rattle.perfdata_base.specs.declared.event.PerfEventHeader.{PerfEventHeader}
+use Rattle.perfdata_base.specs.declared.event.record_header.PerfEventHeader.{PerfEventHeader}
 use Rattle.perfdata_sections.specs.declared.error.Error.{Error}
 use Rattle.linux_perf_data.specs.declared.records.input.Input.{Input}
 use Rattle.linux_perf_data.specs.declared.records.input.Input.TheVariants.{Section, Pipe}

@@ -1,7 +1,7 @@
 -- The steps of a call of `PerfRecordIter::next_record`: reading a raw record, and processing a record.
 use Rattle.std.specs.Prelude.{◌≡◌, ◌≢◌, ℕ, ◌+◌, ◌^◌, ◌<◌, ◌≤◌, ◌==◌, ◌⊎◌, List, [], ◌++◌, length, drop, if◌then◌else◌, Option, None, Some, Result, Ok, Err, vec_capacity}
 use Rattle.perfdata_base.specs.Source.{State, Consumed}
-use Rattle.perfdata_base.specs.declared.event.PerfEventHeader.{PerfEventHeader}
+use Rattle.perfdata_base.specs.declared.event.record_header.PerfEventHeader.{PerfEventHeader}
 use Rattle.perfdata_sections.specs.declared.error.Error.{Error}
 use Rattle.perfdata_sections.specs.declared.error.Error.TheVariants as error
 use Rattle.perfdata_sections.specs.RecordTypes.{header_attr, finished_round, header_feature}

@@ -4,7 +4,7 @@ use Rattle.std.specs.Map.{update_all}
 use Rattle.perfdata_base.specs.Features.{HasFeature}
 use Rattle.perfdata_base.specs.Endian.{number_in}
 use Rattle.perfdata_base.specs.Attr.{IsTooSmall}
-use Rattle.perfdata_base.specs.declared.raw.Endianness.{Endianness}
+use Rattle.perfdata_base.specs.declared.endian.Endianness.{Endianness}
 use Rattle.perfdata_base.specs.declared.features.FeatureSet.{FeatureSet}
 use Rattle.perfdata_sections.specs.Error.{IsUnexpectedEof, IsInvalidData, IsInvalidInput}
 use Rattle.perfdata_sections.specs.EventDesc.{IsEventDescError}

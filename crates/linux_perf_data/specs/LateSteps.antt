@@ -4,7 +4,7 @@ use Rattle.std.specs.Option.{option_map}
 use Rattle.std.specs.declared.alloc.Global.{Global}
 use Rattle.perfdata_base.specs.Features.{InsertsFeature}
 use Rattle.perfdata_base.specs.Endian.{number_in}
-use Rattle.perfdata_base.specs.declared.raw.Endianness.{Endianness}
+use Rattle.perfdata_base.specs.declared.endian.Endianness.{Endianness}
 use Rattle.perfdata_sections.specs.EventDesc.{IsEventDescError}
 use Rattle.perfdata_sections.specs.RecordTypes.{header_attr, header_feature}
 use Rattle.perfdata_sections.specs.declared.error.Error.{Error}

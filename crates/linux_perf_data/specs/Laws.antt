@@ -3,7 +3,7 @@ use Rattle.std.specs.Prelude.{◌≡◌, ◌≢◌, ◌⊎◌, ℕ, ◌+◌, ◌
 use Rattle.std.specs.List.{concat}
 use Rattle.perfdata_base.specs.Source.{Position}
 use Rattle.perfdata_base.specs.declared.header.PerfHeader.{PerfHeader}
-use Rattle.perfdata_base.specs.declared.raw.Endianness.{Endianness}
+use Rattle.perfdata_base.specs.declared.endian.Endianness.{Endianness}
 use Rattle.linux_perf_data.specs.Attribute.{Attribute, AreConsistent, Inconsistency, AreInconsistent}
 use Rattle.linux_perf_data.specs.Layout.{SectionSize, MayStartAt, IsEnd, IsRecord, IsValidRecord, StartsWithRecord, LayoutError, ErrorAt, LayoutEnd, Layout, RecordView, record_views, record_view_in, attributes_in_views, RemainingRecords, attributes_in_record, attributes_in_records, record_type_of, record_size_of}
 use Rattle.perfdata_base.specs.Endian.{number_in}

@@ -2,7 +2,7 @@
 use Rattle.std.specs.Prelude.{◌≡◌, ◌≢◌, ◌⊎◌, ℕ, ◌+◌, ◌^◌, ◌<◌, ◌≤◌, ◌==◌, List, [], ◌∷◌, ◌++◌, length, drop, All, if◌then◌else◌, Option, None, Some}
 use Rattle.std.specs.List.{concat}
 use Rattle.perfdata_base.specs.Endian.{number_in}
-use Rattle.perfdata_base.specs.declared.raw.Endianness.{Endianness}
+use Rattle.perfdata_base.specs.declared.endian.Endianness.{Endianness}
 use Rattle.perfdata_base.specs.Attr.{IsTruncatedAttr, IsTooSmall}
 use Rattle.perfdata_records.specs.HeaderAttr.{HasTruncatedId}
 use Rattle.perfdata_sections.specs.RecordTypes.{header_attr, finished_round, auxtrace, header_feature, compressed_type, compressed2_type}

@@ -2,7 +2,7 @@
 use Rattle.std.specs.Prelude.{◌≡◌, ◌≢◌, ℕ, Bool, true, false, List, [], length, map, Option, None, Some, Result, Ok, Err, Vec, String}
 use Rattle.std.specs.declared.alloc.Global.{Global}
 use Rattle.perfdata_base.specs.Endian.{number_in}
-use Rattle.perfdata_base.specs.declared.raw.Endianness.{Endianness}
+use Rattle.perfdata_base.specs.declared.endian.Endianness.{Endianness}
 use Rattle.perfdata_sections.specs.AttributeDescription.{DescribedEvent, events_in, ids_in}
 use Rattle.perfdata_sections.specs.EventDesc.{BeginsWithEventDesc, DescribesByEventDesc, IsEventDescError}
 use Rattle.perfdata_sections.specs.declared.error.Error.{Error}

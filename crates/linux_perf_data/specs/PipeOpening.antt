@@ -6,7 +6,7 @@ use Rattle.perfdata_base.specs.Source.{State, Consumed, EndedOrPaused, SourceFai
 use Rattle.perfdata_base.specs.Endian.{number_in}
 use Rattle.perfdata_base.specs.Features.{HasFeature}
 use Rattle.perfdata_base.specs.declared.features.FeatureSet.{FeatureSet}
-use Rattle.perfdata_base.specs.declared.raw.Endianness.{Endianness}
+use Rattle.perfdata_base.specs.declared.endian.Endianness.{Endianness}
 use Rattle.perfdata_sections.specs.Error.{IsUnexpectedEof, IsIoError}
 use Rattle.perfdata_sections.specs.EventDesc.{IsEventDescError}
 use Rattle.perfdata_sections.specs.declared.error.Error.{Error}

@@ -7,7 +7,7 @@ use Rattle.std.specs.declared.io.Error.{Error as IoErrorValue}
 use Rattle.std.specs.declared.io.ErrorKind.TheVariants.{OutOfMemory}
 use Rattle.perfdata_base.specs.Source.{State, Consumed}
 use Rattle.perfdata_base.specs.Endian.{number_in}
-use Rattle.perfdata_base.specs.declared.raw.Endianness.{Endianness}
+use Rattle.perfdata_base.specs.declared.endian.Endianness.{Endianness}
 use Rattle.perfdata_sections.specs.Error.{IsUnexpectedEof}
 use Rattle.perfdata_records.specs.HeaderAttr.{attribute_of}
 use Rattle.perfdata_records.specs.HeaderFeature.{IsHeaderFeature}

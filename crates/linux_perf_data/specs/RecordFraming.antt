@@ -2,9 +2,9 @@
 use Rattle.std.specs.Prelude.{◌≡◌, ◌≢◌, ℕ, ◌+◌, ◌-◌, ◌^◌, ◌<◌, ◌≤◌, ◌⊎◌, Bool, true, false, List, [], ◌++◌, length, drop, Option, None, Some, Result, Ok, Err}
 use Rattle.perfdata_base.specs.Source.{State, Consumed, EndedOrPaused, SourceFailed, SourcePaused, PartlyRead, PartlyAppended, SkippedExactly, AppendedExactly}
 use Rattle.perfdata_base.specs.Endian.{number_in}
-use Rattle.perfdata_base.specs.Event.{RecordHeaderParsed}
-use Rattle.perfdata_base.specs.declared.raw.Endianness.{Endianness}
-use Rattle.perfdata_base.specs.declared.event.PerfEventHeader.{PerfEventHeader}
+use Rattle.perfdata_base.specs.RecordHeader.{RecordHeaderParsed}
+use Rattle.perfdata_base.specs.declared.endian.Endianness.{Endianness}
+use Rattle.perfdata_base.specs.declared.event.record_header.PerfEventHeader.{PerfEventHeader}
 use Rattle.perfdata_sections.specs.declared.error.Error.{Error}
 use Rattle.perfdata_sections.specs.declared.error.Error.TheVariants.{Read, InvalidPerfEventSize, Memory, Failed}
 use Rattle.perfdata_sections.specs.declared.error.ReadError.TheVariants.{PerfEventData}

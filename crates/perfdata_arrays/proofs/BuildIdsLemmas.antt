@@ -6,7 +6,7 @@ use Rattle.std.proofs.lemmas.List.Folds.{length-prefix_len}
 use Rattle.std.proofs.Math.Seq.{take-append_seam}
 use Rattle.perfdata_base.specs.Endian.{number_in}
 use Rattle.perfdata_base.specs.ParseInfo.{is_set}
-use Rattle.perfdata_base.specs.declared.raw.Endianness.{Endianness}
+use Rattle.perfdata_base.specs.declared.endian.Endianness.{Endianness}
 use Rattle.perfdata_records.specs.BuildIdEvent.{BuildIdEntry as Entry, IsBuildIdEntry, IsBuildIdIn, IsWithoutZeroGroups, zero_groups}
 use Rattle.perfdata_arrays.specs.BuildIds.{HasBuildIdAt, build_id_entry}
 use Rattle.perfdata_arrays.specs.declared.build_ids.BuildId.{BuildId}

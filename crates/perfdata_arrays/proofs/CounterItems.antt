@@ -2,7 +2,7 @@
 use Rattle.std.proofs.Common.{◌≡◌, ℕ, zero, suc, ◌+◌, ◌-◌, ◌*◌, ◌/◌, ◌++◌, false, List, [], ◌∷◌, length, refl, ap, Option, None, Some}
 use Rattle.std.specs.Prelude.{slice_index, if◌then◌else◌}
 use Rattle.std.specs.Option.{option_map, unwrap_or}
-use Rattle.perfdata_base.specs.declared.event.RawEventRecord.{RawEventRecord}
+use Rattle.perfdata_base.specs.declared.event.raw_event_record.RawEventRecord.{RawEventRecord}
 use Rattle.perfdata_events.specs.EventView.{EventView, event_view, read_view, sample_view}
 use Rattle.perfdata_events.specs.ReadValues.{Counters, Values, counter_count, counter_width, group, group_of, single, values_of}
 use Rattle.perfdata_events.specs.declared.event.EventRecord.{EventRecord}

@@ -5,7 +5,7 @@ use Rattle.std.specs.Option.{option_map}
 use Rattle.perfdata_base.specs.Endian.{number_in}
 use Rattle.perfdata_base.specs.ParseInfo.{is_set}
 use Rattle.perfdata_base.specs.Raw.{bytes_of}
-use Rattle.perfdata_base.specs.declared.event.RawEventRecord.{RawEventRecord}
+use Rattle.perfdata_base.specs.declared.event.raw_event_record.RawEventRecord.{RawEventRecord}
 use Rattle.perfdata_events.specs.Event.{IsParsed}
 use Rattle.perfdata_events.specs.EventFormat.{before_trailing, trailing_size}
 use Rattle.perfdata_events.specs.Format.{encodes, optional}

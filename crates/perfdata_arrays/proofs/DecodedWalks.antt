@@ -2,7 +2,7 @@
 use Rattle.std.proofs.Common.{Bool, false, not, ◌≡◌, ℕ, ◌+◌, ◌≤◌, ◌++◌, List, [], ◌∷◌, length, refl, sym, ap, ◌∙◌, subst, arith, length-append}
 use Rattle.std.specs.Prelude.{◌==◌, ◌||◌}
 use Rattle.std.proofs.lemmas.List.{append-nil, append_assoc}
-use Rattle.perfdata_base.specs.declared.raw.Endianness.{Endianness}
+use Rattle.perfdata_base.specs.declared.endian.Endianness.{Endianness}
 use Rattle.perfdata_records.specs.declared.record.PerfFileRecord.{PerfFileRecord}
 use Rattle.linux_perf_data.proofs.EntryLemmas.{length-with_prefix}
 use Rattle.linux_perf_data.proofs.InMemoryReadings.{one_call_more}

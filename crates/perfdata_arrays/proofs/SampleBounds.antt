@@ -2,7 +2,7 @@
 use Rattle.std.proofs.Common.{◌≡◌, ℕ, zero, suc, ◌*◌, ◌≤◌, Bool, true, false, List, [], ◌∷◌, length, drop, refl, ap, arith, length-drop, Option, None, Some}
 use Rattle.std.proofs.lemmas.List.{length-map}
 use Rattle.perfdata_base.specs.ParseInfo.{is_set}
-use Rattle.perfdata_base.specs.declared.raw.Endianness.{Endianness}
+use Rattle.perfdata_base.specs.declared.endian.Endianness.{Endianness}
 use Rattle.linux_perf_data.specs.Attribute.{Attribute}
 use Rattle.linux_perf_data.specs.Layout.{RecordView}
 use Rattle.perfdata_events.specs.CallChain.{chain, chain_values_of, frames_of}

@@ -1,6 +1,6 @@
 -- What records add to two arrays: entries, and the frames of those that have some.
 use Rattle.std.specs.Prelude.{◌≡◌, ℕ, ◌+◌, ◌≤◌, ◌==◌, ◌||◌, ◌++◌, Bool, false, List, [], ◌∷◌, length, not, Result, Ok, Err}
-use Rattle.perfdata_base.specs.declared.raw.Endianness.{Endianness}
+use Rattle.perfdata_base.specs.declared.endian.Endianness.{Endianness}
 use Rattle.linux_perf_data.specs.Attribute.{Attribute}
 use Rattle.linux_perf_data.specs.Layout.{RecordView}
 use Rattle.perfdata_arrays.specs.Overwrites.{with_entries_at}

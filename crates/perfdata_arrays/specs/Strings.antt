@@ -1,7 +1,7 @@
 -- The result for a string of a feature section.
 use Rattle.std.specs.Prelude.{◌≡◌, ◌⊎◌, ℕ, ◌+◌, List, length, drop}
 use Rattle.perfdata_base.specs.Endian.{number_in}
-use Rattle.perfdata_base.specs.declared.raw.Endianness.{Endianness}
+use Rattle.perfdata_base.specs.declared.endian.Endianness.{Endianness}
 use Rattle.linux_perf_data.specs.Values.{BeginsWithString, string_text}
 use Rattle.linux_perf_data.specs.RecordEntries.{HasBytesAt}
 use Rattle.perfdata_arrays.specs.declared.status.Status.{Status}

@@ -2,7 +2,7 @@
 ghost use Rattle.std.specs.Prelude.{◌≡◌, ℕ, ◌+◌, ◌≤◌, ◌<◌, ◌^◌, Bool, List, false, length};
 ghost use Rattle.linux_perf_data.specs.RecordEntries.{with_prefix};
 ghost use Rattle.perfdata_base.specs.Raw.{bytes_of};
-ghost use Rattle.perfdata_base.specs.declared.event.RawEventRecord.{RawEventRecord};
+ghost use Rattle.perfdata_base.specs.declared.event.raw_event_record.RawEventRecord.{RawEventRecord};
 ghost use Rattle.perfdata_events.specs.Event.{IsParsed};
 ghost use Rattle.perfdata_events.specs.declared.event.EventRecord.{EventRecord};
 ghost use Rattle.perfdata_events.specs.declared.format.EventFormat.{EventFormat};

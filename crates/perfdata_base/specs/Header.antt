@@ -7,8 +7,8 @@ use Rattle.std.specs.declared.io.SeekFrom.TheVariants.{Current}
 use Rattle.perfdata_base.specs.Source.{State, prepend, advance_by, Consumed, SizeFitsI64, AfterSeek, SourceFailed, ReadExactError, SeekOutOfRange}
 use Rattle.perfdata_base.specs.Endian.{number_in}
 use Rattle.perfdata_base.specs.Section.{section_entry_of}
-use Rattle.perfdata_base.specs.declared.raw.Endianness.{Endianness}
-use Rattle.perfdata_base.specs.declared.raw.Endianness.TheVariants.{LittleEndian, BigEndian}
+use Rattle.perfdata_base.specs.declared.endian.Endianness.{Endianness}
+use Rattle.perfdata_base.specs.declared.endian.Endianness.TheVariants.{LittleEndian, BigEndian}
 use Rattle.perfdata_base.specs.declared.header.PerfHeader.{PerfHeader}
 
 -- the magic of a file or pipe in this byte order

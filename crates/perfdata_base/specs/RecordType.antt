@@ -1,17 +1,6 @@
--- The types of records with their names, and the CPU mode in record headers (Linux's `perf_event.h`).
-use Rattle.std.specs.Prelude.{ℕ, nat_eq, if◌then◌else◌, List, [], ◌∷◌, codes, find, Option}
+-- The types of records with their names.
+use Rattle.std.specs.Prelude.{ℕ, nat_eq, List, [], ◌∷◌, codes, find, Option}
 use Rattle.std.specs.Option.{option_map, option_or}
-use Rattle.perfdata_base.specs.declared.event.CpuMode.{CpuMode}
-use Rattle.perfdata_base.specs.declared.event.CpuMode.TheVariants.{Unknown, Kernel, User, Hypervisor, GuestKernel, GuestUser}
-
--- the CPU mode, by the number in the lowest three bits of a record header's `misc`
-abbrev pub cpu_mode_of : ℕ → CpuMode
-cpu_mode_of n = if nat_eq n 1 then Kernel
-    else if nat_eq n 2 then User
-    else if nat_eq n 3 then Hypervisor
-    else if nat_eq n 4 then GuestKernel
-    else if nat_eq n 5 then GuestUser
-    else Unknown
 
 -- the names of the types of the kernel's records (`perf_event_type` in Linux's `perf_event.h`), by number
 abbrev pub kernel_type_names : List (ℕ × List ℕ)

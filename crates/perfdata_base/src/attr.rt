@@ -6,7 +6,7 @@ ghost use Rattle.std.specs.declared.io.ErrorKind.TheVariants.{InvalidData};
 ghost use Rattle.perfdata_base.specs.Source.{State, PausesOnlyOnError};
 ghost use Rattle.perfdata_base.specs.Attr.{field, attr_of_size, ParsesAttr, ReadsOwnSize, ReadsAttrRest};
 
-use crate::raw::FileOrder;
+use crate::endian::FileOrder;
 use crate::source::{Source, read_exact, skip_exact};
 use bitflags::{Flag, Flags, bitflag_items};
 use std::io::{Error, ErrorKind, Result};

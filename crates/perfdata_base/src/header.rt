@@ -6,9 +6,8 @@ ghost use Rattle.perfdata_base.specs.Source.{State, PausesOnlyOnError};
 ghost use Rattle.perfdata_base.specs.Header.{file_header_of, ParsesFileHeader, SkipsExtra};
 ghost use Rattle.perfdata_base.specs.Header.{IsUnknownMagic, endian_by_first_byte, magic_of};
 
-use crate::endian::read_u64;
+use crate::endian::{Endianness, read_u64};
 use crate::features::FeatureSet;
-use crate::raw::Endianness;
 use crate::section::{PerfFileSection, section_entry_of};
 use crate::source::{PlacedSource, read_exact};
 use std::io::{Error, ErrorKind, Result, SeekFrom};

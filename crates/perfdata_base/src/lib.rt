@@ -10,6 +10,5 @@ pub mod header;
 pub mod laws;
 pub mod place;
 pub mod raw;
-pub mod record_type;
 pub mod section;
 pub mod source;

@@ -1,4 +1,4 @@
-//! Bytes in one slice or in two, and byte orders.
+//! Bytes in one slice or in two.
 ghost use Rattle.std.specs.Prelude.{◌≡◌, ◌+◌, ◌<◌, ◌≤◌, ◌++◌, ◌==◌, ◌⊎◌, ℕ, List, length, take, drop};
 ghost use Rattle.std.specs.Prelude.{slice_index, slice_range, refl, IfErr, IfNone, IfOk, IfSome, IsOkAnd};
 ghost use Rattle.std.specs.Prelude.{OnErr, OnOk, vec_capacity, vec_len};
@@ -8,56 +8,17 @@ ghost use Rattle.std.specs.Str.{bytes_eq};
 ghost use Rattle.std.specs.Cmp.{partial_equiv_from_equiv};
 ghost use Rattle.std.specs.Cmp.Lexicographic.{on_texts_equal};
 ghost use Rattle.memchr.specs.Find.{IsFirstByte, is_byte};
-ghost use Rattle.perfdata_base.specs.Endian.{number_in};
 ghost use Rattle.perfdata_base.specs.Raw.{bytes_of, HasNoNul, EndsBefore, IsSingle, DropsPrefix};
 ghost use Rattle.perfdata_base.specs.Raw.{ReadsNulString};
-ghost use Rattle.perfdata_base.specs.declared.raw.Endianness.{Endianness};
-ghost use Rattle.perfdata_base.specs.declared.raw.Endianness.TheVariants.{LittleEndian as Little};
-ghost use Rattle.perfdata_base.specs.declared.raw.Endianness.TheVariants.{BigEndian as Big};
 ghost use Rattle.perfdata_base.specs.declared.raw.RawData.TheVariants.{Single};
 
+pub use crate::endian::{Endianness, FileOrder};
 use crate::source::unexpected_eof;
-use byteorder::{BigEndian, ByteOrder, LittleEndian};
 use memchr::memchr;
 use std::alloc::{AllocError, Global};
 use std::borrow::CowSlice;
 use std::io;
 use std::ops::Range;
-
-/// The byte order of numbers.
-#[derive(Clone, Copy, Debug, PartialEq, Eq)]
-pub enum Endianness {
-    /// The lowest byte is first.
-    LittleEndian,
-    /// The highest byte is first.
-    BigEndian,
-}
-
-/// The byte order of a file's numbers, known at compile time.
-pub trait FileOrder: ByteOrder {
-    ghost ENDIAN: { Endianness };
-
-    const ENDIAN: Endianness;
-
-    // `number_of` agrees with `number_in` for `ENDIAN`.
-    ghost reads_by: { (n : ℕ) (xs : List ℕ) → Self.number_of n xs ≡ number_in ENDIAN n xs };
-}
-
-impl FileOrder for LittleEndian {
-    ghost ENDIAN = { Little };
-
-    const ENDIAN: Endianness = Endianness::LittleEndian;
-
-    ghost reads_by = { λ _ _. refl };
-}
-
-impl FileOrder for BigEndian {
-    ghost ENDIAN = { Big };
-
-    const ENDIAN: Endianness = Endianness::BigEndian;
-
-    ghost reads_by = { λ _ _. refl };
-}
 
 /// Bytes in one slice or in two, as in a buffer that wraps. Methods see one sequence of bytes.
 #[derive(Clone, Copy, Debug)]

@@ -4,8 +4,7 @@ ghost use Rattle.perfdata_base.specs.Endian.{number_in};
 ghost use Rattle.perfdata_base.specs.Source.{State, PausesOnlyOnError};
 ghost use Rattle.perfdata_base.specs.Section.{section_entry_of, ParsesSectionEntry};
 
-use crate::endian::read_u64;
-use crate::raw::{Endianness, FileOrder};
+use crate::endian::{Endianness, FileOrder, read_u64};
 use crate::source::{Source, read_exact};
 use std::io::Result;
 

@@ -5,10 +5,12 @@ use Rattle.std.specs.Option.{option_map, option_and_then, option_or}
 use Rattle.std.proofs.lemmas.Bool.Decides.{nat_tests}
 use Rattle.perfdata_base.specs.Raw.{bytes_of}
 use Rattle.perfdata_base.specs.Endian.{number_in}
-use Rattle.perfdata_base.specs.ParseInfo.{is_set, identifier_word, sample_words, trailing_words, offset_from_start, offset_from_end, checked_offset_from_start, checked_offset_from_end, u64_field_at, parse_info_of, id_parse_info_of, time_of, identifier_of}
+use Rattle.perfdata_base.specs.ParseInfo.{is_set, identifier_word, sample_words, trailing_words, offset_from_start, offset_from_end, parse_info_of, id_parse_info_of}
+use Rattle.perfdata_base.specs.BodyFields.{checked_offset_from_start, checked_offset_from_end, u64_field_at}
+use Rattle.perfdata_base.specs.RecordFields.{time_of, identifier_of}
 use Rattle.perfdata_base.specs.declared.attr.PerfEventAttr.{PerfEventAttr}
-use Rattle.perfdata_base.specs.declared.event.RawEventRecord.{RawEventRecord}
-use Rattle.perfdata_base.specs.declared.raw.Endianness.{Endianness}
+use Rattle.perfdata_base.specs.declared.event.raw_event_record.RawEventRecord.{RawEventRecord}
+use Rattle.perfdata_base.specs.declared.endian.Endianness.{Endianness}
 use Rattle.perfdata_events.proofs.Offsets.{set_or_not, after_length, value_from_start, value_from_end}
 use Rattle.perfdata_events.specs.EventFormat.{event_format_of, trailing_size, trailing}
 use Rattle.perfdata_events.specs.Fields.{u64_at}

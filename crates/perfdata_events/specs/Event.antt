@@ -6,7 +6,7 @@ use Rattle.std.specs.declared.io.ErrorKind.{ErrorKind}
 use Rattle.perfdata_base.specs.Raw.{bytes_of}
 use Rattle.perfdata_base.specs.Endian.{number_in}
 use Rattle.perfdata_base.specs.ParseInfo.{is_set}
-use Rattle.perfdata_base.specs.declared.event.RawEventRecord.{RawEventRecord}
+use Rattle.perfdata_base.specs.declared.event.raw_event_record.RawEventRecord.{RawEventRecord}
 use Rattle.perfdata_events.specs.Format.{encodes, fails, IsTruncated}
 use Rattle.perfdata_events.specs.SampleFormat.{READ, BRANCH_STACK}
 use Rattle.perfdata_events.specs.EventFormat.{trailing_size, before_trailing}

@@ -1,6 +1,6 @@
 -- The values of a parsed record, wherever its bytes are.
 use Rattle.std.specs.Prelude.{ℕ, List}
-use Rattle.perfdata_base.specs.declared.event.RawEventRecord.{RawEventRecord}
+use Rattle.perfdata_base.specs.declared.event.raw_event_record.RawEventRecord.{RawEventRecord}
 use Rattle.perfdata_events.specs.Mmap.{Mapping, mapping_of}
 use Rattle.perfdata_events.specs.Comm.{NamedTask, named_task_of}
 use Rattle.perfdata_events.specs.ReadValues.{Values}

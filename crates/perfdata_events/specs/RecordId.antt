@@ -5,7 +5,7 @@ use Rattle.std.specs.declared.io.Error.{Error}
 use Rattle.std.specs.declared.io.ErrorKind.{ErrorKind}
 use Rattle.perfdata_base.specs.Raw.{bytes_of}
 use Rattle.perfdata_base.specs.Endian.{number_in}
-use Rattle.perfdata_base.specs.declared.event.RawEventRecord.{RawEventRecord}
+use Rattle.perfdata_base.specs.declared.event.raw_event_record.RawEventRecord.{RawEventRecord}
 use Rattle.perfdata_events.specs.Format.{Outcome, encodes, fails, IsTruncated, both}
 use Rattle.perfdata_events.specs.EventFormat.{trailing_size, trailing}
 use Rattle.perfdata_events.specs.Sample.{origin_words, event_words}

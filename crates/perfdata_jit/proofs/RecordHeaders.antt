@@ -5,7 +5,7 @@ use Rattle.std.specs.declared.io.Error.{Error}
 use Rattle.perfdata_base.proofs.ConsumedLemmas.{consumed_none, consumed_more, prepend_more, consumed_none_later, failed_later}
 use Rattle.perfdata_base.proofs.Numbers.{number_prefix, number_drop_prefix}
 use Rattle.perfdata_base.specs.Source.{State, prepend, Consumed}
-use Rattle.perfdata_base.specs.declared.raw.Endianness.{Endianness}
+use Rattle.perfdata_base.specs.declared.endian.Endianness.{Endianness}
 use Rattle.perfdata_jit.proofs.Contiguous.{contiguous_buffered}
 use Rattle.perfdata_jit.proofs.KeptBytes.{unread_kept}
 use Rattle.perfdata_jit.proofs.Seeks.{same_after}

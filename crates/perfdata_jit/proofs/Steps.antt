@@ -6,7 +6,7 @@ use Rattle.std.specs.declared.io.Error.{Error}
 use Rattle.perfdata_base.proofs.ConsumedLemmas.{prepend_more}
 use Rattle.perfdata_base.specs.Raw.{IsSingle, bytes_of}
 use Rattle.perfdata_base.specs.Source.{State, prepend, Consumed, BufferFilled}
-use Rattle.perfdata_base.specs.declared.raw.Endianness.{Endianness}
+use Rattle.perfdata_base.specs.declared.endian.Endianness.{Endianness}
 use Rattle.perfdata_jit.proofs.Seeks.{same_after}
 use Rattle.perfdata_jit.proofs.RecordHeaders.{size_prefix, header_front, header_there, buffered_some, counts_on, unread_is}
 use Rattle.perfdata_jit.proofs.BufferRanges.{part_consumed, prepend-nil}

@@ -5,7 +5,7 @@ use Rattle.std.specs.declared.io.Error.{Error}
 use Rattle.std.specs.declared.io.ErrorKind.TheVariants.{InvalidData, OutOfMemory}
 use Rattle.perfdata_base.specs.Source.{State, prepend, Consumed, EndedOrPaused, SourceFailed}
 use Rattle.perfdata_base.specs.Raw.{IsSingle}
-use Rattle.perfdata_base.specs.declared.raw.Endianness.{Endianness}
+use Rattle.perfdata_base.specs.declared.endian.Endianness.{Endianness}
 use Rattle.perfdata_jit.specs.RecordBytes.{record_header_at, record_size_at, HasInvalidSize, IsTruncatedRecord, HasNoWholeRecord, HasWholeRecord, IsOneRecord, IsRecordOf}
 use Rattle.perfdata_jit.specs.BufferedReader.{SameCounts, SameSource, FailsAfterSeekError, IsOverflowAllocError, buffered_in, unread_bytes, overflow_len_of, ring_capacity_of, source_of, has_seek_failed}
 use Rattle.perfdata_jit.specs.ReadBuffer.{IsContiguous}

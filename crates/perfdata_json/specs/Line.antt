@@ -1,7 +1,7 @@
 -- The line of a record.
 use Rattle.std.specs.Prelude.{◌≡◌, ℕ, List, [], ◌∷◌, ◌++◌, Option, None, drop, slice_get}
 use Rattle.std.specs.Option.{option_map}
-use Rattle.perfdata_base.specs.declared.raw.Endianness.{Endianness}
+use Rattle.perfdata_base.specs.declared.endian.Endianness.{Endianness}
 use Rattle.perfdata_sections.specs.AttributeDescription.{attr_in, name_in}
 use Rattle.perfdata_sections.specs.declared.feature_sections.AttributeDescription.{AttributeDescription}
 use Rattle.perfdata_events.specs.EventFormat.{event_format_of}

@@ -10,7 +10,7 @@ use Rattle.std.proofs.KnownBytes.{Appends-trans, Appends-nil, Appends-kept}
 use Rattle.perfdata_base.specs.Source.{State, prepend, SourcePaused}
 use Rattle.perfdata_base.proofs.ConsumedLemmas.{consumed_none, consumed_more, consumed_none_later, failed_later, paused_later, prepend_more}
 use Rattle.perfdata_base.proofs.ReadErrors.{none_or_paused}
-use Rattle.perfdata_base.specs.declared.raw.Endianness.{Endianness}
+use Rattle.perfdata_base.specs.declared.endian.Endianness.{Endianness}
 use Rattle.perfdata_jit.specs.JitHeader.{IsJitHeader}
 use Rattle.perfdata_jit.specs.RecordBytes.{record_header_at, record_size_at, AreRecords, HasInvalidSize, IsOneRecord, IsRecordOf, HasNoWholeRecord}
 use Rattle.perfdata_jit.specs.BufferedReader.{IsOverflowAllocError, FailsAfterSeekError}

@@ -7,7 +7,7 @@ use Rattle.std.specs.Io.KnownBytes.{Appends, Keeps}
 use Rattle.std.specs.declared.io.Error.{Error}
 use Rattle.std.specs.declared.io.ErrorKind.TheVariants.{InvalidData, OutOfMemory}
 use Rattle.perfdata_base.specs.Source.{State, prepend, Consumed, EndedOrPaused, SourceFailed, SourcePaused}
-use Rattle.perfdata_base.specs.declared.raw.Endianness.{Endianness}
+use Rattle.perfdata_base.specs.declared.endian.Endianness.{Endianness}
 use Rattle.perfdata_jit.specs.JitHeader.{IsJitHeader}
 use Rattle.perfdata_jit.specs.RecordBytes.{record_header_at, record_size_at, HasInvalidSize, HasWholeRecord, HasNoWholeRecord, AreRecords}
 use Rattle.perfdata_jit.specs.JitDumpReader.{jit_unread_bytes, jit_buffered, jit_seek_failed, jit_offset, jit_endian, jit_ring_capacity, jit_source, jit_source_state, ReturnsJitRecord, OpensReader, NextJitRecordError, KeepsPosition, RecordNotReady}

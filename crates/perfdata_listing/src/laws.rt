@@ -1,7 +1,7 @@
 //! Laws of the lines and of the buffer that counts them, for all inputs.
 ghost use Rattle.std.specs.Prelude.{◌≡◌, ℕ, ◌++◌, List, length, flat_map};
 ghost use Rattle.linux_perf_data.specs.Layout.{RecordView};
-ghost use Rattle.perfdata_base.specs.declared.raw.Endianness.{Endianness};
+ghost use Rattle.perfdata_base.specs.declared.endian.Endianness.{Endianness};
 ghost use Rattle.perfdata_listing.specs.Line.{record_line};
 ghost use Rattle.perfdata_listing.specs.JitListing.{jit_lines};
 ghost use Rattle.perfdata_listing.specs.Listing.{AreLines, IsPlainLine};

@@ -2,14 +2,14 @@
 use Rattle.std.specs.Prelude.{◌≡◌, ℕ, ◌+◌, ◌≤◌, ◌==◌, List, length, Option, None, Some, Result, Ok, Err, if◌then◌else◌}
 use Rattle.std.specs.List.{sum_by}
 use Rattle.std.specs.declared.alloc.AllocError.{AllocError}
-use Rattle.perfdata_base.specs.declared.raw.Endianness.{Endianness}
+use Rattle.perfdata_base.specs.declared.endian.Endianness.{Endianness}
 use Rattle.perfdata_records.specs.UserRecordType.{user_type_number}
 use Rattle.linux_perf_data.specs.Attribute.{EventRef}
 use Rattle.linux_perf_data.specs.Layout.{RecordView}
 use Rattle.perfdata_order.specs.declared.held_record.Writer.{Writer}
 use Rattle.perfdata_order.specs.declared.held_record.Writer.TheVariants.{Kernel, Tool}
 use Rattle.perfdata_order.specs.declared.held_record.RecordInfo.{RecordInfo}
-use Rattle.perfdata_base.specs.declared.place.RecordParseInfo.{RecordParseInfo}
+use Rattle.perfdata_base.specs.declared.place.parse_info.RecordParseInfo.{RecordParseInfo}
 use Rattle.perfdata_order.specs.declared.held_record.HeldWriter.{HeldWriter}
 use Rattle.perfdata_order.specs.declared.held_record.HeldWriter.TheVariants as held_writer
 use Rattle.perfdata_order.specs.declared.held_record.HeldRecord.{HeldRecord}

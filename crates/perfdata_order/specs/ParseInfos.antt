@@ -1,7 +1,7 @@
 -- The parse infos that were found, by their indices.
 use Rattle.std.specs.Prelude.{◌≡◌, ◌≢◌, ℕ, ◌⊎◌, List, [], ◌∷◌, ◌++◌, length, Option, Some, Result, Ok, Err, slice_get}
 use Rattle.std.specs.declared.alloc.AllocError.{AllocError}
-use Rattle.perfdata_base.specs.declared.place.RecordParseInfo.{RecordParseInfo}
+use Rattle.perfdata_base.specs.declared.place.parse_info.RecordParseInfo.{RecordParseInfo}
 use Rattle.perfdata_order.specs.declared.parse_infos.ParseInfos.{ParseInfos}
 
 abbrev pub parse_infos_of : ParseInfos → List RecordParseInfo

@@ -2,7 +2,7 @@
 use Rattle.std.specs.Prelude.{◌≡◌, ℕ, ℤ, ◌+◌, ◌-◌, ◌%◌, ◌^◌, ◌&&◌, min, nat_le, nat_lt, Bool, true, false, List, [], ◌∷◌, ◌++◌, negsuc, Option, None, Some}
 use Rattle.std.specs.List.{flat_map}
 use Rattle.std.specs.Option.{option_map, unwrap_or}
-use Rattle.perfdata_base.specs.RecordType.{cpu_mode_of}
+use Rattle.perfdata_base.specs.CpuMode.{cpu_mode_of}
 use Rattle.perfdata_events.specs.declared.event.EventRecord.{EventRecord}
 use Rattle.perfdata_events.specs.declared.event.EventRecord.TheVariants.{Sample}
 use Rattle.perfdata_events.specs.declared.fields.task.Task.{Task}

@@ -7,8 +7,8 @@ use Rattle.std.specs.declared.alloc.AllocError.{AllocError}
 use Rattle.std.specs.declared.alloc.Global.{Global}
 use Rattle.bstr.specs.Utf8.{lossy_chars}
 use Rattle.memchr.specs.Find.{is_byte, places, last_of}
-use Rattle.perfdata_base.specs.declared.event.CpuMode.{CpuMode}
-use Rattle.perfdata_base.specs.declared.event.CpuMode.TheVariants.{Unknown, Kernel, User, Hypervisor, GuestKernel, GuestUser}
+use Rattle.perfdata_base.specs.declared.event.cpu_mode.CpuMode.{CpuMode}
+use Rattle.perfdata_base.specs.declared.event.cpu_mode.CpuMode.TheVariants.{Unknown, Kernel, User, Hypervisor, GuestKernel, GuestUser}
 use Rattle.perfdata_records.specs.declared.dso_key.DsoKey.{DsoKey}
 use Rattle.perfdata_records.specs.declared.dso_key.DsoKey.TheVariants as dso
 

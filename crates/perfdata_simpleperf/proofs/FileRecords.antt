@@ -3,7 +3,7 @@ use Rattle.std.proofs.Common.{◌≡◌, ℕ, ◌⊎◌, List, map, Result, Vec,
 use Rattle.std.specs.declared.alloc.Global.{Global}
 use Rattle.std.specs.declared.io.ErrorKind.{ErrorKind}
 use Rattle.perfdata_base.specs.Endian.{number_in}
-use Rattle.perfdata_base.specs.declared.raw.Endianness.{Endianness}
+use Rattle.perfdata_base.specs.declared.endian.Endianness.{Endianness}
 use Rattle.perfdata_simpleperf.specs.FileRecord.{FileValue, record_value}
 use Rattle.perfdata_simpleperf.specs.FileSection.{IsFileSectionOf, FileSectionError, ReportsFileSectionError, ReportsV1Error}
 use Rattle.perfdata_simpleperf.specs.FileV1.{IsV1, V1Error}

@@ -2,9 +2,9 @@
 use Rattle.std.specs.Prelude.{ℕ, ℤ, ◌+◌, ◌%◌, List, [], ◌∷◌, length, if◌then◌else◌}
 use Rattle.perfdata_base.specs.ParseInfo.{is_set}
 use Rattle.perfdata_base.specs.Raw.{bytes_of}
-use Rattle.perfdata_base.specs.RecordType.{cpu_mode_of}
-use Rattle.perfdata_base.specs.declared.event.CpuMode.{CpuMode}
-use Rattle.perfdata_base.specs.declared.event.CpuMode.TheVariants.{Unknown, Kernel, User, Hypervisor, GuestKernel, GuestUser}
+use Rattle.perfdata_base.specs.CpuMode.{cpu_mode_of}
+use Rattle.perfdata_base.specs.declared.event.cpu_mode.CpuMode.{CpuMode}
+use Rattle.perfdata_base.specs.declared.event.cpu_mode.CpuMode.TheVariants.{Unknown, Kernel, User, Hypervisor, GuestKernel, GuestUser}
 use Rattle.perfdata_events.specs.declared.event.EventRecord.{EventRecord}
 use Rattle.perfdata_events.specs.declared.event.EventRecord.TheVariants.{Mmap, Comm, Fork, Mmap2, Ksymbol}
 use Rattle.perfdata_events.specs.declared.kernel.KsymbolRecord.{KsymbolRecord}

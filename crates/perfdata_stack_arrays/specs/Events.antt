@@ -3,9 +3,9 @@ use Rattle.std.specs.Prelude.{◌≡◌, ◌⊎◌, List, slice_get, Option, Non
 use Rattle.std.specs.Option.{option_map}
 use Rattle.std.specs.declared.io.ErrorKind.{ErrorKind}
 use Rattle.perfdata_base.specs.declared.attr.PerfEventAttr.{PerfEventAttr}
-use Rattle.perfdata_base.specs.declared.event.RawEventRecord.{RawEventRecord}
-use Rattle.perfdata_base.specs.declared.raw.Endianness.{Endianness}
-use Rattle.perfdata_base.specs.declared.raw.Endianness.TheVariants.{LittleEndian, BigEndian}
+use Rattle.perfdata_base.specs.declared.event.raw_event_record.RawEventRecord.{RawEventRecord}
+use Rattle.perfdata_base.specs.declared.endian.Endianness.{Endianness}
+use Rattle.perfdata_base.specs.declared.endian.Endianness.TheVariants.{LittleEndian, BigEndian}
 use Rattle.linux_perf_data.specs.Attribute.{Attribute, EventRef}
 use Rattle.linux_perf_data.specs.Layout.{RecordView}
 use Rattle.linux_perf_data.specs.RecordEntries.{attr_index_or_zero}

@@ -1,7 +1,7 @@
 -- The entries of the frames of samples.
 use Rattle.std.specs.Prelude.{◌≡◌, ℕ, ℤ, ◌%◌, List, Option, None, Some}
 use Rattle.perfdata_arrays.specs.Overwrites.{with_entries_at}
-use Rattle.perfdata_base.specs.RecordType.{cpu_mode_of}
+use Rattle.perfdata_base.specs.CpuMode.{cpu_mode_of}
 use Rattle.perfdata_events.specs.declared.fields.call_chain.CallContext.{CallContext}
 use Rattle.perfdata_events.specs.declared.sample.SampleRecord.{SampleRecord}
 use Rattle.perfdata_arrays.specs.Tasks.{one_if_true}

@@ -1,8 +1,8 @@
 use Rattle.std.proofs.Common.{◌<◌, List, length, refl, sym, ap, ◌∙◌, rules}
 use Rattle.std.specs.Prelude.{slice_get}
 use Rattle.std.specs.Option.{unwrap_or}
-use Rattle.perfdata_base.specs.ParseInfo.{time_of}
-use Rattle.perfdata_base.specs.declared.place.RecordParseInfo.{RecordParseInfo}
+use Rattle.perfdata_base.specs.RecordFields.{time_of}
+use Rattle.perfdata_base.specs.declared.place.parse_info.RecordParseInfo.{RecordParseInfo}
 use Rattle.linux_perf_data.specs.AttributeLookup.{event_at}
 use Rattle.linux_perf_data.proofs.LookupIds.{kernel_found, resolves_one}
 use Rattle.linux_perf_data.proofs.records.iter.RecordInfo.identify_with.Goals as goal

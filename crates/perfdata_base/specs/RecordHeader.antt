@@ -2,7 +2,7 @@
 use Rattle.std.specs.Prelude.{◌≡◌, ℕ, ◌<◌, ◌≤◌, List, length, drop, Option, None, Some, Result, Ok, Err}
 use Rattle.std.specs.declared.io.Error.{Error}
 use Rattle.perfdata_base.specs.Source.{State, Consumed, ReadExactError}
-use Rattle.perfdata_base.specs.declared.event.PerfEventHeader.{PerfEventHeader}
+use Rattle.perfdata_base.specs.declared.event.record_header.PerfEventHeader.{PerfEventHeader}
 
 module _ (number : ℕ → List ℕ → ℕ) where
   -- the record header in eight bytes

@@ -1,6 +1,6 @@
 use Rattle.std.specs.Prelude.{[], ◌∷◌, None, Some}
 use Rattle.perfdata_base.proofs.WordOffsets.{from_start-asked}
-use Rattle.perfdata_base.proofs.place.offset_from_start.Goals as goal
+use Rattle.perfdata_base.proofs.place.parse_info.offset_from_start.Goals as goal
 
 pub returns-in-Some : goal.returns-in-Some
 returns-in-Some c k e =

@@ -1,5 +1,5 @@
 use Rattle.std.proofs.Common.{rules}
-use Rattle.perfdata_base.proofs.place.get_record_id.Goals as goal
+use Rattle.perfdata_base.proofs.place.record_fields.get_record_identifier.Goals as goal
 
 pub returns : goal.returns
 returns g c = search rules

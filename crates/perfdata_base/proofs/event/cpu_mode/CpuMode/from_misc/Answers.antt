@@ -1,6 +1,6 @@
 use Rattle.std.proofs.Common.{arith}
 use Rattle.std.proofs.lemmas.Grind.{common_steps}
-use Rattle.perfdata_base.proofs.event.CpuMode.from_misc.Goals as goal
+use Rattle.perfdata_base.proofs.event.cpu_mode.CpuMode.from_misc.Goals as goal
 
 pub returns-in-1 : goal.returns-in-1
 returns-in-1 c = grind (arith, common_steps)

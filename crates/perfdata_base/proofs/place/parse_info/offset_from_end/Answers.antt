@@ -1,7 +1,7 @@
 use Rattle.std.specs.Prelude.{[], ◌∷◌, Some}
 use Rattle.std.proofs.Common.{sym}
 use Rattle.perfdata_base.proofs.WordOffsets.{from_end-asked, trailing_words-asked}
-use Rattle.perfdata_base.proofs.place.offset_from_end.Goals as goal
+use Rattle.perfdata_base.proofs.place.parse_info.offset_from_end.Goals as goal
 
 pub returns-in-Some : goal.returns-in-Some
 returns-in-Some c k e =

@@ -1,10 +1,31 @@
 //! The types of records and their names.
-ghost use Rattle.std.specs.Prelude.{◌≡◌};
+ghost use Rattle.std.specs.Prelude.{◌≡◌, ◌<◌, ◌≤◌, ◌↔◌, IsTrue};
 ghost use Rattle.std.specs.Option.{option_map};
 ghost use Rattle.perfdata_base.specs.RecordType.{record_type_name, kernel_type_name, perf_type_name};
 ghost use Rattle.perfdata_base.specs.RecordType.{simpleperf_type_name};
 
-use crate::event::RecordType;
+// The first type that the kernel leaves to programs (`PERF_RECORD_USER_TYPE_START`).
+const FIRST_USER_TYPE: u32 = 64;
+
+/// The type of a record.
+#[derive(Clone, Copy, Debug, PartialEq, Eq, Hash, PartialOrd, Ord)]
+pub struct RecordType(pub u32);
+
+impl RecordType {
+    /// Returns whether the kernel writes records of this type: those below 64.
+    pub fn is_builtin_type(&self) -> bool
+        ensures { IsTrue result ↔ (self.now.0 < 64) }
+    {
+        self.0 < FIRST_USER_TYPE
+    }
+
+    /// Returns whether the program `perf` itself writes records of this type: those of 64 and more.
+    pub fn is_user_type(&self) -> bool
+        ensures { IsTrue result ↔ (64 ≤ self.now.0) }
+    {
+        self.0 >= FIRST_USER_TYPE
+    }
+}
 
 /// The types of the kernel's records (`perf_event_type` in Linux's `perf_event.h`).
 impl RecordType {
