@@ -9,8 +9,8 @@ use Rattle.perfdata_base.specs.declared.event.PerfEventHeader.{PerfEventHeader}
 use Rattle.perfdata_sections.specs.declared.error.Error.{Error}
 use Rattle.perfdata_sections.specs.declared.error.Error.TheVariants.{Memory}
 use Rattle.perfdata_sections.specs.Error.{IsIoError, IsUnexpectedEof}
-use Rattle.linux_perf_data.specs.declared.in_memory.iter.RawRecord.{RawRecord}
-use Rattle.linux_perf_data.specs.declared.in_memory.iter.RawRecord.TheVariants.{Marker, Record, End}
+use Rattle.linux_perf_data.specs.declared.in_memory.raw_record.RawRecord.{RawRecord}
+use Rattle.linux_perf_data.specs.declared.in_memory.raw_record.RawRecord.TheVariants.{Marker, Record, End}
 use Rattle.linux_perf_data.specs.declared.perf_file.PerfFile.{PerfFile}
 use Rattle.linux_perf_data.specs.declared.attributes.lookup.AttributeLookup.{AttributeLookup}
 use Rattle.linux_perf_data.specs.declared.records.iter.RecordInfo.{RecordInfo}

@@ -15,8 +15,8 @@ use Rattle.linux_perf_data.specs.declared.records.input.Input.{Input}
 use Rattle.linux_perf_data.specs.declared.records.iter.PerfRecordIter.{PerfRecordIter}
 use Rattle.linux_perf_data.specs.declared.records.iter.RecordInfo.{RecordInfo}
 use Rattle.linux_perf_data.specs.declared.records.iter.Stage.TheVariants.{Running}
-use Rattle.linux_perf_data.specs.declared.in_memory.iter.RawRecord.{RawRecord}
-use Rattle.linux_perf_data.specs.declared.in_memory.iter.RawRecord.TheVariants.{Marker, Record, End}
+use Rattle.linux_perf_data.specs.declared.in_memory.raw_record.RawRecord.{RawRecord}
+use Rattle.linux_perf_data.specs.declared.in_memory.raw_record.RawRecord.TheVariants.{Marker, Record, End}
 use Rattle.linux_perf_data.specs.declared.perf_file.PerfFile.{PerfFile}
 use Rattle.linux_perf_data.specs.Input.{section_size_in}
 use Rattle.linux_perf_data.specs.RecordFraming.{AuxDataRead, AuxDataError, ReadsRecordBody}

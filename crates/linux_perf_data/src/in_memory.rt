@@ -45,7 +45,7 @@ pub(crate) mod framing;
 pub(crate) mod iter;
 pub mod laws;
 pub mod position;
-pub(crate) mod whole_record;
+pub(crate) mod raw_record;
 
 /// Returns the records of an input in memory one by one, in the order of the input.
 ///

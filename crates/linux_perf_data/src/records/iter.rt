@@ -6,8 +6,8 @@ ghost use Rattle.linux_perf_data.specs.NamedErrors.{IsRecordError};
 ghost use Rattle.linux_perf_data.specs.Pauses.{PausesOnlyAtEndOrError};
 
 use crate::attributes::lookup::AttributeLookup;
+use crate::metadata_records::apply_metadata;
 use crate::perf_file::PerfFile;
-use crate::pipe::late_metadata::apply_metadata;
 use crate::records::buffered::{contains_next_record, has_no_pending_header};
 use crate::records::framing::{HEADER_SIZE, read_header, read_record_body, skip_body};
 use crate::records::input::{Input, at_truncation};

@@ -1,6 +1,6 @@
 use Rattle.std.proofs.Common.{arith, refl, ap, subst, [], ◌∙◌}
 use Rattle.perfdata_base.proofs.ConsumedLemmas.{consumed_none}
-use Rattle.linux_perf_data.specs.declared.in_memory.iter.RawRecord.TheVariants.{Marker, Record, End}
+use Rattle.linux_perf_data.specs.declared.in_memory.raw_record.RawRecord.TheVariants.{Marker, Record, End}
 use Rattle.linux_perf_data.specs.RecordViews.{record_view_with}
 use Rattle.linux_perf_data.specs.Iter.{iter_source_state, ReturnsRecord}
 use Rattle.linux_perf_data.specs.IterSteps.{RecordProcessed, RecordRejected}

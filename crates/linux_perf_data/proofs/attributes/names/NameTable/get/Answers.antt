@@ -3,7 +3,7 @@ use Rattle.std.proofs.lemmas.List.{nil_from_length}
 use Rattle.perfdata_sections.specs.AttributeDescription.{name_in}
 use Rattle.linux_perf_data.specs.Names.{name_by_first_id}
 use Rattle.linux_perf_data.proofs.NameTables.{index_within, name_found, name_missed, no_ids}
-use Rattle.linux_perf_data.proofs.attributes.name_table.NameTable.get.Goals as goal
+use Rattle.linux_perf_data.proofs.attributes.names.NameTable.get.Goals as goal
 
 pub returns-then-is_empty : goal.returns-then-is_empty
 returns-then-is_empty c =

@@ -9,7 +9,7 @@ use Rattle.linux_perf_data.specs.Input.{HasNoPendingHeader}
 use Rattle.linux_perf_data.specs.InMemory.{memory_state}
 use Rattle.linux_perf_data.proofs.InMemoryCalls.{buffer_of}
 use Rattle.linux_perf_data.proofs.WholeRecordsTaken.{body_of_first, first_consumed, whole_record_read}
-use Rattle.linux_perf_data.proofs.in_memory.whole_record.take_whole_record.Goals as goal
+use Rattle.linux_perf_data.proofs.in_memory.raw_record.take_whole_record.Goals as goal
 
 pub returns-then-header-eq-PERF_RECORD_FINISHED_ROUND-clause-whole_record : goal.returns-then-header-eq-PERF_RECORD_FINISHED_ROUND-clause-whole_record
 returns-then-header-eq-PERF_RECORD_FINISHED_ROUND-clause-whole_record c =

@@ -1,5 +1,5 @@
 use Rattle.linux_perf_data.proofs.NameTables.{PutFrom}
-use Rattle.linux_perf_data.proofs.attributes.name_table.index_first_ids.Given as goal
+use Rattle.linux_perf_data.proofs.attributes.names.index_first_ids.Given as goal
 
 abbrev pub invariant-events : goal.invariant-events
 invariant-events l = PutFrom l.first l.events l.index

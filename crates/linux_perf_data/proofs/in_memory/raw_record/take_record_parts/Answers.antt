@@ -10,7 +10,7 @@ use Rattle.linux_perf_data.specs.InMemory.{memory_state}
 use Rattle.linux_perf_data.proofs.RecordReads.{header_truncated, header_short, header_error, not_header_memory, pass_truncated, pass_short, content_truncated, content_short, content_error, marker_whole, content_whole, after_header}
 use Rattle.linux_perf_data.proofs.SourceViews.{header_some, header_none, pass_true, pass_false, skipped_in, ended_in, content_in, ended_content_in, no_content_in}
 use Rattle.linux_perf_data.proofs.InMemoryCalls.{body_taken, buffer_of, unexpected_not_memory, truncated_consumed}
-use Rattle.linux_perf_data.proofs.in_memory.iter.take_record_parts.Goals as goal
+use Rattle.linux_perf_data.proofs.in_memory.raw_record.take_record_parts.Goals as goal
 
 pub returns-in_err-header_and_end-clause-raw_record : goal.returns-in_err-header_and_end-clause-raw_record
 returns-in_err-header_and_end-clause-raw_record c =

@@ -1,7 +1,7 @@
 use Rattle.std.proofs.Common.{◌∙◌, ap}
 use Rattle.linux_perf_data.specs.NameTable.{name_from_table}
 use Rattle.linux_perf_data.proofs.NameTables.{names_more, names_all}
-use Rattle.linux_perf_data.proofs.attributes.name_table.NameTable.clone_names.Goals as goal
+use Rattle.linux_perf_data.proofs.attributes.names.NameTable.clone_names.Goals as goal
 
 pub attributes-preserved : goal.attributes-preserved
 attributes-preserved c =

@@ -1,6 +1,6 @@
 use Rattle.std.proofs.Common.{◌∙◌, sym, inl, inr}
 use Rattle.linux_perf_data.proofs.LateMetadataLemmas.{attribute_record_applied, feature_record_applied, mismatch_rejected}
-use Rattle.linux_perf_data.proofs.pipe.late_metadata.apply_metadata.Goals as goal
+use Rattle.linux_perf_data.proofs.metadata_records.apply_metadata.Goals as goal
 
 pub returns-then-len-attribute_count-clause-applies : goal.returns-then-len-attribute_count-clause-applies
 returns-then-len-attribute_count-clause-applies c =

@@ -1,5 +1,5 @@
 use Rattle.std.proofs.Common.{rules}
-use Rattle.linux_perf_data.proofs.pipe.late_metadata.apply_feature.Goals as goal
+use Rattle.linux_perf_data.proofs.metadata_records.apply_feature.Goals as goal
 
 pub returns : goal.returns
 returns c = search rules

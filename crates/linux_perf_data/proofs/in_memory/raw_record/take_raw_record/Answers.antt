@@ -1,6 +1,6 @@
 use Rattle.std.proofs.Common.{◌≡◌, ap, subst, ◌∙◌}
 use Rattle.linux_perf_data.specs.InMemory.{TakesRawRecord}
-use Rattle.linux_perf_data.proofs.in_memory.iter.take_raw_record.Goals as goal
+use Rattle.linux_perf_data.proofs.in_memory.raw_record.take_raw_record.Goals as goal
 
 pub returns-in-Some-clause-raw_record : goal.returns-in-Some-clause-raw_record
 returns-in-Some-clause-raw_record c = rw c.in-Some.is at c.take_whole_record.ensures.whole_record

@@ -3,7 +3,7 @@ use Rattle.std.specs.Option.{option_map}
 use Rattle.linux_perf_data.specs.NameTable.{name_from_table}
 use Rattle.linux_perf_data.proofs.NameTables.{named_by_table}
 use Rattle.linux_perf_data.proofs.Naming.{named_by}
-use Rattle.linux_perf_data.proofs.attributes.names.name_attributes.Goals as goal
+use Rattle.linux_perf_data.proofs.attributes.names.NameTable.name_attributes.Goals as goal
 
 pub returns : goal.returns
 returns c =

@@ -6,7 +6,7 @@ use Rattle.linux_perf_data.specs.Descriptions.{described_attribute}
 use Rattle.linux_perf_data.specs.AttributeLookup.{Represents}
 use Rattle.perfdata_records.specs.HeaderAttr.{attribute_of}
 use Rattle.linux_perf_data.proofs.LateMetadataLemmas.{added_not, fits_reserved, attribute_applied}
-use Rattle.linux_perf_data.proofs.pipe.late_metadata.apply_attribute.Goals as goal
+use Rattle.linux_perf_data.proofs.metadata_records.apply_attribute.Goals as goal
 
 pub push_attribute-requires-clause-fits : goal.push_attribute-requires-clause-fits
 push_attribute-requires-clause-fits c =

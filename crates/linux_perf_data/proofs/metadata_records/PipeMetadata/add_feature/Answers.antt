@@ -1,7 +1,7 @@
 use Rattle.linux_perf_data.proofs.PipeMetadataGrowth.{feature_added}
 use Rattle.linux_perf_data.proofs.FeatureTables.{data_put}
 use Rattle.std.proofs.Common.{refl}
-use Rattle.linux_perf_data.proofs.pipe.opening.PipeMetadata.add_feature.Goals as goal
+use Rattle.linux_perf_data.proofs.metadata_records.PipeMetadata.add_feature.Goals as goal
 
 pub returns : goal.returns
 returns c =
