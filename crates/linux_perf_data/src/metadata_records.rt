@@ -1,5 +1,5 @@
-//! The metadata records of a pipe, each an attribute or a feature: what they add to the metadata of an opening,
-//! and later to the `PerfFile` and the lookup.
+//! The metadata records of a pipe. Each adds an attribute or a feature to the metadata of the opening, or
+//! later to the `PerfFile` and the lookup.
 ghost use Rattle.std.specs.Prelude.{◌≡◌, ◌≢◌, []};
 ghost use Rattle.perfdata_sections.specs.Error.{IsInvalidInput};
 ghost use Rattle.linux_perf_data.specs.LateMetadata.{AppliesMetadata, IsMetadataType};
@@ -39,11 +39,7 @@ fn contents_error(error: io::Error) -> Error
 }
 
 // Parses the attribute in the body of a record of type 64.
-fn parse_attribute(
-    alloc: Global,
-    endian: Endianness,
-    body: &[u8],
-) -> Result<HeaderAttr, Error>
+fn parse_attribute(alloc: Global, endian: Endianness, body: &[u8]) -> Result<HeaderAttr, Error>
     ensures { ParsesAttribute endian body.now result }
 {
     let parsed = match endian {
@@ -57,11 +53,7 @@ fn parse_attribute(
 }
 
 // Parses the feature in the body of a record of type 80.
-fn parse_feature(
-    alloc: Global,
-    endian: Endianness,
-    body: &[u8],
-) -> Result<HeaderFeature, Error>
+fn parse_feature(alloc: Global, endian: Endianness, body: &[u8]) -> Result<HeaderFeature, Error>
     ensures { ParsesFeature endian body.now result }
 {
     let body = RawData::Single(body);

@@ -8,7 +8,7 @@ use crate::in_memory::raw_record::{RawRecord, take_raw_record};
 use crate::metadata_records::apply_metadata;
 use crate::perf_file::PerfFile;
 use crate::records::input::Input;
-use crate::records::iter::{PerfRecordIter, RecordInfo, Stage};
+use crate::records::iter::{IdentifiedRecord, PerfRecordIter, Stage};
 use perfdata_base::event::PerfEventHeader;
 use perfdata_sections::error::Error;
 use std::io::Cursor;
@@ -22,19 +22,19 @@ fn process_record(
     round: u64,
     header: PerfEventHeader,
     body: &[u8],
-) -> Result<RecordInfo, Error>
+) -> Result<IdentifiedRecord, Error>
     ensures processes { ProcessesBody records.old perf_file.old offset round header body.now result
         records.new perf_file.new }
     ensures same_buffer { records.new.body ≡ records.old.body }
 {
-    let info = RecordInfo::identify(&mut records.attribute_lookup, body, offset, round, header);
+    let lookup = &mut records.attribute_lookup;
+    let identified = IdentifiedRecord::identify(lookup, body, offset, round, header);
     match records.input {
-        Input::Section(_) => Ok(info),
+        Input::Section(_) => Ok(identified),
         Input::Pipe(_) => {
             let (alloc, endian) = (records.alloc, records.endian);
-            let lookup = &mut records.attribute_lookup;
             apply_metadata(alloc, endian, lookup, perf_file, header.type_, body)?;
-            Ok(info)
+            Ok(identified)
         }
     }
 }
@@ -44,7 +44,7 @@ fn process_record(
 #[inline(always)]
 fn take_file_record<'a>(
     records: &mut PerfRecordIter<Cursor<&'a [u8]>>,
-) -> Option<(RecordInfo, &'a [u8])>
+) -> Option<(IdentifiedRecord, &'a [u8])>
     ensures { TakesFileRecord records.old result records.new }
 {
     let walk = FileWalk::of(records)?;
@@ -57,7 +57,7 @@ fn take_file_record<'a>(
 fn take_next_record<'a>(
     records: &mut PerfRecordIter<Cursor<&'a [u8]>>,
     perf_file: &mut PerfFile,
-) -> Result<Option<(RecordInfo, &'a [u8])>, Error>
+) -> Result<Option<(IdentifiedRecord, &'a [u8])>, Error>
     ensures { TakesRecord records.old perf_file.old result records.new perf_file.new }
 {
     match records.stage {
@@ -75,7 +75,7 @@ fn take_next_record<'a>(
             Ok(RawRecord::Marker(_)) => {}
             Ok(RawRecord::Record(header, body)) => {
                 match process_record(records, perf_file, offset, round, header, body) {
-                    Ok(info) => return Ok(Some((info, body))),
+                    Ok(identified) => return Ok(Some((identified, body))),
                     Err(error) => {
                         records.offset = offset;
                         records.stage = Stage::Failed;
@@ -102,7 +102,7 @@ fn take_next_record<'a>(
 pub(crate) fn take_record<'a>(
     records: &mut PerfRecordIter<Cursor<&'a [u8]>>,
     perf_file: &mut PerfFile,
-) -> Result<Option<(RecordInfo, &'a [u8])>, Error>
+) -> Result<Option<(IdentifiedRecord, &'a [u8])>, Error>
     ensures { TakesRecord records.old perf_file.old result records.new perf_file.new }
 {
     match take_file_record(records) {

@@ -1,5 +1,5 @@
-//! Takes raw records from bytes in memory: a whole one at once, as are all of an input without an error, or one
-//! part by part.
+//! Takes raw records from bytes in memory. A whole one is taken at once, as are all records of an input
+//! without an error; any other is taken part by part.
 ghost use Rattle.std.specs.Prelude.{◌≡◌, []};
 ghost use Rattle.linux_perf_data.specs.InMemory.{EndsOrFails, TakesRawRecord};
 ghost use Rattle.linux_perf_data.specs.InMemoryWholeRecords.{TakesWholeRecord};
@@ -25,9 +25,7 @@ pub(crate) enum RawRecord<'a> {
 // Takes the next raw record if the remaining bytes start with a whole one, and no header is pending.
 // Otherwise takes nothing.
 #[inline(always)]
-fn take_whole_record<'a>(
-    records: &mut PerfRecordIter<Cursor<&'a [u8]>>,
-) -> Option<RawRecord<'a>>
+fn take_whole_record<'a>(records: &mut PerfRecordIter<Cursor<&'a [u8]>>) -> Option<RawRecord<'a>>
     requires { records.old.body.items ≡ [] }
     ensures whole_record { TakesWholeRecord records.old result records.new }
     ensures same_buffer { records.new.body ≡ records.old.body }

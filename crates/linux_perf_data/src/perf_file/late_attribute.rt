@@ -55,7 +55,12 @@ impl PerfFile {
 
     // The names to set for a late attribute with these ids: only its own if `name_table` is present in this
     // byte order.
-    pub(crate) fn find_names(&self, alloc: Global, endian: Endianness, ids: &[u64]) -> Result<LateNames, Error>
+    pub(crate) fn find_names(
+        &self,
+        alloc: Global,
+        endian: Endianness,
+        ids: &[u64],
+    ) -> Result<LateNames, Error>
         ensures { FindsLateNames endian self.now ids.now result }
     {
         let table = match &self.name_table {

@@ -1,5 +1,5 @@
 use Rattle.std.proofs.Common.{refl}
-use Rattle.linux_perf_data.proofs.records.iter.RecordInfo.into_record.Goals as goal
+use Rattle.linux_perf_data.proofs.records.iter.IdentifiedRecord.into_record.Goals as goal
 
 pub returns-in-Kernel : goal.returns-in-Kernel
 returns-in-Kernel c = rw c.in-Kernel.is (record { view = refl; same_body = refl })

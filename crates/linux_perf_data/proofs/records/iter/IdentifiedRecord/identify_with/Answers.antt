@@ -5,7 +5,7 @@ use Rattle.perfdata_base.specs.ParseInfo.{time_of}
 use Rattle.perfdata_base.specs.declared.place.RecordParseInfo.{RecordParseInfo}
 use Rattle.linux_perf_data.specs.AttributeLookup.{event_at}
 use Rattle.linux_perf_data.proofs.LookupIds.{kernel_found, resolves_one}
-use Rattle.linux_perf_data.proofs.records.iter.RecordInfo.identify_with.Goals as goal
+use Rattle.linux_perf_data.proofs.records.iter.IdentifiedRecord.identify_with.Goals as goal
 
 pub returns-in-Some-only-clause-identifies : goal.returns-in-Some-only-clause-identifies
 returns-in-Some-only-clause-identifies c =
