@@ -12,7 +12,7 @@ use Rattle.perfdata_base.specs.declared.endian.Endianness.{Endianness}
 use Rattle.perfdata_sections.specs.RecordTypes.{finished_round}
 use Rattle.linux_perf_data.specs.declared.perf_file.PerfFile.{PerfFile}
 use Rattle.linux_perf_data.specs.declared.records.input.Input.TheVariants.{Section}
-use Rattle.linux_perf_data.specs.declared.records.iter.RecordInfo.{RecordInfo}
+use Rattle.linux_perf_data.specs.declared.records.iter.IdentifiedRecord.{IdentifiedRecord}
 use Rattle.linux_perf_data.specs.declared.records.iter.Stage.TheVariants.{Running}
 use Rattle.linux_perf_data.specs.AttributeLookup.{KeepsAttributes, Represents}
 use Rattle.linux_perf_data.specs.BufferedRecord.{WholeRecordLength}
@@ -41,7 +41,7 @@ file_unchanged order size kind body file = record {
 }
 
 -- an identified record of a file is processed
-file_record_processed : (piece new : MemoryIter) (size : ℕ) (file : PerfFile) (offset round : ℕ) (header : PerfEventHeader) (found : RecordInfo) → piece.input ≡ Section size → SameButLookup memory_state piece new → new.stage ≡ piece.stage
+file_record_processed : (piece new : MemoryIter) (size : ℕ) (file : PerfFile) (offset round : ℕ) (header : PerfEventHeader) (found : IdentifiedRecord) → piece.input ≡ Section size → SameButLookup memory_state piece new → new.stage ≡ piece.stage
     → IdentifiesRecord piece.attribute_lookup offset round header piece.body.items found new.attribute_lookup → KeepsAttributes piece.attribute_lookup new.attribute_lookup → RecordProcessed memory_state piece file offset round header found new file
 file_record_processed piece new size file offset round header found section same stage identifies keeps =
     let bound : section_size_of memory_state piece ≡ Some size = ap section_size_in section in
@@ -59,7 +59,7 @@ file_record_processed piece new size file offset round header found section same
     }
 
 -- the whole record at the start of the remaining bytes is taken
-pub file_record_consumed : (old new : MemoryIter) (size : ℕ) (file : PerfFile) (header : PerfEventHeader) (found : RecordInfo) (bytes : List ℕ) (n : ℕ) → old.stage ≡ Running → old.input ≡ Section size → old.offset < size → old.offset < 2 ^ 64 → length (slice_range bytes 8 n) < 2 ^ 63
+pub file_record_consumed : (old new : MemoryIter) (size : ℕ) (file : PerfFile) (header : PerfEventHeader) (found : IdentifiedRecord) (bytes : List ℕ) (n : ℕ) → old.stage ≡ Running → old.input ≡ Section size → old.offset < size → old.offset < 2 ^ 64 → length (slice_range bytes 8 n) < 2 ^ 63
     → WholeRecordLength old.endian bytes (Some n) → header ≡ record_header_of (number_in old.endian) bytes → header.type_ ≢ finished_round → HasNoPendingHeader old.input → Consumed (memory_state old.source) (take n bytes) (memory_state new.source)
     → new.input ≡ old.input → new.endian ≡ old.endian → new.stage ≡ old.stage → new.offset ≡ old.offset + n → new.offset < 2 ^ 64 → new.round ≡ old.round → old.round ≡ (if header.type_ == finished_round then old.round + 1 else old.round)
     → IdentifiesRecord old.attribute_lookup old.offset old.round header (slice_range bytes 8 n) found new.attribute_lookup → KeepsAttributes old.attribute_lookup new.attribute_lookup → RecordTaken old file found (slice_range bytes 8 n) new file
@@ -89,7 +89,7 @@ file_record_consumed old new size file header found bytes n running section more
     record { buffer = buffer; returns = returns_record memory_state old now piece final file file header found idles read other starts processed }
 
 -- the record with an equal body
-pub taken_with_body : (old new : MemoryIter) (file : PerfFile) (found : RecordInfo) (body same_body : List ℕ) → same_body ≡ body → RecordTaken old file found body new file → RecordTaken old file found same_body new file
+pub taken_with_body : (old new : MemoryIter) (file : PerfFile) (found : IdentifiedRecord) (body same_body : List ℕ) → same_body ≡ body → RecordTaken old file found body new file → RecordTaken old file found same_body new file
 taken_with_body old new file found body same_body same taken = subst (λ b. RecordTaken old file found b new file) (sym same) taken
 
 -- if the remaining bytes of the old iterator are those of an input from its offset on, so are those of the new one

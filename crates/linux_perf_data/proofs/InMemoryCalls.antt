@@ -9,11 +9,11 @@ use Rattle.perfdata_base.specs.declared.event.record_header.PerfEventHeader.{Per
 use Rattle.perfdata_sections.specs.declared.error.Error.{Error}
 use Rattle.perfdata_sections.specs.declared.error.Error.TheVariants.{Memory}
 use Rattle.perfdata_sections.specs.Error.{IsIoError, IsUnexpectedEof}
-use Rattle.linux_perf_data.specs.declared.in_memory.iter.RawRecord.{RawRecord}
-use Rattle.linux_perf_data.specs.declared.in_memory.iter.RawRecord.TheVariants.{Marker, Record, End}
+use Rattle.linux_perf_data.specs.declared.in_memory.raw_record.RawRecord.{RawRecord}
+use Rattle.linux_perf_data.specs.declared.in_memory.raw_record.RawRecord.TheVariants.{Marker, Record, End}
 use Rattle.linux_perf_data.specs.declared.perf_file.PerfFile.{PerfFile}
 use Rattle.linux_perf_data.specs.declared.attributes.lookup.AttributeLookup.{AttributeLookup}
-use Rattle.linux_perf_data.specs.declared.records.iter.RecordInfo.{RecordInfo}
+use Rattle.linux_perf_data.specs.declared.records.iter.IdentifiedRecord.{IdentifiedRecord}
 use Rattle.linux_perf_data.specs.AttributeLookup.{KeepsAttributes}
 use Rattle.linux_perf_data.specs.Input.{HasNoPendingHeader}
 use Rattle.linux_perf_data.specs.Layout.{MayStartAt}
@@ -48,7 +48,7 @@ truncated_consumed old new e (Ok End) answers other same offset round known unre
 truncated_consumed old new e (Err e') answers other same offset round known unread pipe file = (λ m. other (sym answers.1 ∙ m), record_truncated memory_state old new e (Err e') answers same offset round known unread pipe file)
 
 -- A record whose body is in a buffer is processed. `new` is `old` with another lookup.
-pub body_processed : (old new : MemoryIter) (buffer : Vec ℕ Global) → new.body ≡ old.body → (file file' : PerfFile) (offset round : ℕ) (header_bytes : PerfEventHeader) (found : RecordInfo) (known : AttributeLookup) (body : List ℕ) → buffer.items ≡ body → section_size_of memory_state old ≡ None
+pub body_processed : (old new : MemoryIter) (buffer : Vec ℕ Global) → new.body ≡ old.body → (file file' : PerfFile) (offset round : ℕ) (header_bytes : PerfEventHeader) (found : IdentifiedRecord) (known : AttributeLookup) (body : List ℕ) → buffer.items ≡ body → section_size_of memory_state old ≡ None
     → IdentifiesRecord old.attribute_lookup offset round header_bytes body found known → KeepsAttributes old.attribute_lookup known → MetadataApplied old.endian known file header_bytes.type_ body new.attribute_lookup file' → ((¬ IsMetadataType header_bytes.type_) → (new.attribute_lookup ≡ known) × (file' ≡ file))
     → SameButLookup memory_state (with_buffer old buffer) (with_buffer new buffer) → new.stage ≡ old.stage → RecordProcessed memory_state (with_buffer old buffer) file offset round header_bytes found (with_buffer new buffer) file'
 body_processed old new buffer same file file' offset round header_bytes found known body buffered pipe finds learns step others after running =

@@ -10,7 +10,7 @@ use Rattle.std.specs.Io.Cursor.{cursor_inner, cursor_position}
 use Rattle.perfdata_base.specs.Source.{State, Position, memory_source_at, prepend, all_bytes_of, Consumed}
 use Rattle.linux_perf_data.specs.declared.records.input.Input.{Input}
 use Rattle.linux_perf_data.specs.declared.records.input.Input.TheVariants.{Section, Pipe}
-use Rattle.linux_perf_data.specs.declared.records.iter.RecordInfo.{RecordInfo}
+use Rattle.linux_perf_data.specs.declared.records.iter.IdentifiedRecord.{IdentifiedRecord}
 use Rattle.linux_perf_data.specs.declared.perf_file.PerfFile.{PerfFile}
 use Rattle.linux_perf_data.specs.Input.{section_size_in, input_source_state}
 use Rattle.linux_perf_data.specs.Layout.{RecordView}
@@ -74,7 +74,7 @@ body_ends_in_place old new file file' h input first placed returned =
     omega (arith, long, length-drop (first + old.offset) input, length-append x split.0, length-append returned.markers body, length-append returned.header_bytes h.body, eight, at)
 
 -- the iterator after any call is in place
-pub consumed_in_place : (old new : MemoryIter) (file file' : PerfFile) (r : Result (Option (RecordInfo × Bor (List ℕ))) Error) (input : List ℕ) (first : ℕ) → IsInPlace old input first → TakesRecord old file r new file' → IsInPlace new input first
+pub consumed_in_place : (old new : MemoryIter) (file file' : PerfFile) (r : Result (Option (IdentifiedRecord × Bor (List ℕ))) Error) (input : List ℕ) (first : ℕ) → IsInPlace old input first → TakesRecord old file r new file' → IsInPlace new input first
 consumed_in_place old new file file' (Ok (Some found)) input first placed consumed_bytes = returned_in_place old (with_buffer new consumed_bytes.buffer) file file' _ input first placed consumed_bytes.returns
 consumed_in_place old new file file' (Ok None) input first placed ended = λ runs. let stage = ended.stage_ended in absurd cc
 consumed_in_place old new file file' (Err e) input first placed failed = λ runs. let stage = failed.0.stage_failed in absurd cc

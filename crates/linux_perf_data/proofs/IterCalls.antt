@@ -15,7 +15,7 @@ use Rattle.perfdata_sections.specs.declared.error.Error.TheVariants as error
 use Rattle.linux_perf_data.specs.declared.records.input.Input.{Input}
 use Rattle.linux_perf_data.specs.declared.records.input.Input.TheVariants.{Section, Pipe}
 use Rattle.linux_perf_data.specs.declared.records.iter.PerfRecordIter.{PerfRecordIter}
-use Rattle.linux_perf_data.specs.declared.records.iter.RecordInfo.{RecordInfo}
+use Rattle.linux_perf_data.specs.declared.records.iter.IdentifiedRecord.{IdentifiedRecord}
 use Rattle.linux_perf_data.specs.declared.records.iter.Stage.{Stage}
 use Rattle.linux_perf_data.specs.declared.records.iter.Stage.TheVariants.{Running, Failed, Ended}
 use Rattle.linux_perf_data.specs.declared.perf_file.PerfFile.{PerfFile}
@@ -147,7 +147,7 @@ module _ {R : Type 0} (state : R → State) where
       (piece_next old new header t (marker_record old.endian (section_size_of state old) t.raw_record t.is_record kind) more rest attrs rs e (subst (λ a. RemainingIn new rest a rs e) same come))
 
   -- the record in the layout is the record in the code
-  same_record : (old new : PerfRecordIter R) (header : PerfEventHeader) (found : RecordInfo) (known : AttributeLookup) (t : RawRecordRead state old header new) → header.type_ ≢ 68 → IdentifiesRecord new.attribute_lookup old.offset old.round header new.body.items found known → (attrs : List Attribute)
+  same_record : (old new : PerfRecordIter R) (header : PerfEventHeader) (found : IdentifiedRecord) (known : AttributeLookup) (t : RawRecordRead state old header new) → header.type_ ≢ 68 → IdentifiesRecord new.attribute_lookup old.offset old.round header new.body.items found known → (attrs : List Attribute)
       → Represents new.endian new.attribute_lookup attrs → record_view_in old.endian old.offset old.round attrs t.raw_record ≡ record_view_with known found new.endian new.body.items
   same_record old new header found known t other finds attrs k =
       let with' : Endianness → ℕ → ℕ → List ℕ → RecordView = λ o kind misc body. record_view o old.offset old.round attrs kind misc body in
@@ -155,7 +155,7 @@ module _ {R : Type 0} (state : R → State) where
       ap (λ n. with' old.endian n (misc_of old.endian p) (drop 8 p)) t.record_type ∙ ap (λ m. with' old.endian header.type_ m (drop 8 p)) t.misc ∙ ap (λ b. with' old.endian header.type_ header.misc b) (sym (t.buffered_body other))
       ∙ ap (λ o. with' o header.type_ header.misc new.body.items) (sym t.same_input.same_endian) ∙ sym (finds.matches new.endian attrs k)
 
-  record_next : (old new : PerfRecordIter R) (header : PerfEventHeader) (found : RecordInfo) (known : AttributeLookup) (t : RawRecordRead state old header new) → IsValidRecord old.endian (section_size_of state old) t.raw_record → header.type_ ≢ 68 → IdentifiesRecord new.attribute_lookup old.offset old.round header new.body.items found known
+  record_next : (old new : PerfRecordIter R) (header : PerfEventHeader) (found : IdentifiedRecord) (known : AttributeLookup) (t : RawRecordRead state old header new) → IsValidRecord old.endian (section_size_of state old) t.raw_record → header.type_ ≢ 68 → IdentifiesRecord new.attribute_lookup old.offset old.round header new.body.items found known
       → MayStartAt (section_size_of state old) old.offset → (rest : List ℕ) (attrs : List Attribute) → Represents new.endian new.attribute_lookup attrs → (rs : List RecordView) (e : LayoutEnd) → RemainingIn new rest (attrs ++ added_by old new header t) rs e
       → RemainingIn old (t.raw_record ++ rest) attrs (record_view_with known found new.endian new.body.items ∷ rs) e
   record_next old new header found known t is other finds more rest attrs k rs e come =
@@ -230,7 +230,7 @@ module _ {R : Type 0} (state : R → State) where
       ∙ ap (λ k. attributes_in_record piece.endian (section_size_of state piece) k body') is ∙ ap (λ l. attributes_in_record piece.endian (section_size_of state piece) kind l) buffered
 
   -- the record's raw record is valid in the layout
-  record_piece : (now piece new : PerfRecordIter R) (file file' : PerfFile) (offset round : ℕ) (header : PerfEventHeader) (found : RecordInfo) → (t : RawRecordRead state now header piece) → header.type_ ≢ 68 → RecordProcessed state piece file offset round header found new file'
+  record_piece : (now piece new : PerfRecordIter R) (file file' : PerfFile) (offset round : ℕ) (header : PerfEventHeader) (found : IdentifiedRecord) → (t : RawRecordRead state now header piece) → header.type_ ≢ 68 → RecordProcessed state piece file offset round header found new file'
       → IsValidRecord now.endian (section_size_of state now) t.raw_record
   record_piece now piece new file file' offset round header found t other processed =
       subst (λ o. IsValidRecord o (section_size_of state now) t.raw_record) t.same_input.same_endian
@@ -248,7 +248,7 @@ module _ {R : Type 0} (state : R → State) where
 
   -- `piece` is the iterator after the raw record is read; `new` is the iterator after the record is identified and its metadata
   -- applied.
-  pub returns_record : (old now piece new : PerfRecordIter R) (file file' : PerfFile) (header : PerfEventHeader) (found : RecordInfo) → Idles old now → RawRecordRead state now header piece → header.type_ ≢ 68 → MayStartAt (section_size_of state now) now.offset
+  pub returns_record : (old now piece new : PerfRecordIter R) (file file' : PerfFile) (header : PerfEventHeader) (found : IdentifiedRecord) → Idles old now → RawRecordRead state now header piece → header.type_ ≢ 68 → MayStartAt (section_size_of state now) now.offset
       → RecordProcessed state piece file now.offset now.round header found new file' → ReturnsRecord state old file (record_view_with new.attribute_lookup found new.endian new.body.items) new file'
   returns_record old now piece new file file' header found i t other more processed =
       let after = processed.same_but_lookup in

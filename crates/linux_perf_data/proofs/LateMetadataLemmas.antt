@@ -27,12 +27,12 @@ use Rattle.linux_perf_data.specs.NameTable.{HasTableWithEndian, IsTableOf, name_
 use Rattle.linux_perf_data.specs.FeatureNumbers.{event_desc}
 use Rattle.linux_perf_data.specs.Names.{IsReadableOrAbsent, NamedBy, NamedByEventDesc}
 use Rattle.linux_perf_data.specs.Renames.{AreRenamesFor, FindsRenames, KeepsName, Rename}
-use Rattle.linux_perf_data.specs.declared.attributes.name_table.NameTable.{NameTable}
+use Rattle.linux_perf_data.specs.declared.attributes.names.NameTable.{NameTable}
 use Rattle.std.specs.declared.alloc.Global.{Global}
 use Rattle.linux_perf_data.specs.PerfFile.{descriptions_of_file, features_of_file, feature_data_in_file, attributes_of_file}
 use Rattle.linux_perf_data.specs.Consistency.{error_of_inconsistency}
-use Rattle.linux_perf_data.specs.declared.pipe.late_metadata.LateNames.{LateNames}
-use Rattle.linux_perf_data.specs.declared.pipe.late_metadata.LateNames.TheVariants.{Single, All}
+use Rattle.linux_perf_data.specs.declared.perf_file.late_attribute.LateNames.{LateNames}
+use Rattle.linux_perf_data.specs.declared.perf_file.late_attribute.LateNames.TheVariants.{Single, All}
 use Rattle.linux_perf_data.proofs.NameTables.{named_by_kept, named_can, table_can}
 use Rattle.linux_perf_data.proofs.RenameLemmas.{renames_for, renames_for_all}
 

@@ -25,7 +25,7 @@ use Rattle.linux_perf_data.specs.FeatureNumbers.{event_desc}
 use Rattle.linux_perf_data.specs.NameTable.{name_from_table, names_from_table, HasTableWithEndian, IsTableOf, TableHasEvents, TableNamesAll, TableEmptyWithoutEventDesc, TableIsReadable}
 use Rattle.linux_perf_data.specs.Names.{name_bytes_of, IsReadableOrAbsent, NamedByEventDesc, NamedBy, name_by_first_id, same_first_id}
 use Rattle.linux_perf_data.specs.FeatureData.{feature_data_of}
-use Rattle.linux_perf_data.specs.declared.attributes.name_table.NameTable.{NameTable}
+use Rattle.linux_perf_data.specs.declared.attributes.names.NameTable.{NameTable}
 use Rattle.linux_perf_data.proofs.EventDescNames.{described_is_readable}
 use Rattle.linux_perf_data.proofs.FeatureTables.{data_put}
 

@@ -19,7 +19,7 @@ use Rattle.perfdata_sections.specs.declared.error.Error.TheVariants.{IoError, Re
 use Rattle.perfdata_sections.specs.declared.error.ReadError.TheVariants.{PerfEventAttr}
 use Rattle.linux_perf_data.specs.declared.file_reader.PerfFileReader.{PerfFileReader}
 use Rattle.linux_perf_data.specs.declared.file.opening.FileOpening.{FileOpening}
-use Rattle.linux_perf_data.specs.declared.pipe.pipe_opening.PipeOpening.{PipeOpening}
+use Rattle.linux_perf_data.specs.declared.pipe.opening.PipeOpening.{PipeOpening}
 use Rattle.linux_perf_data.specs.declared.records.iter.PerfRecordIter.{PerfRecordIter}
 use Rattle.linux_perf_data.specs.declared.records.iter.Stage.{Stage}
 use Rattle.linux_perf_data.specs.declared.records.iter.Stage.TheVariants.{Running, Failed, Ended}

@@ -27,8 +27,8 @@ use Rattle.linux_perf_data.specs.FileOpening.{RecognizesMagic}
 use Rattle.linux_perf_data.specs.PipeOpening.{MetadataEnded, HoldsPipeMetadata, IsPipeHeader, PipeOpened, OpensPerfPipe, FailsBy, IsMetadataReadError, IsPipeError, IsMetadataListError, OpeningRead, IsErrorCauseFor}
 use Rattle.linux_perf_data.specs.PipeSteps.{NamesConsistentAttributes, OpeningFinished, FinishesOpening, OpensAfterPipeHeader, IsFinishError, CollectsMetadata, MetadataRead}
 use Rattle.linux_perf_data.specs.FeatureData.{feature_data_of}
-use Rattle.linux_perf_data.specs.declared.pipe.opening.PipeMetadata.{PipeMetadata}
-use Rattle.linux_perf_data.specs.declared.pipe.pipe_opening.PipeOpening.{PipeOpening}
+use Rattle.linux_perf_data.specs.declared.metadata_records.PipeMetadata.{PipeMetadata}
+use Rattle.linux_perf_data.specs.declared.pipe.opening.PipeOpening.{PipeOpening}
 use Rattle.linux_perf_data.proofs.RecordHeaders.{record_type_prefix, size_first_part}
 use Rattle.linux_perf_data.proofs.PipeErrors.{error_later, shows}
 use Rattle.linux_perf_data.proofs.PipeMetadataRuns.{ended_later}

@@ -16,7 +16,7 @@ use Rattle.linux_perf_data.specs.Names.{feature_in_body}
 use Rattle.linux_perf_data.specs.PipeOpening.{features_in_records, feature_data_in}
 use Rattle.linux_perf_data.specs.PipeSteps.{RecordAdded, CollectsMetadata}
 use Rattle.linux_perf_data.specs.FeatureData.{feature_data_of}
-use Rattle.linux_perf_data.specs.declared.pipe.opening.PipeMetadata.{PipeMetadata}
+use Rattle.linux_perf_data.specs.declared.metadata_records.PipeMetadata.{PipeMetadata}
 
 -- the data of a feature are inserted
 pub feature_added : (order : Endianness) (body : List ℕ) (old new : PipeMetadata) (h : HeaderFeature) → IsHeaderFeature (number_in order) body h → new.attributes ≡ old.attributes

@@ -10,7 +10,7 @@ use Rattle.perfdata_base.specs.declared.endian.Endianness.{Endianness}
 use Rattle.perfdata_sections.specs.declared.error.Error.{Error}
 use Rattle.linux_perf_data.specs.PipeOpening.{AreMetadata, MetadataEnded, IsMetadataRecord, FailsBy, IsMetadataReadError, IsMetadataRecordError}
 use Rattle.linux_perf_data.specs.PipeSteps.{CollectsMetadata, MetadataEndRead, MetadataRead, NextRecordRead}
-use Rattle.linux_perf_data.specs.declared.pipe.opening.PipeMetadata.{PipeMetadata}
+use Rattle.linux_perf_data.specs.declared.metadata_records.PipeMetadata.{PipeMetadata}
 use Rattle.linux_perf_data.proofs.PipeMetadataGrowth.{metadata_more}
 use Rattle.linux_perf_data.proofs.PipeErrors.{error_later}
 

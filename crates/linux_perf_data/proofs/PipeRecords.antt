@@ -14,7 +14,7 @@ use Rattle.linux_perf_data.specs.Layout.{IsCompressed, IsRecord, record_type_of,
 use Rattle.linux_perf_data.specs.PipeOpening.{FailsBy, IsMetadataRecordError}
 use Rattle.linux_perf_data.specs.PipeSteps.{RecordAdded, NextRecordRead}
 use Rattle.linux_perf_data.specs.RecordFraming.{BytesRead, ChecksBodySize, ChecksRecordEnd}
-use Rattle.linux_perf_data.specs.declared.pipe.opening.PipeMetadata.{PipeMetadata}
+use Rattle.linux_perf_data.specs.declared.metadata_records.PipeMetadata.{PipeMetadata}
 use Rattle.linux_perf_data.proofs.RecordHeaders.{record_type_prefix, size_first_part, total_size_plain}
 use Rattle.linux_perf_data.proofs.RecordReads.{after_header}
 use Rattle.linux_perf_data.proofs.PipeErrors.{IsContentsError, error_later, shows}

@@ -15,9 +15,9 @@ use Rattle.perfdata_sections.specs.AttributeDescription.{events_in}
 use Rattle.perfdata_sections.specs.EventDesc.{IsEventDescError}
 use Rattle.perfdata_sections.proofs.EventPrefixes.{event_desc_or_error}
 use Rattle.linux_perf_data.specs.declared.records.iter.PerfRecordIter.{PerfRecordIter}
-use Rattle.linux_perf_data.specs.declared.records.iter.RecordInfo.{RecordInfo}
-use Rattle.linux_perf_data.specs.declared.records.iter.Writer.{Writer}
-use Rattle.linux_perf_data.specs.declared.records.iter.Writer.TheVariants.{Kernel, User}
+use Rattle.linux_perf_data.specs.declared.records.iter.IdentifiedRecord.{IdentifiedRecord}
+use Rattle.linux_perf_data.specs.declared.records.iter.RecordOrigin.{RecordOrigin}
+use Rattle.linux_perf_data.specs.declared.records.iter.RecordOrigin.TheVariants.{Kernel, User}
 use Rattle.linux_perf_data.specs.declared.attributes.lookup.AttributeLookup.{AttributeLookup}
 use Rattle.linux_perf_data.specs.declared.perf_file.PerfFile.{PerfFile}
 use Rattle.linux_perf_data.specs.Attribute.{Attribute, EventRef, HoldsAttribute}
@@ -28,7 +28,7 @@ use Rattle.linux_perf_data.specs.Names.{IsReadableEventDesc, NamedByEventDesc, f
 use Rattle.linux_perf_data.specs.PerfFile.{descriptions_of_file, feature_data_in_file}
 use Rattle.linux_perf_data.specs.LateMetadata.{IsMetadataType, UpdatesPerfFile, HasValidMetadata, SameAttributeCount, MetadataApplied, MetadataRejected, RejectsMetadata, PassesEarlierChecks}
 use Rattle.linux_perf_data.specs.RecordFraming.{IsErrorFor, MayNeedMemory}
-use Rattle.linux_perf_data.specs.RecordViews.{event_by_writer, attr_index_by_writer, record_type_by_writer, endian_by_writer, IdentifiesRecord}
+use Rattle.linux_perf_data.specs.RecordViews.{event_by_origin, attr_index_by_origin, record_type_by_origin, endian_by_origin, IdentifiesRecord}
 use Rattle.linux_perf_data.specs.Iter.{section_size_of}
 use Rattle.linux_perf_data.specs.IterSteps.{SameButLookup, RecordProcessed, RecordRejected}
 use Rattle.linux_perf_data.proofs.RecordHeaders.{total_size_plain}
@@ -142,32 +142,32 @@ plain_kernel kind kernel (inl is) = absurd (omega (arith, kernel, is))
 plain_kernel kind kernel (inr is) = absurd (omega (arith, kernel, is))
 
 -- the event of a record and its byte order are unchanged if the lookup is, or if the kernel didn't write the record
-same_event : (k k' : AttributeLookup) (w : Writer) → ((i : ℕ) → w ≡ Kernel i → k' ≡ k) → event_by_writer (parse_info_at k' (attr_index_by_writer w)) w ≡ event_by_writer (parse_info_at k (attr_index_by_writer w)) w
+same_event : (k k' : AttributeLookup) (w : RecordOrigin) → ((i : ℕ) → w ≡ Kernel i → k' ≡ k) → event_by_origin (parse_info_at k' (attr_index_by_origin w)) w ≡ event_by_origin (parse_info_at k (attr_index_by_origin w)) w
 same_event k k' (Kernel i) same = ap (λ x. Some (record { index = i; parse_info = parse_info_at x i })) (same i refl)
 same_event k k' (User t) same = refl
 
-same_order : (k k' : AttributeLookup) (w : Writer) (order : Endianness) → ((i : ℕ) → w ≡ Kernel i → k' ≡ k) → endian_by_writer (parse_info_at k' (attr_index_by_writer w)) w order ≡ endian_by_writer (parse_info_at k (attr_index_by_writer w)) w order
+same_order : (k k' : AttributeLookup) (w : RecordOrigin) (order : Endianness) → ((i : ℕ) → w ≡ Kernel i → k' ≡ k) → endian_by_origin (parse_info_at k' (attr_index_by_origin w)) w order ≡ endian_by_origin (parse_info_at k (attr_index_by_origin w)) w order
 same_order k k' (Kernel i) order same = ap (λ x. (parse_info_at x i).endian) (same i refl)
 same_order k k' (User t) order same = refl
 
 -- an identified record is the same after metadata is applied
-finds_later : (old known new : AttributeLookup) (offset round : ℕ) (header : PerfEventHeader) (body : List ℕ) (found : RecordInfo) → (header.type_ < 64 → new ≡ known) → IdentifiesRecord old offset round header body found known → IdentifiesRecord old offset round header body found new
+finds_later : (old known new : AttributeLookup) (offset round : ℕ) (header : PerfEventHeader) (body : List ℕ) (found : IdentifiedRecord) → (header.type_ < 64 → new ≡ known) → IdentifiesRecord old offset round header body found known → IdentifiesRecord old offset round header body found new
 finds_later old known new offset round header body found remains finds =
-    let same = λ (i : ℕ) (is : found.writer ≡ Kernel i). remains (finds.kernel_type i is) in
-    let with' : Endianness → Option EventRef → List ℕ → RecordView = λ o e b. record { offset = found.place.offset; round = found.place.round; record_type = record_type_by_writer found.writer found.record_type.0; misc = found.misc; endian = o; body = b; event = e; timestamp = found.place.timestamp } in
+    let same = λ (i : ℕ) (is : found.origin ≡ Kernel i). remains (finds.kernel_type i is) in
+    let with' : Endianness → Option EventRef → List ℕ → RecordView = λ o e b. record { offset = found.place.offset; round = found.place.round; record_type = record_type_by_origin found.origin found.record_type.0; misc = found.misc; endian = o; body = b; event = e; timestamp = found.place.timestamp } in
     record {
       offset_matches = finds.offset_matches;
       round_matches = finds.round_matches;
       record_type = finds.record_type;
       kernel_type = finds.kernel_type;
       matches = λ order attrs k.
-          ap (λ o. with' o (event_by_writer (parse_info_at new (attr_index_by_writer found.writer)) found.writer) body) (same_order known new found.writer order same)
-          ∙ ap (λ e. with' (endian_by_writer (parse_info_at known (attr_index_by_writer found.writer)) found.writer order) e body) (same_event known new found.writer same) ∙ finds.matches order attrs k;
+          ap (λ o. with' o (event_by_origin (parse_info_at new (attr_index_by_origin found.origin)) found.origin) body) (same_order known new found.origin order same)
+          ∙ ap (λ e. with' (endian_by_origin (parse_info_at known (attr_index_by_origin found.origin)) found.origin order) e body) (same_event known new found.origin same) ∙ finds.matches order attrs k;
     }
 
 module _ {R : Type 0} (state : R → State) where
   -- a record of a pipe is processed
-  pub record_processed : (old new : PerfRecordIter R) (file file' : PerfFile) (offset round : ℕ) (header : PerfEventHeader) (found : RecordInfo) (known : AttributeLookup) (body : List ℕ) → body ≡ old.body.items → section_size_of state old ≡ None
+  pub record_processed : (old new : PerfRecordIter R) (file file' : PerfFile) (offset round : ℕ) (header : PerfEventHeader) (found : IdentifiedRecord) (known : AttributeLookup) (body : List ℕ) → body ≡ old.body.items → section_size_of state old ≡ None
       → IdentifiesRecord old.attribute_lookup offset round header body found known → KeepsAttributes old.attribute_lookup known → MetadataApplied old.endian known file header.type_ body new.attribute_lookup file' → ((¬ IsMetadataType header.type_) → (new.attribute_lookup ≡ known) × (file' ≡ file)) → SameButLookup state old new → new.stage ≡ old.stage
       → RecordProcessed state old file offset round header found new file'
   record_processed old new file file' offset round header found known body is pipe finds learns step others after running =

@@ -17,7 +17,7 @@ use Rattle.linux_perf_data.specs.NameTable.{name_from_table}
 use Rattle.linux_perf_data.specs.Names.{NamedBy, name_by_first_id, names_in, same_first_id}
 use Rattle.linux_perf_data.specs.Renames.{AddsRenames, AreRenamesFor, HasOtherFirstId, IsRename, IsRenamed, IsUnlistedOrKept, KeepsName, Rename, ids_at, name_at}
 use Rattle.linux_perf_data.specs.declared.attributes.first_id_index.FirstIdIndex.{FirstIdIndex}
-use Rattle.linux_perf_data.specs.declared.attributes.name_table.NameTable.{NameTable}
+use Rattle.linux_perf_data.specs.declared.attributes.names.NameTable.{NameTable}
 use Rattle.linux_perf_data.proofs.FirstIdIndexes.{last_found, last_missed}
 use Rattle.linux_perf_data.proofs.NameTables.{at_is, name_of_first, no_ids, unlisted_name}
 use Rattle.linux_perf_data.proofs.Naming.{all_by_map, set_same}

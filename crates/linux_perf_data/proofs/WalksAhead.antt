@@ -17,7 +17,7 @@ use Rattle.linux_perf_data.specs.declared.in_memory.file_walk.FileWalk.{FileWalk
 use Rattle.linux_perf_data.specs.declared.in_memory.file_walk.WholeRecord.{WholeRecord}
 use Rattle.linux_perf_data.specs.declared.perf_file.PerfFile.{PerfFile}
 use Rattle.linux_perf_data.specs.declared.records.input.Input.TheVariants.{Section}
-use Rattle.linux_perf_data.specs.declared.records.iter.RecordInfo.{RecordInfo}
+use Rattle.linux_perf_data.specs.declared.records.iter.IdentifiedRecord.{IdentifiedRecord}
 use Rattle.linux_perf_data.specs.AttributeLookup.{HasOnly, KeepsAttributes}
 use Rattle.linux_perf_data.specs.BufferedRecord.{WholeRecordLength}
 use Rattle.linux_perf_data.specs.FileWalk.{IsNextRecord, IsWalkAhead, IsWalkOf, MovesPast, iter_at, position_of_walk, records_at_walk, remaining_in, with_lookup}
@@ -157,7 +157,7 @@ walk_moves records walk walk' next lookup ahead is_next moves only =
     }
 
 -- a streaming iterator at the position of the walk takes the same record
-pub record_taken_by_walk : (old new : MemoryIter) (walk : FileWalk) (next : WholeRecord) (found : RecordInfo) (file : PerfFile) → IsWalkOf old walk → IsNextRecord walk next
+pub record_taken_by_walk : (old new : MemoryIter) (walk : FileWalk) (next : WholeRecord) (found : IdentifiedRecord) (file : PerfFile) → IsWalkOf old walk → IsNextRecord walk next
     → Consumed (memory_state old.source) (take next.length walk.remaining.now) (memory_state new.source) → new.input ≡ old.input → new.endian ≡ old.endian → new.stage ≡ old.stage → new.offset ≡ next.end → next.end < 2 ^ 64 → new.round ≡ old.round
     → IdentifiesRecord old.attribute_lookup walk.offset walk.round next.header (slice_range walk.remaining.now 8 next.length) found new.attribute_lookup → KeepsAttributes old.attribute_lookup new.attribute_lookup
     → RecordTaken old file found (slice_range walk.remaining.now 8 next.length) new file
@@ -183,7 +183,7 @@ record_taken_by_walk old new walk next found file is is_next consumes input endi
     file_record_consumed old new walk.section_size file header found bytes n is.running section more (omega (arith, fits, end, offset)) small whole header_is other none consumes input endian stage ends (omega (arith, new_offset, fits)) same_round round same_place keeps
 
 -- the records at the position of the walk take the same record
-pub record_of_walk : (records : InMemoryRecords) (walk walk' : FileWalk) (next : WholeRecord) (found : RecordInfo) (lookup : AttributeLookup) (file : PerfFile) (ahead : IsWalkAhead records walk) (ahead' : IsWalkAhead (records_with_lookup records lookup) walk') → IsNextRecord walk next → MovesPast walk next walk' → walk'.offset < 2 ^ 64
+pub record_of_walk : (records : InMemoryRecords) (walk walk' : FileWalk) (next : WholeRecord) (found : IdentifiedRecord) (lookup : AttributeLookup) (file : PerfFile) (ahead : IsWalkAhead records walk) (ahead' : IsWalkAhead (records_with_lookup records lookup) walk') → IsNextRecord walk next → MovesPast walk next walk' → walk'.offset < 2 ^ 64
     → IdentifiesRecord records.records.attribute_lookup walk.offset walk.round next.header (slice_range walk.remaining.now 8 next.length) found lookup → KeepsAttributes records.records.attribute_lookup lookup
     → RecordTaken (records_at_walk records walk ahead).records file found (slice_range walk.remaining.now 8 next.length) (records_at_walk (records_with_lookup records lookup) walk' ahead').records file
 record_of_walk records walk walk' next found lookup file ahead ahead' is_next moves fits identifies keeps =

@@ -13,10 +13,10 @@ use Rattle.perfdata_sections.specs.declared.error.Error.TheVariants.{Memory}
 use Rattle.perfdata_sections.specs.RecordTypes.{finished_round}
 use Rattle.linux_perf_data.specs.declared.records.input.Input.{Input}
 use Rattle.linux_perf_data.specs.declared.records.iter.PerfRecordIter.{PerfRecordIter}
-use Rattle.linux_perf_data.specs.declared.records.iter.RecordInfo.{RecordInfo}
+use Rattle.linux_perf_data.specs.declared.records.iter.IdentifiedRecord.{IdentifiedRecord}
 use Rattle.linux_perf_data.specs.declared.records.iter.Stage.TheVariants.{Running}
-use Rattle.linux_perf_data.specs.declared.in_memory.iter.RawRecord.{RawRecord}
-use Rattle.linux_perf_data.specs.declared.in_memory.iter.RawRecord.TheVariants.{Marker, Record, End}
+use Rattle.linux_perf_data.specs.declared.in_memory.raw_record.RawRecord.{RawRecord}
+use Rattle.linux_perf_data.specs.declared.in_memory.raw_record.RawRecord.TheVariants.{Marker, Record, End}
 use Rattle.linux_perf_data.specs.declared.perf_file.PerfFile.{PerfFile}
 use Rattle.linux_perf_data.specs.Input.{section_size_in}
 use Rattle.linux_perf_data.specs.RecordFraming.{AuxDataRead, AuxDataError, ReadsRecordBody}
@@ -72,21 +72,21 @@ TakesRawRecord old (Ok End) new = RawRecordTruncated memory_state old new
 TakesRawRecord old (Err e) new = (e ≢ Memory) × RawRecordError memory_state old e new
 
 -- The effect of `ProcessesRecord` on an iterator that has buffered the body. Memory runs out in a pipe only.
-abbrev pub ProcessesBody : MemoryIter → PerfFile → ℕ → ℕ → PerfEventHeader → List ℕ → Result RecordInfo Error → MemoryIter → PerfFile → Type 0
+abbrev pub ProcessesBody : MemoryIter → PerfFile → ℕ → ℕ → PerfEventHeader → List ℕ → Result IdentifiedRecord Error → MemoryIter → PerfFile → Type 0
 ProcessesBody old file offset round header body r new file' =
     (buffer : Vec ℕ Global) → buffer.items ≡ body → ProcessesRecord memory_state (with_buffer old buffer) file offset round header r (with_buffer new buffer) file'
 
 -- A streaming iterator over the same bytes returns the same record, and its buffer then contains the body.
-pub record RecordTaken (old : MemoryIter) (file : PerfFile) (found : RecordInfo) (body : List ℕ) (new : MemoryIter) (file' : PerfFile) : Type 0 where
+pub record RecordTaken (old : MemoryIter) (file : PerfFile) (found : IdentifiedRecord) (body : List ℕ) (new : MemoryIter) (file' : PerfFile) : Type 0 where
   pub buffer : Vec ℕ Global
   pub returns : ReturnsRecord memory_state old file (record_view_with new.attribute_lookup found new.endian body) (with_buffer new buffer) file'
 
 -- The next record is taken, and no `PerfFile` is changed; or nothing is taken.
-abbrev pub TakesFileRecord : MemoryIter → Option (RecordInfo × Bor (List ℕ)) → MemoryIter → Type 0
+abbrev pub TakesFileRecord : MemoryIter → Option (IdentifiedRecord × Bor (List ℕ)) → MemoryIter → Type 0
 TakesFileRecord old None new = new ≡ old
 TakesFileRecord old (Some r) new = (file : PerfFile) → RecordTaken old file r.0 r.1.now new file
 
-abbrev pub TakesRecord : MemoryIter → PerfFile → Result (Option (RecordInfo × Bor (List ℕ))) Error → MemoryIter → PerfFile → Type 0
+abbrev pub TakesRecord : MemoryIter → PerfFile → Result (Option (IdentifiedRecord × Bor (List ℕ))) Error → MemoryIter → PerfFile → Type 0
 TakesRecord old file (Ok (Some r)) new file' = RecordTaken old file r.0 r.1.now new file'
 TakesRecord old file (Ok None) new file' = ReturnsEnd memory_state old file new file'
 TakesRecord old file (Err e) new file' = ReturnsError memory_state old file e new file' × (e ≡ Memory → ConsumesMetadata memory_state old new)

@@ -1,6 +1,6 @@
 -- Taking a whole raw record at once.
 use Rattle.std.specs.Prelude.{◌≡◌, Option, None, Some, Ok}
-use Rattle.linux_perf_data.specs.declared.in_memory.iter.RawRecord.{RawRecord}
+use Rattle.linux_perf_data.specs.declared.in_memory.raw_record.RawRecord.{RawRecord}
 use Rattle.linux_perf_data.specs.InMemory.{MemoryIter, TakesRawRecord}
 
 -- A raw record is taken, or nothing is.

@@ -11,7 +11,7 @@ use Rattle.perfdata_sections.specs.EventDesc.{IsEventDescError}
 use Rattle.perfdata_sections.specs.RecordTypes.{header_attr}
 use Rattle.linux_perf_data.specs.declared.records.iter.PerfRecordIter.{PerfRecordIter}
 use Rattle.linux_perf_data.specs.declared.records.iter.RecordPlace.{RecordPlace}
-use Rattle.linux_perf_data.specs.declared.records.iter.RecordInfo.{RecordInfo}
+use Rattle.linux_perf_data.specs.declared.records.iter.IdentifiedRecord.{IdentifiedRecord}
 use Rattle.linux_perf_data.specs.declared.records.iter.Stage.TheVariants.{Running, Failed, Ended}
 use Rattle.linux_perf_data.specs.declared.perf_file.PerfFile.{PerfFile}
 use Rattle.linux_perf_data.specs.Attribute.{Attribute, HoldsAttribute}
@@ -196,7 +196,7 @@ module _ {R : Type 0} (state : R → State) where
     pub if_running : old.stage ≡ Running → StopsAtError old file e new
     pub same_file : SamePerfFile file file'
 
-  abbrev pub Advances : PerfRecordIter R → PerfFile → Result (Option RecordInfo) Error → PerfRecordIter R → PerfFile → Type 0
+  abbrev pub Advances : PerfRecordIter R → PerfFile → Result (Option IdentifiedRecord) Error → PerfRecordIter R → PerfFile → Type 0
   Advances old file (Ok (Some f)) new file' = ReturnsRecord old file (record_view_with new.attribute_lookup f new.endian new.body.items) new file'
   Advances old file (Ok None) new file' = ReturnsEnd old file new file'
   Advances old file (Err e) new file' = ReturnsError old file e new file'

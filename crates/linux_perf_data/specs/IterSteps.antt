@@ -6,7 +6,7 @@ use Rattle.perfdata_sections.specs.declared.error.Error.{Error}
 use Rattle.perfdata_sections.specs.declared.error.Error.TheVariants as error
 use Rattle.perfdata_sections.specs.RecordTypes.{header_attr, finished_round, header_feature}
 use Rattle.linux_perf_data.specs.declared.records.iter.PerfRecordIter.{PerfRecordIter}
-use Rattle.linux_perf_data.specs.declared.records.iter.RecordInfo.{RecordInfo}
+use Rattle.linux_perf_data.specs.declared.records.iter.IdentifiedRecord.{IdentifiedRecord}
 use Rattle.linux_perf_data.specs.declared.perf_file.PerfFile.{PerfFile}
 use Rattle.linux_perf_data.specs.Attribute.{Attribute, HoldsAttribute}
 use Rattle.linux_perf_data.specs.Input.{HasNoPendingHeader}
@@ -75,7 +75,7 @@ module _ {R : Type 0} (state : R → State) where
     pub input : new.input ≡ piece.input
 
   -- The record in the body buffer was identified, and its metadata was applied.
-  pub record RecordProcessed (old : PerfRecordIter R) (file : PerfFile) (offset round : ℕ) (header : PerfEventHeader) (found : RecordInfo) (new : PerfRecordIter R) (file' : PerfFile) : Type 0 where
+  pub record RecordProcessed (old : PerfRecordIter R) (file : PerfFile) (offset round : ℕ) (header : PerfEventHeader) (found : IdentifiedRecord) (new : PerfRecordIter R) (file' : PerfFile) : Type 0 where
     pub same_but_lookup : SameButLookup old new
     pub stage : new.stage ≡ old.stage
     pub record_identified : IdentifiesRecord old.attribute_lookup offset round header old.body.items found new.attribute_lookup
@@ -96,6 +96,6 @@ module _ {R : Type 0} (state : R → State) where
     pub if_out_of_memory : e ≡ error.Memory → SameAttributeCount old.endian old.attribute_lookup file × HasValidMetadata old.endian header.type_ old.body.items
     pub cause : e ≢ error.Memory → RejectsMetadata old.endian old.attribute_lookup file header.type_ old.body.items e
 
-  abbrev pub ProcessesRecord : PerfRecordIter R → PerfFile → ℕ → ℕ → PerfEventHeader → Result RecordInfo Error → PerfRecordIter R → PerfFile → Type 0
+  abbrev pub ProcessesRecord : PerfRecordIter R → PerfFile → ℕ → ℕ → PerfEventHeader → Result IdentifiedRecord Error → PerfRecordIter R → PerfFile → Type 0
   ProcessesRecord old file offset round header (Ok found) new file' = RecordProcessed old file offset round header found new file'
   ProcessesRecord old file offset round header (Err e) new file' = RecordRejected old file header e new file'

@@ -20,9 +20,9 @@ use Rattle.linux_perf_data.specs.Renames.{AreRenamesFor, Rename}
 use Rattle.linux_perf_data.specs.Names.{IsReadableOrAbsent, NamedByEventDesc, feature_in_body, name_bytes_of}
 use Rattle.linux_perf_data.specs.Consistency.{error_of_inconsistency}
 use Rattle.linux_perf_data.specs.PerfFile.{descriptions_of_file, features_of_file, endian_of_file, feature_data_in_file, attributes_of_file}
-use Rattle.linux_perf_data.specs.declared.pipe.late_metadata.LateNames.{LateNames}
-use Rattle.linux_perf_data.specs.declared.pipe.late_metadata.LateNames.TheVariants.{Single, All}
-use Rattle.linux_perf_data.specs.declared.attributes.name_table.NameTable.{NameTable}
+use Rattle.linux_perf_data.specs.declared.perf_file.late_attribute.LateNames.{LateNames}
+use Rattle.linux_perf_data.specs.declared.perf_file.late_attribute.LateNames.TheVariants.{Single, All}
+use Rattle.linux_perf_data.specs.declared.attributes.names.NameTable.{NameTable}
 use Rattle.linux_perf_data.specs.declared.perf_file.PerfFile.{PerfFile}
 
 -- The two are equal except for the attributes.

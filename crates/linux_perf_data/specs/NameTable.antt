@@ -10,7 +10,7 @@ use Rattle.perfdata_sections.specs.declared.error.Error.TheVariants.{Memory}
 use Rattle.perfdata_sections.specs.declared.feature_sections.AttributeDescription.{AttributeDescription}
 use Rattle.linux_perf_data.specs.Descriptions.{described_attributes}
 use Rattle.linux_perf_data.specs.Names.{NamedByEventDesc, NamedBy, IsReadableEventDesc, name_by_first_id, name_bytes_of}
-use Rattle.linux_perf_data.specs.declared.attributes.name_table.NameTable.{NameTable}
+use Rattle.linux_perf_data.specs.declared.attributes.names.NameTable.{NameTable}
 
 -- The name that a table gives an attribute with these ids, and the names that it gives attributes.
 abbrev pub name_from_table : NameTable → List ℕ → Option (List ℕ)

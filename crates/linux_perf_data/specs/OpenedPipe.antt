@@ -10,7 +10,7 @@ use Rattle.linux_perf_data.specs.declared.records.iter.PerfRecordIter.{PerfRecor
 use Rattle.linux_perf_data.specs.declared.records.iter.Stage.TheVariants.{Running, Ended}
 use Rattle.linux_perf_data.specs.declared.perf_file.PerfFile.{PerfFile}
 use Rattle.linux_perf_data.specs.declared.records.input.Input.TheVariants.{Pipe}
-use Rattle.linux_perf_data.specs.declared.pipe.pipe_opening.PipeOpening.{PipeOpening}
+use Rattle.linux_perf_data.specs.declared.pipe.opening.PipeOpening.{PipeOpening}
 use Rattle.linux_perf_data.specs.Descriptions.{described_attributes}
 use Rattle.linux_perf_data.specs.FeatureData.{feature_data_of}
 use Rattle.linux_perf_data.specs.AttributeLookup.{Represents}

@@ -3,7 +3,7 @@ use Rattle.std.specs.Prelude.{◌≡◌, ◌+◌, ◌≤◌, Bool, true, false, 
 use Rattle.perfdata_base.specs.Source.{State}
 use Rattle.linux_perf_data.specs.declared.pipe.opening.NextInOpening.{NextInOpening}
 use Rattle.linux_perf_data.specs.declared.pipe.opening.NextInOpening.TheVariants.{Record, End}
-use Rattle.linux_perf_data.specs.declared.pipe.pipe_opening.PipeOpening.{PipeOpening}
+use Rattle.linux_perf_data.specs.declared.pipe.opening.PipeOpening.{PipeOpening}
 
 abbrev pub NoPause : State → State → Type 0
 NoPause old new = new.pauses ≡ old.pauses

@@ -22,7 +22,7 @@ use Rattle.linux_perf_data.specs.Names.{NamedByEventDesc, IsReadableEventDesc}
 use Rattle.perfdata_base.specs.Header.{magic_of}
 use Rattle.linux_perf_data.specs.Consistency.{error_of_inconsistency}
 use Rattle.linux_perf_data.specs.FeatureData.{feature_data_of}
-use Rattle.linux_perf_data.specs.declared.pipe.pipe_opening.PipeOpening.{PipeOpening}
+use Rattle.linux_perf_data.specs.declared.pipe.opening.PipeOpening.{PipeOpening}
 
 module _ (order : Endianness) where
   -- ---- the bytes of an opening

@@ -8,9 +8,9 @@ use Rattle.perfdata_records.specs.declared.record.PerfFileRecord.{PerfFileRecord
 use Rattle.perfdata_records.specs.declared.record.PerfFileRecord.TheVariants.{EventRecord, UserRecord}
 use Rattle.perfdata_records.specs.UserRecordType.{user_type_number}
 use Rattle.linux_perf_data.specs.declared.records.iter.RecordPlace.{RecordPlace}
-use Rattle.linux_perf_data.specs.declared.records.iter.RecordInfo.{RecordInfo}
-use Rattle.linux_perf_data.specs.declared.records.iter.Writer.{Writer}
-use Rattle.linux_perf_data.specs.declared.records.iter.Writer.TheVariants.{Kernel, User}
+use Rattle.linux_perf_data.specs.declared.records.iter.IdentifiedRecord.{IdentifiedRecord}
+use Rattle.linux_perf_data.specs.declared.records.iter.RecordOrigin.{RecordOrigin}
+use Rattle.linux_perf_data.specs.declared.records.iter.RecordOrigin.TheVariants.{Kernel, User}
 use Rattle.linux_perf_data.specs.declared.attributes.lookup.AttributeLookup.{AttributeLookup}
 use Rattle.linux_perf_data.specs.Attribute.{Attribute, EventRef}
 use Rattle.linux_perf_data.specs.AttributeLookup.{Represents, parse_info_at}
@@ -40,44 +40,44 @@ record_view_of p (UserRecord r) = record {
 }
 
 -- The attribute index of a record; 0 if a tool wrote it.
-abbrev pub attr_index_by_writer : Writer → ℕ
-attr_index_by_writer (Kernel index) = index
-attr_index_by_writer (User t) = 0
+abbrev pub attr_index_by_origin : RecordOrigin → ℕ
+attr_index_by_origin (Kernel index) = index
+attr_index_by_origin (User t) = 0
 
-abbrev pub event_by_writer : RecordParseInfo → Writer → Option EventRef
-event_by_writer places (Kernel index) = Some (record { index = index; parse_info = places })
-event_by_writer places (User t) = None
+abbrev pub event_by_origin : RecordParseInfo → RecordOrigin → Option EventRef
+event_by_origin places (Kernel index) = Some (record { index = index; parse_info = places })
+event_by_origin places (User t) = None
 
-abbrev pub record_type_by_writer : Writer → ℕ → ℕ
-record_type_by_writer (Kernel index) kind = kind
-record_type_by_writer (User t) kind = user_type_number t
+abbrev pub record_type_by_origin : RecordOrigin → ℕ → ℕ
+record_type_by_origin (Kernel index) kind = kind
+record_type_by_origin (User t) kind = user_type_number t
 
-abbrev pub endian_by_writer : RecordParseInfo → Writer → Endianness → Endianness
-endian_by_writer places (Kernel index) order = places.endian
-endian_by_writer places (User t) order = order
+abbrev pub endian_by_origin : RecordParseInfo → RecordOrigin → Endianness → Endianness
+endian_by_origin places (Kernel index) order = places.endian
+endian_by_origin places (User t) order = order
 
 -- The view of an identified record, with the parse info of its attribute, the byte order of the input and the buffered body.
-abbrev pub record_view_at : RecordParseInfo → RecordInfo → Endianness → List ℕ → RecordView
+abbrev pub record_view_at : RecordParseInfo → IdentifiedRecord → Endianness → List ℕ → RecordView
 record_view_at places f order body = record {
   offset = f.place.offset;
   round = f.place.round;
-  record_type = record_type_by_writer f.writer f.record_type.0;
+  record_type = record_type_by_origin f.origin f.record_type.0;
   misc = f.misc;
-  endian = endian_by_writer places f.writer order;
+  endian = endian_by_origin places f.origin order;
   body = body;
-  event = event_by_writer places f.writer;
+  event = event_by_origin places f.origin;
   timestamp = f.place.timestamp;
 }
 
 -- The same, with the parse info from the attribute lookup.
-abbrev pub record_view_with : AttributeLookup → RecordInfo → Endianness → List ℕ → RecordView
-record_view_with lookup f order body = record_view_at (parse_info_at lookup (attr_index_by_writer f.writer)) f order body
+abbrev pub record_view_with : AttributeLookup → IdentifiedRecord → Endianness → List ℕ → RecordView
+record_view_with lookup f order body = record_view_at (parse_info_at lookup (attr_index_by_origin f.origin)) f order body
 
 -- The record with this header, which isn't a marker's, is identified as the represented attributes require. The view uses the
 -- parse infos of the new lookup.
-pub record IdentifiesRecord (old : AttributeLookup) (offset round : ℕ) (header : PerfEventHeader) (body : List ℕ) (found : RecordInfo) (new : AttributeLookup) : Type 0 where
+pub record IdentifiesRecord (old : AttributeLookup) (offset round : ℕ) (header : PerfEventHeader) (body : List ℕ) (found : IdentifiedRecord) (new : AttributeLookup) : Type 0 where
   pub offset_matches : found.place.offset ≡ offset
   pub round_matches : found.place.round ≡ round
-  pub record_type : record_type_by_writer found.writer found.record_type.0 ≡ header.type_
-  pub kernel_type : (index : ℕ) → found.writer ≡ Kernel index → header.type_ < 64
+  pub record_type : record_type_by_origin found.origin found.record_type.0 ≡ header.type_
+  pub kernel_type : (index : ℕ) → found.origin ≡ Kernel index → header.type_ < 64
   pub matches : (order : Endianness) (attrs : List Attribute) → Represents order old attrs → record_view_with new found order body ≡ record_view order offset round attrs header.type_ header.misc body

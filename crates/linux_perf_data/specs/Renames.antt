@@ -9,7 +9,7 @@ use Rattle.perfdata_sections.specs.declared.feature_sections.AttributeDescriptio
 use Rattle.linux_perf_data.specs.FirstIdIndex.{has_first_id, id_lists_of}
 use Rattle.linux_perf_data.specs.NameTable.{name_from_table}
 use Rattle.linux_perf_data.specs.Names.{names_in}
-use Rattle.linux_perf_data.specs.declared.attributes.name_table.NameTable.{NameTable}
+use Rattle.linux_perf_data.specs.declared.attributes.names.NameTable.{NameTable}
 
 -- The ids and the name of the attribute at an index.
 abbrev pub ids_at : List AttributeDescription → ℕ → List ℕ

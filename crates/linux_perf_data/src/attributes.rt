@@ -3,6 +3,5 @@ pub(crate) mod consistency;
 pub(crate) mod first_id_index;
 pub(crate) mod id_table;
 pub(crate) mod lookup;
-pub(crate) mod name_table;
 pub(crate) mod names;
 pub(crate) mod renames;

@@ -45,7 +45,7 @@ pub(crate) mod framing;
 pub(crate) mod iter;
 pub mod laws;
 pub mod position;
-pub(crate) mod whole_record;
+pub(crate) mod raw_record;
 
 /// Returns the records of an input in memory one by one, in the order of the input.
 ///
@@ -99,14 +99,17 @@ impl<'a> InMemoryRecords<'a> {
         // For the prover: a slice is shorter than 2^63 bytes.
         let _size = self.input.len();
         match take_record(&mut self.records, perf_file)? {
-            Some((info, body)) => {
+            Some((identified, body)) => {
                 let endian = self.records.endian;
                 let parse_info = *self
                     .records
                     .attribute_lookup
-                    .parse_info_of(info.attr_index());
+                    .parse_info_of(identified.attr_index());
                 let body = RawData::Single(body);
-                Ok(Some((info.place, info.into_record(parse_info, endian, body))))
+                Ok(Some((
+                    identified.place,
+                    identified.into_record(parse_info, endian, body),
+                )))
             }
             None => Ok(None),
         }

@@ -38,6 +38,7 @@ pub mod in_memory;
 pub mod input_kind;
 pub mod jitdump;
 pub mod laws;
+mod metadata_records;
 pub mod perf_file;
 mod pipe;
 mod records;

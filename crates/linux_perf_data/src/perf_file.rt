@@ -19,11 +19,12 @@ ghost use Rattle.linux_perf_data.specs.Values.{ParsesClockData, ParsesPmuMapping
 ghost use Rattle.linux_perf_data.specs.BuildIds.{AnswersBuildIds};
 
 mod build_ids;
-mod parse;
+mod late_attribute;
+mod late_feature;
+pub(crate) mod parse;
 
 use crate::attributes::first_id_index::FirstIdIndex;
-use crate::attributes::name_table::NameTable;
-use crate::file::opening::feature_bytes;
+use crate::attributes::names::NameTable;
 use indexmap::IndexMap;
 use perfdata_base::features::{Feature, FeatureSet};
 use perfdata_base::raw::Endianness;
@@ -92,7 +93,7 @@ impl PerfFile {
     pub fn feature_section_data(&self, feature: Feature) -> Option<&[u8]>
         ensures { option_map (λ s. s.now) result ≡ feature_data_in_file self.now feature.0 }
     {
-        feature_bytes(&self.sections, feature)
+        parse::feature_bytes(&self.sections, feature)
     }
 
     /// Returns whether `perf stat` wrote the file, which is whether the file has the feature STAT.

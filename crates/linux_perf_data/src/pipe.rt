@@ -1,4 +1,2 @@
-//! Opening a pipe, and late metadata, which appears mid-stream.
-pub(crate) mod late_metadata;
+//! Opening a pipe.
 pub(crate) mod opening;
-pub(crate) mod pipe_opening;

@@ -11,8 +11,8 @@ use Rattle.std.proofs.lemmas.List.Sorted.{All-permutation, IsPermutation-refl, s
 use Rattle.perfdata_order.specs.declared.bodies.HeldBody.{HeldBody}
 use Rattle.perfdata_order.specs.declared.bodies.Bodies.{Bodies}
 use Rattle.perfdata_order.specs.declared.parse_infos.ParseInfos.{ParseInfos}
-use Rattle.perfdata_order.specs.declared.held_record.HeldWriter.{HeldWriter}
-use Rattle.perfdata_order.specs.declared.held_record.HeldWriter.TheVariants as held_writer
+use Rattle.perfdata_order.specs.declared.held_record.HeldFormat.{HeldFormat}
+use Rattle.perfdata_order.specs.declared.held_record.HeldFormat.TheVariants as held_format
 use Rattle.perfdata_order.specs.declared.held_record.HeldRecord.{HeldRecord}
 use Rattle.perfdata_order.specs.declared.sorter.Sorter.{Sorter}
 use Rattle.perfdata_order.specs.Bodies.{bytes_at, held_at, block_count, EachIsHeld, AddsBlockIfFull, KeepsBodies, IsPrefix, BodyAppended, ReleasesBody}
@@ -124,9 +124,9 @@ half_slots s t (Err e) same = same.slots.kept
 both : {X : Type 0} (P Q S : X → Type 0) → ((x : X) → P x → Q x → S x) → (xs : List X) → All P xs → All Q xs → All S xs
 both P Q S f xs p q = λ k d below. f (get_or xs k d) (p k d below) (q k d below)
 
-known_kept : (old new : ParseInfos) → KeepsFound old new → (writer : HeldWriter) → IsKnown old writer → IsKnown new writer
-known_kept old new kept (held_writer.Kernel index kind at known) is = kept at known.value is
-known_kept old new kept (held_writer.Tool kind order) is = refl
+known_kept : (old new : ParseInfos) → KeepsFound old new → (format : HeldFormat) → IsKnown old format → IsKnown new format
+known_kept old new kept (held_format.Kernel index kind at known) is = kept at known.value is
+known_kept old new kept (held_format.Tool kind order) is = refl
 
 prefix_body : (xs ys : List ℕ) (start at_end : ℕ) → IsPrefix xs ys → at_end ≤ length xs → drop start (take at_end ys) ≡ drop start (take at_end xs)
 prefix_body xs ys start at_end (more, is) below = ap (λ zs. drop start (take at_end zs)) is ∙ ap (λ zs. drop start zs) (take-append-le at_end xs more below)
@@ -137,7 +137,7 @@ prefix_below xs ys n (more, is) below = subst (λ zs. n ≤ length zs) (sym is) 
 stored_on : (old new : Bodies) (infos infos' : ParseInfos) (held : HeldRecord) → IsPrefix (bytes_at old held.body.range.block) (bytes_at new held.body.range.block) → KeepsFound infos infos' → IsStored old infos held → IsStored new infos' held
 stored_on old new infos infos' held more kept (is, (below, known)) = (
   prefix_body (bytes_at old held.body.range.block) (bytes_at new held.body.range.block) held.body.range.start held.body.range.end more below ∙ is,
-  (prefix_below (bytes_at old held.body.range.block) (bytes_at new held.body.range.block) held.body.range.end more below, known_kept infos infos' kept held.writer known),
+  (prefix_below (bytes_at old held.body.range.block) (bytes_at new held.body.range.block) held.body.range.end more below, known_kept infos infos' kept held.format known),
 )
 
 same_prefix : (xs ys : List ℕ) → ys ≡ xs → IsPrefix xs ys

@@ -9,7 +9,7 @@ use Rattle.linux_perf_data.specs.declared.records.iter.PerfRecordIter.{PerfRecor
 use Rattle.linux_perf_data.specs.declared.perf_file.PerfFile.{PerfFile}
 use Rattle.linux_perf_data.specs.Iter.{ReturnsRecord}
 use Rattle.linux_perf_data.specs.Layout.{RecordView}
-use Rattle.perfdata_order.specs.declared.held_record.RecordInfo.{RecordInfo}
+use Rattle.perfdata_order.specs.declared.held_record.RecordEnvelope.{RecordEnvelope}
 use Rattle.perfdata_order.specs.declared.held_record.HeldRecord.{HeldRecord}
 use Rattle.perfdata_order.specs.declared.sorter.Sorter.{Sorter}
 use Rattle.perfdata_order.specs.declared.held_records.HeldRecords.{HeldRecords}
@@ -72,7 +72,7 @@ unplaced_body failed = []
 
 pub body_read : (p : Pending) (body : List ℕ) (key : Option ℕ) (h : RecordView) → unplaced_by p body ≡ waiting key h → body ≡ h.body
 body_read variant.Nothing body key h is = cc
-body_read (variant.Record key' info) body key h is = ap unplaced_body is
+body_read (variant.Record key' envelope) body key h is = ap unplaced_body is
 body_read variant.End body key h is = cc
 body_read (variant.Failure e) body key h is = cc
 body_read variant.Failed body key h is = cc
@@ -292,13 +292,13 @@ module _ {R : Type 0} (state : R → State) where
 
   -- ---- what placing leaves
 
-  pub record_placed : (a b c : OrderedRecords R) (key : ℕ) (info : RecordInfo) (held : HeldRecord) → unplaced_of a ≡ waiting (Some key) (view_with info a.body.items) → IsAdmitted state a (view_with info a.body.items) b
-      → held_view held ≡ view_with info b.body.items → Inserted nat_cmp b.held.sorter key held c.held.sorter
+  pub record_placed : (a b c : OrderedRecords R) (key : ℕ) (envelope : RecordEnvelope) (held : HeldRecord) → unplaced_of a ≡ waiting (Some key) (view_with envelope a.body.items) → IsAdmitted state a (view_with envelope a.body.items) b
+      → held_view held ≡ view_with envelope b.body.items → Inserted nat_cmp b.held.sorter key held c.held.sorter
       → unplaced_of c ≡ nothing → c.records ≡ b.records → c.round ≡ b.round → budget_of c ≡ budget_of b → early_of c ≡ early_of b → held_size (held_view held) < 2 ^ 64
       → (held_bytes_of b + held_size (held_view held) < 2 ^ 64 → held_bytes_of c ≡ held_bytes_of b + held_size (held_view held)) → Places state a c × AfterPlacing state (unplaced_of a) c × (c.records ≡ a.records)
-  record_placed a b c key info held was placed copied inserted none same_records same_round budget early size_fits bytes =
+  record_placed a b c key envelope held was placed copied inserted none same_records same_round budget early size_fits bytes =
       let now = placed.pending ∙ was in
-      let is = copied ∙ ap (λ body. view_with info body) (body_read b.pending b.body.items (Some key) (view_with info a.body.items) now) in (
+      let is = copied ∙ ap (λ body. view_with envelope body) (body_read b.pending b.body.items (Some key) (view_with envelope a.body.items) now) in (
         places_inserted a b c key held placed.places (record {
           was_pending = now ∙ ap (λ h. waiting (Some key) h) (sym is);
           in_round = subst (λ h. h.round ≤ b.round) (sym is) placed.in_round;

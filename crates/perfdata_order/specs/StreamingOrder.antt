@@ -12,7 +12,7 @@ use Rattle.linux_perf_data.specs.declared.perf_file.PerfFile.{PerfFile}
 use Rattle.linux_perf_data.specs.Iter.{ReturnsRecord, ReturnsEnd, ReturnsError}
 use Rattle.linux_perf_data.specs.Layout.{RecordView}
 use Rattle.linux_perf_data.specs.RecordViews.{record_view_of}
-use Rattle.perfdata_order.specs.declared.held_record.RecordInfo.{RecordInfo}
+use Rattle.perfdata_order.specs.declared.held_record.RecordEnvelope.{RecordEnvelope}
 use Rattle.perfdata_order.specs.declared.held_record.HeldRecord.{HeldRecord}
 use Rattle.perfdata_order.specs.declared.streaming.Pending.{Pending}
 use Rattle.perfdata_order.specs.declared.streaming.Pending.TheVariants as variant
@@ -37,7 +37,7 @@ pub data Unplaced : Type 0 where
 
 abbrev pub unplaced_by : Pending → List ℕ → Unplaced
 unplaced_by variant.Nothing body = nothing
-unplaced_by (variant.Record key info) body = waiting key (view_with info body)
+unplaced_by (variant.Record key envelope) body = waiting key (view_with envelope body)
 unplaced_by variant.End body = ending
 unplaced_by (variant.Failure e) body = failing e
 unplaced_by variant.Failed body = failed
@@ -283,17 +283,17 @@ module _ {R : Type 0} where
     pub none_available : available_of s.held.sorter ≡ []
 
   -- The order in which this record is pending, after it was read.
-  abbrev pub with_pending : OrderedRecords R → Option ℕ → RecordInfo → OrderedRecords R
-  with_pending s key info = record s { pending = variant.Record key info }
+  abbrev pub with_pending : OrderedRecords R → Option ℕ → RecordEnvelope → OrderedRecords R
+  with_pending s key envelope = record s { pending = variant.Record key envelope }
 
   -- The record that was read is in the sorter, or still pending.
-  abbrev pub HoldsRecord : OrderedRecords R → ℕ → RecordInfo → OrderedRecords R → Type 0
-  HoldsRecord old key info new = ((held : HeldRecord) × InsertsPending (with_pending old (Some key) info) key held new) ⊎ KeepsSorter (with_pending old (Some key) info) new
+  abbrev pub HoldsRecord : OrderedRecords R → ℕ → RecordEnvelope → OrderedRecords R → Type 0
+  HoldsRecord old key envelope new = ((held : HeldRecord) × InsertsPending (with_pending old (Some key) envelope) key held new) ⊎ KeepsSorter (with_pending old (Some key) envelope) new
 
   -- The record without a time was taken, if one is pending.
-  abbrev pub TakesUntimed : OrderedRecords R → Option RecordInfo → OrderedRecords R → Type 0
+  abbrev pub TakesUntimed : OrderedRecords R → Option RecordEnvelope → OrderedRecords R → Type 0
   TakesUntimed old None new = (new ≡ old) × HasNoUntimed (unplaced_of old)
-  TakesUntimed old (Some info) new = (unplaced_of old ≡ waiting None (view_with info new.body.items)) × (unplaced_of new ≡ nothing) × (new.records ≡ old.records) × SameOrder old new
+  TakesUntimed old (Some envelope) new = (unplaced_of old ≡ waiting None (view_with envelope new.body.items)) × (unplaced_of new ≡ nothing) × (new.records ≡ old.records) × SameOrder old new
 
   -- The end or the error was taken, if one is pending. After an error, each call fails.
   abbrev pub TakesEnd : OrderedRecords R → Option (Result (Unit {0}) Error) → OrderedRecords R → Type 0
@@ -308,9 +308,9 @@ module _ {R : Type 0} where
   body_in Sorted s = body_of s.held s.returned
 
   -- The next available record was taken from the sorter. Its body is in a buffer.
-  abbrev pub TakesSorted : OrderedRecords R → Option RecordInfo → OrderedRecords R → Type 0
+  abbrev pub TakesSorted : OrderedRecords R → Option RecordEnvelope → OrderedRecords R → Type 0
   TakesSorted old None new = (available_of old.held.sorter ≡ []) × KeepsSorter old new
-  TakesSorted old (Some info) new = (key : ℕ) × ((held : HeldRecord) × ReturnsSorted old key held new × (view_with info (body_in Sorted new) ≡ held_view held))
+  TakesSorted old (Some envelope) new = (key : ℕ) × ((held : HeldRecord) × ReturnsSorted old key held new × (view_with envelope (body_in Sorted new) ≡ held_view held))
 
   module _ (state : R → State) where
     -- A body of more than 65,536 bytes was read, and memory ran out for its copy: `copy` is shorter than the body.
@@ -326,8 +326,8 @@ module _ {R : Type 0} where
     FailsToRead old file e copy new file' = ReturnsError state old file e new file' ⊎ CopyFailed old file e copy new file'
 
     -- Reading a record, whose body is then `body`.
-    abbrev pub ReadsRecord : PerfRecordIter R → PerfFile → Result (Option RecordInfo) Error → List ℕ → PerfRecordIter R → PerfFile → Type 0
-    ReadsRecord old file (Ok (Some info)) body new file' = ReturnsRecord state old file (view_with info body) new file'
+    abbrev pub ReadsRecord : PerfRecordIter R → PerfFile → Result (Option RecordEnvelope) Error → List ℕ → PerfRecordIter R → PerfFile → Type 0
+    ReadsRecord old file (Ok (Some envelope)) body new file' = ReturnsRecord state old file (view_with envelope body) new file'
     ReadsRecord old file (Ok None) body new file' = ReturnsEnd state old file new file'
     ReadsRecord old file (Err e) body new file' = FailsToRead old file e body new file'
 
@@ -404,7 +404,7 @@ module _ {R : Type 0} where
     FailsInOrder old file e new file' = ErrorReturned old file e new file' ⊎ (StillFailed old file e new file' ⊎ ((e ≡ error.Memory) × Progress old file new file'))
 
     -- The result of a call whose record has its body in a buffer. If memory runs out for the order, nothing is lost.
-    abbrev pub AdvancesInOrder : OrderedRecords R → PerfFile → Result (Option (RecordInfo × BodyBuffer)) Error → OrderedRecords R → PerfFile → Type 0
+    abbrev pub AdvancesInOrder : OrderedRecords R → PerfFile → Result (Option (RecordEnvelope × BodyBuffer)) Error → OrderedRecords R → PerfFile → Type 0
     AdvancesInOrder old file (Ok (Some found)) new file' = RecordReturned old file (view_with found.0 (body_in found.1 new)) new file'
     AdvancesInOrder old file (Ok None) new file' = EndReturned old file new file'
     AdvancesInOrder old file (Err e) new file' = FailsInOrder old file e new file'

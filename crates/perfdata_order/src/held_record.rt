@@ -13,38 +13,38 @@ use linux_perf_data::{Endianness, PerfFileRecord, RawUserRecord, RecordPlace, Us
 use std::alloc::AllocError;
 use std::snapshot::Snapshot;
 
-// The writer of a record: the kernel, for the attribute with this index, or a tool.
+// How the body of a record is parsed: as one of the kernel, for the attribute with this index, or of a tool.
 #[derive(Clone, Copy)]
-pub(crate) enum Writer {
+pub(crate) enum BodyFormat {
     Kernel(usize, RecordType, RecordParseInfo),
     Tool(UserRecordType, Endianness),
 }
 
-// A record without its body.
+// What a record has beside its body.
 #[derive(Clone, Copy)]
-pub(crate) struct RecordInfo {
+pub(crate) struct RecordEnvelope {
     pub(crate) place: RecordPlace,
     pub(crate) misc: u16,
-    pub(crate) writer: Writer,
+    pub(crate) format: BodyFormat,
 }
 
-impl RecordInfo {
+impl RecordEnvelope {
     ghost use Rattle.perfdata_order.specs.HeldRecord.{view_with};
 
-    pub(crate) fn of(place: RecordPlace, record: &PerfFileRecord<'_>) -> RecordInfo
+    pub(crate) fn of(place: RecordPlace, record: &PerfFileRecord<'_>) -> RecordEnvelope
         ensures { view_with result (bytes_of (file_record_body «record».now))
             ≡ record_view_of place «record».now }
     {
         match record {
-            PerfFileRecord::EventRecord { attr_index, event } => RecordInfo {
+            PerfFileRecord::EventRecord { attr_index, event } => RecordEnvelope {
                 place,
                 misc: event.misc,
-                writer: Writer::Kernel(*attr_index, event.record_type, event.parse_info),
+                format: BodyFormat::Kernel(*attr_index, event.record_type, event.parse_info),
             },
-            PerfFileRecord::UserRecord(user) => RecordInfo {
+            PerfFileRecord::UserRecord(user) => RecordEnvelope {
                 place,
                 misc: user.misc,
-                writer: Writer::Tool(user.record_type, user.endian),
+                format: BodyFormat::Tool(user.record_type, user.endian),
             },
         }
     }
@@ -52,8 +52,8 @@ impl RecordInfo {
     pub(crate) fn with_body<'a>(self, body: &'a [u8]) -> PerfFileRecord<'a>
         ensures { record_view_of self.place result ≡ view_with self body.now }
     {
-        match self.writer {
-            Writer::Kernel(attr_index, record_type, parse_info) => PerfFileRecord::EventRecord {
+        match self.format {
+            BodyFormat::Kernel(attr_index, record_type, parse_info) => PerfFileRecord::EventRecord {
                 attr_index,
                 event: RawEventRecord {
                     record_type,
@@ -62,7 +62,7 @@ impl RecordInfo {
                     parse_info,
                 },
             },
-            Writer::Tool(record_type, endian) => PerfFileRecord::UserRecord(RawUserRecord {
+            BodyFormat::Tool(record_type, endian) => PerfFileRecord::UserRecord(RawUserRecord {
                 record_type,
                 endian,
                 misc: self.misc,
@@ -72,26 +72,30 @@ impl RecordInfo {
     }
 }
 
-// The writer of a held record. The parse info has an index in `ParseInfos`; only clauses read the snapshot.
+// The `BodyFormat` of a held record. The parse info has an index in `ParseInfos`; only clauses read the
+// snapshot.
 #[derive(Drop)]
-pub(crate) enum HeldWriter {
+pub(crate) enum HeldFormat {
     Kernel(usize, RecordType, usize, Snapshot<RecordParseInfo>),
     Tool(UserRecordType, Endianness),
 }
 
-impl HeldWriter {
-    ghost use Rattle.perfdata_order.specs.HeldRecord.{HoldsWriter};
+impl HeldFormat {
+    ghost use Rattle.perfdata_order.specs.HeldRecord.{HoldsFormat};
 
     #[inline(always)]
-    pub(crate) fn of(writer: Writer, parse_infos: &mut ParseInfos) -> Result<HeldWriter, AllocError>
-        ensures { HoldsWriter parse_infos.old writer result parse_infos.new }
+    pub(crate) fn of(
+        format: BodyFormat,
+        parse_infos: &mut ParseInfos,
+    ) -> Result<HeldFormat, AllocError>
+        ensures { HoldsFormat parse_infos.old format result parse_infos.new }
     {
-        match writer {
-            Writer::Kernel(attr_index, record_type, parse_info) => {
+        match format {
+            BodyFormat::Kernel(attr_index, record_type, parse_info) => {
                 let index = parse_infos.index_of(attr_index, &parse_info)?;
-                Ok(HeldWriter::Kernel(attr_index, record_type, index, Snapshot::of(&parse_info)))
+                Ok(HeldFormat::Kernel(attr_index, record_type, index, Snapshot::of(&parse_info)))
             }
-            Writer::Tool(record_type, endian) => Ok(HeldWriter::Tool(record_type, endian)),
+            BodyFormat::Tool(record_type, endian) => Ok(HeldFormat::Tool(record_type, endian)),
         }
     }
 }
@@ -101,29 +105,29 @@ impl HeldWriter {
 pub(crate) struct HeldRecord {
     pub(crate) place: RecordPlace,
     pub(crate) misc: u16,
-    pub(crate) writer: HeldWriter,
+    pub(crate) format: HeldFormat,
     pub(crate) body: HeldBody,
 }
 
 impl HeldRecord {
-    ghost use Rattle.perfdata_order.specs.HeldRecord.{info_of, IsKnown};
+    ghost use Rattle.perfdata_order.specs.HeldRecord.{envelope_of, IsKnown};
 
     // The record without its body. Its parse info was found.
-    pub(crate) fn info(&self, parse_infos: &ParseInfos) -> RecordInfo
-        requires { IsKnown parse_infos.now self.now.writer }
-        ensures { result ≡ info_of self.now }
+    pub(crate) fn envelope(&self, parse_infos: &ParseInfos) -> RecordEnvelope
+        requires { IsKnown parse_infos.now self.now.format }
+        ensures { result ≡ envelope_of self.now }
     {
-        let writer = match self.writer {
-            HeldWriter::Kernel(attr_index, record_type, index, _) => match parse_infos.get(index) {
-                Some(parse_info) => Writer::Kernel(attr_index, record_type, parse_info),
+        let format = match self.format {
+            HeldFormat::Kernel(attr_index, record_type, index, _) => match parse_infos.get(index) {
+                Some(parse_info) => BodyFormat::Kernel(attr_index, record_type, parse_info),
                 None => unreachable!(),
             },
-            HeldWriter::Tool(record_type, endian) => Writer::Tool(record_type, endian),
+            HeldFormat::Tool(record_type, endian) => BodyFormat::Tool(record_type, endian),
         };
-        RecordInfo {
+        RecordEnvelope {
             place: self.place,
             misc: self.misc,
-            writer,
+            format,
         }
     }
 }

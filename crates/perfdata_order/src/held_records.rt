@@ -7,7 +7,7 @@ ghost use Rattle.perfdata_order.specs.Bodies.{block_count};
 ghost use Rattle.perfdata_order.specs.HeldRecord.{IsStored, IsCounted};
 
 use crate::bodies::{Bodies, BodyRange};
-use crate::held_record::{HeldRecord, HeldWriter, RecordInfo};
+use crate::held_record::{HeldFormat, HeldRecord, RecordEnvelope};
 use crate::parse_infos::ParseInfos;
 use crate::sorter::Sorter;
 use std::alloc::{AllocError, Global};
@@ -73,13 +73,13 @@ impl HeldRecords {
     pub(crate) fn insert(
         &mut self,
         key: u64,
-        info: RecordInfo,
+        envelope: RecordEnvelope,
         body: &[u8],
     ) -> Result<(), AllocError>
-        ensures { InsertsRecord self.old key info body.now result self.new }
+        ensures { InsertsRecord self.old key envelope body.now result self.new }
     {
-        let writer = match HeldWriter::of(info.writer, &mut self.parse_infos) {
-            Ok(writer) => writer,
+        let format = match HeldFormat::of(envelope.format, &mut self.parse_infos) {
+            Ok(format) => format,
             Err(error) => return Err(error),
         };
         let body = match self.bodies.append(body) {
@@ -88,9 +88,9 @@ impl HeldRecords {
         };
         let block = body.range.block;
         let held = HeldRecord {
-            place: info.place,
-            misc: info.misc,
-            writer,
+            place: envelope.place,
+            misc: envelope.misc,
+            format,
             body,
         };
         match self.sorter.insert_unordered(key, held) {
@@ -104,13 +104,13 @@ impl HeldRecords {
 
     // Takes the next available record. Its body stays in its range until the next call of `insert`.
     #[inline(always)]
-    pub(crate) fn take_next(&mut self) -> Option<(RecordInfo, BodyRange)>
+    pub(crate) fn take_next(&mut self) -> Option<(RecordEnvelope, BodyRange)>
         ensures { TakesRecord self.old result self.new }
     {
         match self.sorter.get_next() {
             Some(held) => {
                 self.bodies.release(held.body.range.block);
-                Some((held.info(&self.parse_infos), held.body.range))
+                Some((held.envelope(&self.parse_infos), held.body.range))
             }
             None => None,
         }

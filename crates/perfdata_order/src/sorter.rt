@@ -48,7 +48,7 @@ impl<K, V> Sorter<K, V> {
         }
     }
 
-    /// Returns whether `get_next` returns a value.
+    /// Returns whether `get_next` returns a value. If so, take it before the next round ends.
     pub fn has_more(&self) -> bool
         ensures { TestsAvailable self.now result }
     {
@@ -174,7 +174,8 @@ impl<K: Ord + Copy, V> Sorter<K, V> {
     /// Makes the first half of the values available, in ascending order of their keys, though their rounds
     /// haven't ended. Of an odd number of values, the half has one more than the rest.
     ///
-    /// A value that is inserted later may have a smaller key than those.
+    /// This limits how many values are held while a round is long. A value that is inserted later may have a
+    /// smaller key than those.
     ///
     /// # Errors
     ///

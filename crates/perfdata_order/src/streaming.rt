@@ -3,7 +3,7 @@ ghost use Rattle.std.specs.Prelude.{◌≡◌, ℕ, ◌+◌, ◌^◌, ◌<◌, �
 ghost use Rattle.perfdata_order.specs.StreamingOrder.{ReadsRecord};
 
 use crate::bodies::BodyRange;
-use crate::held_record::{RecordInfo, copy_body};
+use crate::held_record::{RecordEnvelope, copy_body};
 use crate::held_records::HeldRecords;
 use crate::in_memory::time_key;
 use linux_perf_data::source::Source;
@@ -16,7 +16,7 @@ use std::mem::replace;
 #[derive(Drop)]
 pub(crate) enum Pending {
     Nothing,
-    Record(Option<u64>, RecordInfo),
+    Record(Option<u64>, RecordEnvelope),
     End,
     Failure(Error),
     Failed,
@@ -103,7 +103,8 @@ impl<R> OrderedRecords<R> {
     }
 
     /// Returns the records of `records` in order of time, and holds at most `budget` bytes of them. The order
-    /// allocates with `alloc`. 0 is no budget.
+    /// allocates with `alloc`. 0 is no budget: all records of two rounds are held then, and of a recording
+    /// without round markers all.
     ///
     /// A held record counts as the length of its body and 192 bytes. If the next record would exceed the
     /// budget, the older half of the held records is returned early, though older records may follow. A
@@ -189,13 +190,13 @@ impl<R> OrderedRecords<R> {
     // Inserts the record that was read, whose body is in `self.body`. It is pending if it may not be inserted
     // yet, or if memory runs out. Most records aren't pending: `Pending` is large, and dear to write.
     #[inline(always)]
-    fn hold(&mut self, key: u64, info: RecordInfo)
+    fn hold(&mut self, key: u64, envelope: RecordEnvelope)
         requires { self.old.pending ≡ Nothing }
-        ensures { HoldsRecord self.old key info self.new }
+        ensures { HoldsRecord self.old key envelope self.new }
     {
         let size = held_size(self.body.len());
-        if self.may_insert(info.place.round) {
-            match self.held.insert(key, info, self.body.as_slice()) {
+        if self.may_insert(envelope.place.round) {
+            match self.held.insert(key, envelope, self.body.as_slice()) {
                 Ok(()) => {
                     self.held_bytes = self.held_bytes.saturating_add(size);
                     return;
@@ -203,35 +204,35 @@ impl<R> OrderedRecords<R> {
                 Err(_) => {}
             }
         }
-        self.pending = Pending::Record(Some(key), info);
+        self.pending = Pending::Record(Some(key), envelope);
     }
 
     // Takes the next available record from the sorter. `self.returned` is then its body.
     #[inline(always)]
-    fn take_sorted(&mut self) -> Option<RecordInfo>
+    fn take_sorted(&mut self) -> Option<RecordEnvelope>
         ensures { TakesSorted self.old result self.new }
     {
         match self.held.take_next() {
-            Some((info, range)) => {
+            Some((envelope, range)) => {
                 let size = held_size(self.held.body(range).len());
                 self.returned = range;
                 self.held_bytes = self.held_bytes.saturating_sub(size);
-                Some(info)
+                Some(envelope)
             }
             None => None,
         }
     }
 
     // Takes the pending record, if it has no time. Its body is in `self.body`.
-    fn take_untimed(&mut self) -> Option<RecordInfo>
+    fn take_untimed(&mut self) -> Option<RecordEnvelope>
         ensures { TakesUntimed self.old result self.new }
     {
         match self.pending {
             Pending::Nothing => None,
             Pending::Record(Some(_), _) => None,
-            Pending::Record(None, info) => {
+            Pending::Record(None, envelope) => {
                 self.pending = Pending::Nothing;
-                Some(info)
+                Some(envelope)
             }
             Pending::End => None,
             Pending::Failure(_) => None,
@@ -281,7 +282,7 @@ fn read_record<R: Source>(
     records: &mut PerfRecordIter<R>,
     perf_file: &mut PerfFile,
     body: &mut Vec<u8>,
-) -> Result<Option<RecordInfo>, Error>
+) -> Result<Option<RecordEnvelope>, Error>
     requires empty { body.old.items ≡ [] }
     requires capacity { 65536 ≤ vec_capacity body.old }
     ensures { ReadsRecord R.state records.old perf_file.old result body.new.items records.new perf_file.new }
@@ -289,9 +290,9 @@ fn read_record<R: Source>(
     let Some((place, record)) = records.next_record(perf_file)? else {
         return Ok(None);
     };
-    let info = RecordInfo::of(place, &record);
+    let envelope = RecordEnvelope::of(place, &record);
     copy_body(body, record.body())?;
-    Ok(Some(info))
+    Ok(Some(envelope))
 }
 
 impl<R: Source> OrderedRecords<R> {
@@ -317,13 +318,13 @@ impl<R: Source> OrderedRecords<R> {
         self.body.clear();
         self.body.try_reserve(BODY_CAPACITY)?;
         match read_record(&mut self.records, perf_file, &mut self.body) {
-            Ok(Some(info)) => match time_key(info.place) {
+            Ok(Some(envelope)) => match time_key(envelope.place) {
                 Some(key) => {
-                    self.hold(key, info);
+                    self.hold(key, envelope);
                     Ok(())
                 }
                 None => {
-                    self.pending = Pending::Record(None, info);
+                    self.pending = Pending::Record(None, envelope);
                     Ok(())
                 }
             },
@@ -362,17 +363,17 @@ impl<R: Source> OrderedRecords<R> {
     }
 
     // Inserts the pending timed record into the sorter, if it may be inserted.
-    fn place_record(&mut self, key: u64, info: RecordInfo) -> Result<(), AllocError>
-        requires { self.old.pending ≡ Record (Some key) info }
+    fn place_record(&mut self, key: u64, envelope: RecordEnvelope) -> Result<(), AllocError>
+        requires { self.old.pending ≡ Record (Some key) envelope }
         ensures { PlacesPending R.state self.old result self.new }
     {
         let size = held_size(self.body.len());
-        match self.admit_pending(info.place.round, size) {
+        match self.admit_pending(envelope.place.round, size) {
             Ok(true) => {}
             Ok(false) => return Ok(()),
             Err(error) => return Err(error),
         }
-        match self.held.insert(key, info, self.body.as_slice()) {
+        match self.held.insert(key, envelope, self.body.as_slice()) {
             Ok(()) => {
                 self.pending = Pending::Nothing;
                 self.held_bytes = self.held_bytes.saturating_add(size);
@@ -389,9 +390,9 @@ impl<R: Source> OrderedRecords<R> {
     {
         match self.pending {
             Pending::Nothing => Ok(()),
-            Pending::Record(key, info) => match key {
-                Some(time) => self.place_record(time, info),
-                None => self.end_rounds(info.place.round),
+            Pending::Record(key, envelope) => match key {
+                Some(time) => self.place_record(time, envelope),
+                None => self.end_rounds(envelope.place.round),
             },
             Pending::End => self.held.finish(),
             Pending::Failure(_) => self.held.finish(),
@@ -403,11 +404,11 @@ impl<R: Source> OrderedRecords<R> {
     fn advance(
         &mut self,
         perf_file: &mut PerfFile,
-    ) -> Result<Option<(RecordInfo, BodyBuffer)>, Error>
+    ) -> Result<Option<(RecordEnvelope, BodyBuffer)>, Error>
         ensures { AdvancesInOrder R.state self.old perf_file.old result self.new perf_file.new }
     {
         match self.take_sorted() {
-            Some(info) => return Ok(Some((info, BodyBuffer::Sorted))),
+            Some(envelope) => return Ok(Some((envelope, BodyBuffer::Sorted))),
             None => {}
         }
         'reads: loop {
@@ -420,7 +421,7 @@ impl<R: Source> OrderedRecords<R> {
                 Err(error) => return Err(Error::from(error)),
             }
             match self.take_sorted() {
-                Some(info) => return Ok(Some((info, BodyBuffer::Sorted))),
+                Some(envelope) => return Ok(Some((envelope, BodyBuffer::Sorted))),
                 None => {}
             }
             match self.take_untimed() {
@@ -457,10 +458,10 @@ impl<R: Source> OrderedRecords<R> {
         ensures* after_borrow { sem 𝓛 (Rests (the_row R.row) self.entry
             (λ new. ReturnsInOrder R.state self.old perf_file.old result new perf_file.new)) }
     {
-        let Some((info, buffer)) = self.advance(perf_file)? else {
+        let Some((envelope, buffer)) = self.advance(perf_file)? else {
             return Ok(None);
         };
         let body = self.body_of(buffer);
-        Ok(Some((info.place, info.with_body(body))))
+        Ok(Some((envelope.place, envelope.with_body(body))))
     }
 }

@@ -9,7 +9,7 @@ ghost use Rattle.linux_perf_data.specs.Renames.{AppendsRenames, AreRenamesFor, F
 ghost use Rattle.linux_perf_data.specs.Renames.{IsUnlistedOrKept, KeepsName, TestsSameName};
 
 use crate::attributes::first_id_index::FirstIdIndex;
-use crate::attributes::name_table::NameTable;
+use crate::attributes::names::NameTable;
 use perfdata_sections::error::Error;
 use perfdata_sections::feature_sections::AttributeDescription;
 use std::alloc::Global;

@@ -16,6 +16,7 @@ use crate::attributes::first_id_index::FirstIdIndex;
 use crate::attributes::names::read_event_desc;
 use crate::file::feature_data::{read_features, seek_to_offset};
 use crate::perf_file::PerfFile;
+use crate::perf_file::parse::feature_bytes;
 use byteorder::{BigEndian, LittleEndian};
 use indexmap::IndexMap;
 use perfdata_base::features::Feature;
@@ -42,19 +43,6 @@ pub(crate) fn endian_of_magic(magic: [u8; 8]) -> Result<Endianness, Error>
     match header::endian_of_magic(&magic) {
         Some(endian) => Ok(endian),
         None => Err(Error::UnrecognizedMagicValue(magic)),
-    }
-}
-
-// The bytes of a feature's section, if `sections` contains it.
-pub(crate) fn feature_bytes(
-    sections: &IndexMap<Feature, Vec<u8>>,
-    feature: Feature,
-) -> Option<&[u8]>
-    ensures { option_map (λ s. s.now) result ≡ feature_data_of sections.now feature.0 }
-{
-    match sections.get(&feature) {
-        Some(bytes) => Some(bytes.as_slice()),
-        None => None,
     }
 }
 

@@ -111,14 +111,14 @@ impl<'a> InMemoryRecords<'a> {
     {
         // For the prover: a slice is shorter than 2^63 bytes.
         let _size = self.input.len();
-        let (info, body) = walk.take_ahead_of(&mut self.records, next);
+        let (identified, body) = walk.take_ahead_of(&mut self.records, next);
         let endian = self.records.endian;
         let parse_info = *self
             .records
             .attribute_lookup
-            .parse_info_of(info.attr_index());
-        let record = info.into_record(parse_info, endian, RawData::Single(body));
-        (info.place, record)
+            .parse_info_of(identified.attr_index());
+        let record = identified.into_record(parse_info, endian, RawData::Single(body));
+        (identified.place, record)
     }
 
     // Takes the next record of a walk from these records, and returns its entry. `perf_file` is for the

@@ -12,7 +12,7 @@ use crate::attributes::lookup::AttributeLookup;
 use crate::in_memory::framing::remaining;
 use crate::records::framing::{peek_kernel_record, peek_record};
 use crate::records::input::Input;
-use crate::records::iter::{PerfRecordIter, RecordInfo, Stage};
+use crate::records::iter::{IdentifiedRecord, PerfRecordIter, Stage};
 use perfdata_base::event::PerfEventHeader;
 use perfdata_base::place::RecordParseInfo;
 use perfdata_base::raw::Endianness;
@@ -185,7 +185,7 @@ impl<'a> FileWalk<'a> {
         &mut self,
         lookup: &mut AttributeLookup,
         next: WholeRecord,
-    ) -> (RecordInfo, &'a [u8])
+    ) -> (IdentifiedRecord, &'a [u8])
         requires next { IsNextRecord self.old next }
         requires only { IfSome self.old.only_parse_info (HasOnly lookup.old) }
         ensures walk { MovesPast self.old next self.new }
@@ -200,8 +200,9 @@ impl<'a> FileWalk<'a> {
         self.remaining = &bytes[next.length..];
         let body = &bytes[PerfEventHeader::STRUCT_SIZE..next.length];
         let only = &self.only_parse_info;
-        let info = RecordInfo::identify_with(only, lookup, body, offset, self.round, next.header);
-        (info, body)
+        let (round, header) = (self.round, next.header);
+        let identified = IdentifiedRecord::identify_with(only, lookup, body, offset, round, header);
+        (identified, body)
     }
 
     // Takes the next record, with its body. Of the iterator, nothing changes but its lookup.
@@ -210,7 +211,7 @@ impl<'a> FileWalk<'a> {
         &mut self,
         records: &mut PerfRecordIter<Cursor<&'a [u8]>>,
         next: WholeRecord,
-    ) -> (RecordInfo, &'a [u8])
+    ) -> (IdentifiedRecord, &'a [u8])
         requires next { IsNextRecord self.old next }
         requires only { IfSome self.old.only_parse_info (HasOnly records.old.attribute_lookup) }
         ensures same_but_lookup { records.new ≡ with_lookup records.old records.new.attribute_lookup }
@@ -230,7 +231,7 @@ impl<'a> FileWalk<'a> {
         mut self,
         records: &mut PerfRecordIter<Cursor<&'a [u8]>>,
         next: WholeRecord,
-    ) -> (RecordInfo, &'a [u8])
+    ) -> (IdentifiedRecord, &'a [u8])
         requires walk { IsWalkOf records.old self }
         requires next { IsNextRecord self next }
         ensures { TakesFileRecord records.old (Some result) records.new }

@@ -1,18 +1,35 @@
-//! Parses the bytes of sections, without a source.
+//! The bytes of the sections of features, and their parsers without a source.
 ghost use Rattle.std.specs.Prelude.{◌≡◌, ◌≤◌, length, take, drop};
+ghost use Rattle.std.specs.Option.{option_map};
 ghost use Rattle.perfdata_base.specs.Endian.{number_in};
+ghost use Rattle.linux_perf_data.specs.FeatureData.{feature_data_of};
 ghost use Rattle.linux_perf_data.specs.Values.{ParsesStringSection, ParsesStringList, ParsesU64};
 ghost use Rattle.linux_perf_data.specs.Values.{ParsesNrCpus, ParsesSampleTimes, ParsesCompression};
 ghost use Rattle.linux_perf_data.specs.Values.{ParsesClockData, ParsesPmuMappings, SplitsString};
 
 use byteorder::{BigEndian, LittleEndian};
+use indexmap::IndexMap;
 use perfdata_base::endian::{read_u32, read_u64};
+use perfdata_base::features::Feature;
 use perfdata_base::raw::Endianness;
 use perfdata_sections::error::Error;
 use perfdata_sections::feature_sections::{
     ClockData, CompressionInfo, NrCpus, PmuMappings, SampleTimeRange, before_nul,
 };
 use std::alloc::Global;
+
+// The bytes of a feature's section, if `sections` contains it.
+pub(crate) fn feature_bytes(
+    sections: &IndexMap<Feature, Vec<u8>>,
+    feature: Feature,
+) -> Option<&[u8]>
+    ensures { option_map (λ s. s.now) result ≡ feature_data_of sections.now feature.0 }
+{
+    match sections.get(&feature) {
+        Some(bytes) => Some(bytes.as_slice()),
+        None => None,
+    }
+}
 
 // The text of the string at the start of `bytes`, and the rest after it.
 fn split_string(endian: Endianness, bytes: &[u8]) -> Result<(&str, &[u8]), Error>

@@ -1,47 +1,38 @@
 //! The opening of a pipe: its header, and its metadata records up to the record header that ends them.
-ghost use Rattle.std.specs.Prelude.{◌≡◌, ◌≤◌, []};
-ghost use Rattle.linux_perf_data.specs.LateMetadata.{IsMetadataType};
+ghost use Rattle.std.specs.Prelude.{◌≡◌, ◌≤◌};
 ghost use Rattle.perfdata_base.specs.Source.{PausesOnlyOnError};
 ghost use Rattle.linux_perf_data.specs.Pauses.{PausesOnlyWithoutHeader, PausesOnlyWithoutPendingHeader};
 ghost use Rattle.linux_perf_data.specs.Pauses.{PausesOnlyInEndedOpening};
 ghost use Rattle.linux_perf_data.specs.PipeOpening.{OpensPerfPipe};
-ghost use Rattle.linux_perf_data.specs.PipeSteps.{FinishesOpening, AddsRecord, OpensAfterPipeHeader};
-ghost use Rattle.linux_perf_data.specs.PipeSteps.{ParsesAttribute, ParsesFeature, ReadsMetadata};
-ghost use Rattle.linux_perf_data.specs.PipeSteps.{ReadsMetadataBody, ReadsNext, CollectsMetadata};
-ghost use Rattle.linux_perf_data.specs.PipeSteps.{ReportsContentsError, TestsMetadataType};
-ghost use Rattle.linux_perf_data.specs.PipeSteps.{NamesConsistentAttributes};
+ghost use Rattle.linux_perf_data.specs.PipeSteps.{FinishesOpening, NamesConsistentAttributes};
+ghost use Rattle.linux_perf_data.specs.PipeSteps.{OpensAfterPipeHeader, ReadsMetadata, ReadsMetadataBody};
+ghost use Rattle.linux_perf_data.specs.PipeSteps.{ReadsNext};
 ghost use Rattle.std.specs.Option.{option_map};
 
 use crate::attributes::consistency::check_consistency;
 use crate::attributes::first_id_index::FirstIdIndex;
-use crate::attributes::name_table::NameTable;
-use crate::attributes::names::name_attributes;
-use crate::file::opening::{endian_of_magic, feature_bytes};
+use crate::attributes::names::NameTable;
+use crate::file::opening::endian_of_magic;
+use crate::metadata_records::{PipeMetadata, is_metadata};
 use crate::perf_file::PerfFile;
-use crate::pipe::pipe_opening::PipeOpening;
+use crate::perf_file::parse::feature_bytes;
 use crate::records::framing::{body_size, record_end};
 use crate::records::input::{HeaderBytes, read_header_bytes};
-use byteorder::{BigEndian, LittleEndian};
-use indexmap::IndexMap;
 use perfdata_base::event::PerfEventHeader;
-use perfdata_base::features::{Feature, FeatureSet};
+use perfdata_base::features::Feature;
 use perfdata_base::header::PerfPipeHeader;
-use perfdata_base::raw::{Endianness, RawData};
+use perfdata_base::raw::Endianness;
 use perfdata_base::source::{Source, append_exact};
-use perfdata_records::record::{HeaderAttr, HeaderFeature};
-use perfdata_sections::constants::{PERF_RECORD_HEADER_ATTR, PERF_RECORD_HEADER_FEATURE};
 use perfdata_sections::error::Error;
 use perfdata_sections::feature_sections::AttributeDescription;
 use std::alloc::Global;
-use std::io;
-use std::io::ErrorKind;
 
-// The metadata of the records that were read so far.
+// The metadata of a pipe, whose name table is kept. `pending_header` is the record header that ends the
+// metadata records, or `None` if the pipe ends.
 #[derive(Drop)]
-pub(crate) struct PipeMetadata {
-    features: FeatureSet,
-    sections: IndexMap<Feature, Vec<u8>>,
-    attributes: Vec<AttributeDescription>,
+pub(crate) struct PipeOpening {
+    pub(crate) perf_file: PerfFile,
+    pub(crate) pending_header: Option<HeaderBytes>,
 }
 
 // The next part of a pipe opening: a metadata record, added, with its end offset; or the end of the metadata
@@ -50,12 +41,6 @@ pub(crate) struct PipeMetadata {
 pub(crate) enum NextInOpening {
     Record(u64),
     End(Option<HeaderBytes>),
-}
-
-pub(crate) fn is_metadata(record_type: u32) -> bool
-    ensures { TestsMetadataType record_type result }
-{
-    record_type == PERF_RECORD_HEADER_ATTR || record_type == PERF_RECORD_HEADER_FEATURE
 }
 
 // Reads `count` bytes into `body`, which replace its previous bytes.
@@ -70,103 +55,6 @@ fn read_metadata_body<R: Source>(
 {
     body.clear();
     Ok(append_exact(source, body, count)?)
-}
-
-// Converts the parse error of a metadata body: an allocation failure is `Error::Memory`.
-fn contents_error(error: io::Error) -> Error
-    ensures { ReportsContentsError error result }
-{
-    if error.kind() == ErrorKind::OutOfMemory {
-        return Error::Memory;
-    }
-    Error::IoError(error)
-}
-
-// Parses the attribute in the body of a record of type 64.
-pub(crate) fn parse_attribute(
-    alloc: Global,
-    endian: Endianness,
-    body: &[u8],
-) -> Result<HeaderAttr, Error>
-    ensures { ParsesAttribute endian body.now result }
-{
-    let parsed = match endian {
-        Endianness::LittleEndian => HeaderAttr::parse::<LittleEndian>(alloc, RawData::Single(body)),
-        Endianness::BigEndian => HeaderAttr::parse::<BigEndian>(alloc, RawData::Single(body)),
-    };
-    match parsed {
-        Ok(header) => Ok(header),
-        Err(error) => Err(contents_error(error)),
-    }
-}
-
-// Parses the feature in the body of a record of type 80.
-pub(crate) fn parse_feature(
-    alloc: Global,
-    endian: Endianness,
-    body: &[u8],
-) -> Result<HeaderFeature, Error>
-    ensures { ParsesFeature endian body.now result }
-{
-    let body = RawData::Single(body);
-    let parsed = match endian {
-        Endianness::LittleEndian => HeaderFeature::parse::<LittleEndian>(alloc, body),
-        Endianness::BigEndian => HeaderFeature::parse::<BigEndian>(alloc, body),
-    };
-    match parsed {
-        Ok(header) => Ok(header),
-        Err(error) => Err(contents_error(error)),
-    }
-}
-
-impl PipeMetadata {
-    // Empty metadata.
-    fn new(alloc: Global) -> PipeMetadata
-        ensures { (endian : Endianness) → CollectsMetadata endian [] result }
-    {
-        PipeMetadata {
-            features: FeatureSet([0; 4]),
-            sections: IndexMap::new(alloc),
-            attributes: Vec::new(alloc),
-        }
-    }
-
-    // Appends the attribute of a record of type 64 to the others.
-    fn add_attribute(&mut self, alloc: Global, endian: Endianness, body: &[u8]) -> Result<(), Error>
-        ensures { AddsRecord endian 64 body.now self.old result self.new }
-    {
-        let header = parse_attribute(alloc, endian, body)?;
-        let attribute = AttributeDescription::new(header.attr, None, header.ids);
-        self.attributes.push(attribute)?;
-        Ok(())
-    }
-
-    // Stores the feature data of a record of type 80, which replace the feature's previous data.
-    fn add_feature(&mut self, alloc: Global, endian: Endianness, body: &[u8]) -> Result<(), Error>
-        ensures { AddsRecord endian 80 body.now self.old result self.new }
-    {
-        let header = parse_feature(alloc, endian, body)?;
-        self.sections.insert(header.feature, header.bytes)?;
-        self.features.insert(header.feature);
-        Ok(())
-    }
-
-    // Adds the attribute or the feature of a metadata record.
-    fn add_record(
-        &mut self,
-        alloc: Global,
-        endian: Endianness,
-        record_type: u32,
-        body: &[u8],
-    ) -> Result<(), Error>
-        requires { IsMetadataType record_type }
-        ensures { AddsRecord endian record_type body.now self.old result self.new }
-    {
-        if record_type == PERF_RECORD_HEADER_ATTR {
-            return self.add_attribute(alloc, endian, body);
-        }
-        self.add_feature(alloc, endian, body)
-    }
 }
 
 // Reads the next metadata record and adds it to `metadata`, or reads the record header that ends the metadata
@@ -235,7 +123,7 @@ fn name_consistent_attributes(
     if attributes.is_empty() {
         return Err(Error::NoAttributes);
     }
-    let name_table = name_attributes(alloc, endian, event_desc, attributes)?;
+    let name_table = NameTable::name_attributes(alloc, endian, event_desc, attributes)?;
     check_consistency(attributes)?;
     Ok(name_table)
 }

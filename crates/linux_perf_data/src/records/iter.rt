@@ -6,8 +6,8 @@ ghost use Rattle.linux_perf_data.specs.NamedErrors.{IsRecordError};
 ghost use Rattle.linux_perf_data.specs.Pauses.{PausesOnlyAtEndOrError};
 
 use crate::attributes::lookup::AttributeLookup;
+use crate::metadata_records::apply_metadata;
 use crate::perf_file::PerfFile;
-use crate::pipe::late_metadata::apply_metadata;
 use crate::records::buffered::{contains_next_record, has_no_pending_header};
 use crate::records::framing::{HEADER_SIZE, read_header, read_record_body, skip_body};
 use crate::records::input::{Input, at_truncation};
@@ -39,25 +39,25 @@ pub(crate) enum Stage {
     Ended,
 }
 
-// The writer of a record: the kernel, for the attribute with this index, or a tool.
+// Where a record is from: the kernel, for the attribute with this index, or a tool.
 #[derive(Clone, Copy)]
-pub(crate) enum Writer {
+pub(crate) enum RecordOrigin {
     Kernel(usize),
     User(UserRecordType),
 }
 
-// A record without its body, which is in the iterator's buffer.
+// A record whose attribute and time are known, without its body.
 #[derive(Clone, Copy)]
-pub(crate) struct RecordInfo {
+pub(crate) struct IdentifiedRecord {
     pub(crate) place: RecordPlace,
     pub(crate) record_type: RecordType,
     pub(crate) misc: u16,
-    pub(crate) writer: Writer,
+    pub(crate) origin: RecordOrigin,
 }
 
-impl RecordInfo {
+impl IdentifiedRecord {
     ghost use Rattle.perfdata_records.specs.FileRecord.{file_record_body};
-    ghost use Rattle.linux_perf_data.specs.RecordViews.{record_view_of, record_view_at, attr_index_by_writer};
+    ghost use Rattle.linux_perf_data.specs.RecordViews.{record_view_of, record_view_at, attr_index_by_origin};
     ghost use Rattle.linux_perf_data.specs.RecordViews.{IdentifiesRecord};
     ghost use Rattle.linux_perf_data.specs.AttributeLookup.{HasOnly, KeepsAttributes};
 
@@ -69,11 +69,11 @@ impl RecordInfo {
         offset: u64,
         round: u64,
         header: PerfEventHeader,
-    ) -> RecordInfo
+    ) -> IdentifiedRecord
         ensures identifies { IdentifiesRecord lookup.old offset round header body.now result lookup.new }
         ensures keeps_attributes { KeepsAttributes lookup.old lookup.new }
     {
-        RecordInfo::identify_with(&None, lookup, body, offset, round, header)
+        IdentifiedRecord::identify_with(&None, lookup, body, offset, round, header)
     }
 
     // Identifies the record, if `only` is the parse info of the only attribute, or `None`.
@@ -85,25 +85,28 @@ impl RecordInfo {
         offset: u64,
         round: u64,
         header: PerfEventHeader,
-    ) -> RecordInfo
+    ) -> IdentifiedRecord
         requires { IfSome only.now (HasOnly lookup.old) }
         ensures identifies { IdentifiesRecord lookup.old offset round header body.now result lookup.new }
         ensures keeps_attributes { KeepsAttributes lookup.old lookup.new }
         ensures keeps_only { IfSome only.now (HasOnly lookup.new) }
     {
         let record_type = RecordType(header.type_);
-        let (writer, timestamp) = match UserRecordType::try_from(record_type) {
-            Some(user_type) => (Writer::User(user_type), None),
+        let (origin, timestamp) = match UserRecordType::try_from(record_type) {
+            Some(user_type) => (RecordOrigin::User(user_type), None),
             None => match only {
-                Some(parse_info) => (Writer::Kernel(0), parse_info.time_of(record_type, body)),
+                Some(parse_info) => {
+                    let time = parse_info.time_of(record_type, body);
+                    (RecordOrigin::Kernel(0), time)
+                }
                 None => {
                     let index = lookup.attr_index_of(record_type, body);
                     let time = lookup.parse_info_of(index).time_of(record_type, body);
-                    (Writer::Kernel(index), time)
+                    (RecordOrigin::Kernel(index), time)
                 }
             },
         };
-        RecordInfo {
+        IdentifiedRecord {
             place: RecordPlace {
                 timestamp,
                 offset,
@@ -111,17 +114,17 @@ impl RecordInfo {
             },
             record_type,
             misc: header.misc,
-            writer,
+            origin,
         }
     }
 
     // The index of its attribute, or 0 if a tool wrote the record.
     pub(crate) fn attr_index(self) -> usize
-        ensures { result ≡ attr_index_by_writer self.writer }
+        ensures { result ≡ attr_index_by_origin self.origin }
     {
-        match self.writer {
-            Writer::Kernel(index) => index,
-            Writer::User(_) => 0,
+        match self.origin {
+            RecordOrigin::Kernel(index) => index,
+            RecordOrigin::User(_) => 0,
         }
     }
 
@@ -137,8 +140,8 @@ impl RecordInfo {
             ≡ record_view_at parse_info self endian (bytes_of body.entry) }
         ensures same_body { file_record_body result ≡ body.entry }
     {
-        match self.writer {
-            Writer::Kernel(index) => PerfFileRecord::EventRecord {
+        match self.origin {
+            RecordOrigin::Kernel(index) => PerfFileRecord::EventRecord {
                 attr_index: index,
                 event: RawEventRecord {
                     record_type: self.record_type,
@@ -147,7 +150,7 @@ impl RecordInfo {
                     parse_info,
                 },
             },
-            Writer::User(record_type) => PerfFileRecord::UserRecord(RawUserRecord {
+            RecordOrigin::User(record_type) => PerfFileRecord::UserRecord(RawUserRecord {
                 record_type,
                 endian,
                 misc: self.misc,
@@ -311,28 +314,28 @@ impl<R: Source> PerfRecordIter<R> {
         offset: u64,
         round: u64,
         header: PerfEventHeader,
-    ) -> Result<RecordInfo, Error>
+    ) -> Result<IdentifiedRecord, Error>
         ensures processes { ProcessesRecord R.state self.old perf_file.old offset round header result self.new
             perf_file.new }
         ensures pauses { R.state self.new.source ≡ R.state self.old.source }
         ensures same_loan { R.loan self.new.source ≡ R.loan self.old.source }
     {
         let body = self.body.as_slice();
-        let info = RecordInfo::identify(&mut self.attribute_lookup, body, offset, round, header);
+        let lookup = &mut self.attribute_lookup;
+        let identified = IdentifiedRecord::identify(lookup, body, offset, round, header);
         match self.input {
-            Input::Section(_) => Ok(info),
+            Input::Section(_) => Ok(identified),
             Input::Pipe(_) => {
                 let (alloc, endian) = (self.alloc, self.endian);
-                let lookup = &mut self.attribute_lookup;
                 apply_metadata(alloc, endian, lookup, perf_file, header.type_, body)?;
-                Ok(info)
+                Ok(identified)
             }
         }
     }
 
     // Reads up to the end of the next record, whose body is then in `self.body`.
     #[inline(always)]
-    fn advance(&mut self, perf_file: &mut PerfFile) -> Result<Option<RecordInfo>, Error>
+    fn advance(&mut self, perf_file: &mut PerfFile) -> Result<Option<IdentifiedRecord>, Error>
         ensures advances { Advances R.state self.old perf_file.old result self.new perf_file.new }
         ensures memory_only_to_grow { MemoryOnlyToGrow R.state self.old result self.new }
         ensures pauses { PausesOnlyAtEndOrError (R.state self.old.source) result (R.state self.new.source) }
@@ -353,7 +356,7 @@ impl<R: Source> PerfRecordIter<R> {
                 Ok(Some(header)) => {
                     if header.type_ != PERF_RECORD_FINISHED_ROUND {
                         match self.process_record(perf_file, offset, round, header) {
-                            Ok(info) => return Ok(Some(info)),
+                            Ok(identified) => return Ok(Some(identified)),
                             Err(error) => {
                                 self.offset = offset;
                                 self.stage = Stage::Failed;
@@ -421,11 +424,14 @@ impl<R: Source> PerfRecordIter<R> {
             (λ new. NextRecord R.state R.loan self.old perf_file.old result new perf_file.new)) }
     {
         match self.advance(perf_file) {
-            Ok(Some(info)) => {
+            Ok(Some(identified)) => {
                 let endian = self.endian;
-                let parse_info = *self.attribute_lookup.parse_info_of(info.attr_index());
+                let parse_info = *self.attribute_lookup.parse_info_of(identified.attr_index());
                 let body = RawData::Single(self.body.as_slice());
-                Ok(Some((info.place, info.into_record(parse_info, endian, body))))
+                Ok(Some((
+                    identified.place,
+                    identified.into_record(parse_info, endian, body),
+                )))
             }
             Ok(None) => Ok(None),
             Err(error) => Err(error),

@@ -11,10 +11,10 @@ invariant_of-self c = record { in_place = consumed_in_place c.args.self.now.reco
 
 pub returns-in-Some-clause-returns_next : goal.returns-in-Some-clause-returns_next
 returns-in-Some-clause-returns_next c =
-    let t = rw c.in-Some.is at c.in_ok-info.ensures in
+    let t = rw c.in-Some.is at c.in_ok-identified.ensures in
     let old = c.args.self.now.records in
     let new = c.take_record.new.records in
-    let found = c.in-Some.info in
+    let found = c.in-Some.identified in
     let input = c.args.self.now.input.now in
     let first = c.args.self.now.first_record_offset in
     let view : record_view_of found.place c.into_record.result ≡ record_view_with new.attribute_lookup found new.endian c.in-Some.body.now = search rules in

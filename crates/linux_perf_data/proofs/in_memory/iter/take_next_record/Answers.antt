@@ -1,6 +1,6 @@
 use Rattle.std.proofs.Common.{arith, refl, ap, subst, [], ◌∙◌}
 use Rattle.perfdata_base.proofs.ConsumedLemmas.{consumed_none}
-use Rattle.linux_perf_data.specs.declared.in_memory.iter.RawRecord.TheVariants.{Marker, Record, End}
+use Rattle.linux_perf_data.specs.declared.in_memory.raw_record.RawRecord.TheVariants.{Marker, Record, End}
 use Rattle.linux_perf_data.specs.RecordViews.{record_view_with}
 use Rattle.linux_perf_data.specs.Iter.{iter_source_state, ReturnsRecord}
 use Rattle.linux_perf_data.specs.IterSteps.{RecordProcessed, RecordRejected}
@@ -45,11 +45,11 @@ returns-in-Ok c =
     let t = raw_record_taken _ _ _ (Record header_bytes c.in-Ok-Record.body) c.in-Ok-Record.field-0-is c.in-Ok-Record.ensures.raw_record in
     let piece = with_buffer c.take_raw_record.new.records t.buffer in
     let new = with_buffer c.process_record.new.records t.buffer in
-    let step = subst (λ f. RecordProcessed memory_state piece f now.offset now.round header_bytes c.in-Ok.info new c.process_record.new.perf_file) i.file (c.in-Ok.ensures.processes t.buffer t.buffered_body) in
+    let step = subst (λ f. RecordProcessed memory_state piece f now.offset now.round header_bytes c.in-Ok.identified new c.process_record.new.perf_file) i.file (c.in-Ok.ensures.processes t.buffer t.buffered_body) in
     record {
       buffer = t.buffer;
-      returns = subst (λ b. ReturnsRecord memory_state c.args.records.now c.args.perf_file.now (record_view_with new.attribute_lookup c.in-Ok.info new.endian b) new c.process_record.new.perf_file) t.buffered_body
-          (returns_record memory_state c.args.records.now now piece new c.args.perf_file.now c.process_record.new.perf_file header_bytes c.in-Ok.info i.idles t.raw_record_read t.not_marker c.raw_records-test.ensures step);
+      returns = subst (λ b. ReturnsRecord memory_state c.args.records.now c.args.perf_file.now (record_view_with new.attribute_lookup c.in-Ok.identified new.endian b) new c.process_record.new.perf_file) t.buffered_body
+          (returns_record memory_state c.args.records.now now piece new c.args.perf_file.now c.process_record.new.perf_file header_bytes c.in-Ok.identified i.idles t.raw_record_read t.not_marker c.raw_records-test.ensures step);
     }
 
 pub returns-in-Err-process_record : goal.returns-in-Err-process_record

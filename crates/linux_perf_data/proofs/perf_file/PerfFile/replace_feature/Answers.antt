@@ -1,7 +1,7 @@
 use Rattle.std.proofs.Common.{◌≡◌, refl, Some}
 use Rattle.linux_perf_data.specs.FeatureData.{feature_data_of}
 use Rattle.linux_perf_data.specs.FeatureNumbers.{event_desc}
-use Rattle.linux_perf_data.specs.declared.attributes.name_table.NameTable.{NameTable}
+use Rattle.linux_perf_data.specs.declared.attributes.names.NameTable.{NameTable}
 use Rattle.linux_perf_data.proofs.NameTables.{put_remains, remains_none, remains_some, remains_events}
 use Rattle.linux_perf_data.proofs.FeatureTables.{data_put, data_unchanged}
 use Rattle.linux_perf_data.proofs.perf_file.PerfFile.replace_feature.Goals as goal

@@ -29,7 +29,7 @@ invariant_of-self-in-Ok-insert_unordered c =
     let bodies = c.append.new.self in
     let infos = c.of.new.parse_infos in
     let body = c.args.body.now in
-    let held : HeldRecord = record { place = c.args.info.place; misc = c.args.info.misc; writer = c.in-Ok.writer; body = c.in-Ok-append.body } in
+    let held : HeldRecord = record { place = c.args.envelope.place; misc = c.args.envelope.misc; format = c.in-Ok.format; body = c.in-Ok-append.body } in
     let appended = c.in-Ok-append.ensures.appends in
     let few = few_blocks_after old.bodies bodies (length body) (held_of old.sorter) (slots_in old.sorter) old.counted (held_in_slots old.sorter) c.in-Ok-append.ensures.blocks old.few_blocks in
     let slots = c.in-Ok-insert_unordered.ensures.slots.kept in
@@ -67,13 +67,13 @@ pub returns : goal.returns
 returns c =
     let old = c.args.self.now in
     let new = c.match-insert_unordered.self in
-    let held : HeldRecord = record { place = c.args.info.place; misc = c.args.info.misc; writer = c.in-Ok.writer; body = c.in-Ok-append.body } in
+    let held : HeldRecord = record { place = c.args.envelope.place; misc = c.args.envelope.misc; format = c.in-Ok.format; body = c.in-Ok-append.body } in
     elim c.match-insert_unordered.branch [
       | in-Ok-insert_unordered w ↦
           let done = subst (λ s. Inserted nat_cmp old.sorter c.args.key held s) (sym (ap (λ s. s.sorter) w.self-is)) w.in-Ok-insert_unordered.ensures in
-          let view = ap (λ x. view_with (record c.args.info { writer = x }) (body_in held.body)) c.in-Ok.ensures.0 ∙ ap (λ b. view_with c.args.info b) c.in-Ok-append.ensures.appends.is_body in
-          subst (λ r. InsertsRecord old c.args.key c.args.info c.args.body.now r new) (sym w.result-is) (held, (done, view))
+          let view = ap (λ x. view_with (record c.args.envelope { format = x }) (body_in held.body)) c.in-Ok.ensures.0 ∙ ap (λ b. view_with c.args.envelope b) c.in-Ok-append.ensures.appends.is_body in
+          subst (λ r. InsertsRecord old c.args.key c.args.envelope c.args.body.now r new) (sym w.result-is) (held, (done, view))
       | in-Err-insert_unordered w ↦
           let same = subst (λ s. IsUnchanged old.sorter s) (sym (ap (λ s. s.sorter) w.self-is)) w.in-Err-insert_unordered.ensures.1 in
-          subst (λ r. InsertsRecord old c.args.key c.args.info c.args.body.now r new) (sym w.result-is) same
+          subst (λ r. InsertsRecord old c.args.key c.args.envelope c.args.body.now r new) (sym w.result-is) same
     ]

@@ -1,5 +1,5 @@
 use Rattle.std.proofs.Common.{ap, ◌∙◌, arith}
-use Rattle.perfdata_order.specs.HeldRecord.{view_with, info_of}
+use Rattle.perfdata_order.specs.HeldRecord.{view_with, envelope_of}
 use Rattle.perfdata_order.specs.Bodies.{body_at}
 use Rattle.perfdata_order.specs.Sorter.{held_of}
 use Rattle.perfdata_order.proofs.SorterCalls.{held_before_return}
@@ -23,8 +23,8 @@ invariant_of-self c =
       few_blocks = omega (arith, few, blocks, slots);
     }
 
-pub info-requires : goal.info-requires
-info-requires c =
+pub envelope-requires : goal.envelope-requires
+envelope-requires c =
     let old = c.args.self.now in
     let sorter = c.get_next.new.self in
     let held = c.in-Some.held in
@@ -42,4 +42,4 @@ returns-in-Some c =
     let first = held_before_return old.sorter sorter key held c.in-Some.ensures.1 in
     let is = (first_stored old.bodies old.parse_infos key held (held_of old.sorter) (held_of sorter) first old.stored).0 in
     let now = stored_released old.bodies bodies old.parse_infos held.body.range.block held c.release.ensures.releases is in
-    (key, (held, (c.in-Some.ensures.1, ap (λ i. view_with i (body_at bodies held.body.range)) c.info.ensures ∙ ap (λ body. view_with (info_of held) body) now.0)))
+    (key, (held, (c.in-Some.ensures.1, ap (λ i. view_with i (body_at bodies held.body.range)) c.envelope.ensures ∙ ap (λ body. view_with (envelope_of held) body) now.0)))

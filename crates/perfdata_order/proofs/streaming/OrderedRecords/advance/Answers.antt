@@ -12,7 +12,7 @@ returns-in-Some g c =
     let state = g.R.Source.state in
     let old = c.args.self.now in
     let file = c.args.perf_file.now in
-    sorted_returned state old old c.take_sorted.new.self file file c.in-Some.ensures.0 c.in-Some.ensures.1.0 (view_with c.in-Some.info (body_in Sorted c.take_sorted.new.self)) (no_progress state old file) c.in-Some.ensures.1.1 c.in-Some.ensures.1.2
+    sorted_returned state old old c.take_sorted.new.self file file c.in-Some.ensures.0 c.in-Some.ensures.1.0 (view_with c.in-Some.envelope (body_in Sorted c.take_sorted.new.self)) (no_progress state old file) c.in-Some.ensures.1.1 c.in-Some.ensures.1.2
 
 pub reads-init : goal.reads-init
 reads-init g c =
@@ -40,7 +40,7 @@ returns-in-Some-take_sorted g c =
     let before = progress_places state c.args.self.now c.read.new.self c.place_pending.new.self c.args.perf_file.now c.read.new.perf_file read c.in-Ok-place_pending.ensures.0 in
     let new = c.take_sorted-in-reads.new.self in
     sorted_returned state c.args.self.now c.place_pending.new.self new c.args.perf_file.now c.read.new.perf_file c.in-Some-take_sorted.ensures.0 c.in-Some-take_sorted.ensures.1.0
-    (view_with c.in-Some-take_sorted.info (body_in Sorted new)) before c.in-Some-take_sorted.ensures.1.1 c.in-Some-take_sorted.ensures.1.2
+    (view_with c.in-Some-take_sorted.envelope (body_in Sorted new)) before c.in-Some-take_sorted.ensures.1.1 c.in-Some-take_sorted.ensures.1.2
 
 pub returns-in-Some-take_untimed : goal.returns-in-Some-take_untimed
 returns-in-Some-take_untimed g c =

@@ -8,10 +8,10 @@ use Rattle.perfdata_order.proofs.streaming.OrderedRecords.hold.Goals as goal
 pub returns-in-Ok : goal.returns-in-Ok
 returns-in-Ok g c =
     let old = c.args.self.now in
-    let view = view_with c.args.info old.body.items in
+    let view = view_with c.args.envelope old.body.items in
     let may = c.if-may_insert.ensures refl in
     let done = c.in-Ok.ensures in
-    let copied : held_view done.0 ≡ view = done.1.1 ∙ ap (λ b. view_with c.args.info b) c.as_slice.ensures.value in
+    let copied : held_view done.0 ≡ view = done.1.1 ∙ ap (λ b. view_with c.args.envelope b) c.as_slice.ensures.value in
     let size : held_size view ≡ c.held_size-size.result = ap (λ n. n + 192) (sym old.body.ok.0 ∙ sym c.len.ensures) ∙ sym c.held_size-size.ensures in
     let sizes = ap held_size copied ∙ size in
     inl (

@@ -8,7 +8,7 @@ use Rattle.perfdata_order.proofs.streaming.OrderedRecords.place_pending.Goals as
 pub returns-in-None : goal.returns-in-None
 returns-in-None g c =
     let old = c.args.self.now in
-    let view = view_with c.in-Record.info old.body.items in
+    let view = view_with c.in-Record.envelope old.body.items in
     let was = ap (λ p. unplaced_by p old.body.items) c.in-Record.is ∙ ap (λ k. waiting k view) c.in-None.is in
     untimed_placed g.R.Source.state old c.end_rounds.new.self c.end_rounds.result view was c.end_rounds.ensures
 

@@ -8,7 +8,7 @@ use Rattle.perfdata_order.proofs.streaming.OrderedRecords.place_record.Goals as 
 pub returns-in-Err : goal.returns-in-Err
 returns-in-Err g c =
     let old = c.args.self.now in
-    let view = view_with c.args.info old.body.items in
+    let view = view_with c.args.envelope old.body.items in
     let was = ap (λ p. unplaced_by p old.body.items) c.requires in
     let size : held_size view ≡ c.held_size-size.result = ap (λ n. n + 192) (sym old.body.ok.0 ∙ sym c.len.ensures) ∙ sym c.held_size-size.ensures in
     c.in-Err.ensures c.args.key view was refl size
@@ -17,7 +17,7 @@ pub returns-in-Ok-false : goal.returns-in-Ok-false
 returns-in-Ok-false g c =
     let state = g.R.Source.state in
     let old = c.args.self.now in
-    let view = view_with c.args.info old.body.items in
+    let view = view_with c.args.envelope old.body.items in
     let was = ap (λ p. unplaced_by p old.body.items) c.requires in
     let size : held_size view ≡ c.held_size-size.result = ap (λ n. n + 192) (sym old.body.ok.0 ∙ sym c.len.ensures) ∙ sym c.held_size-size.ensures in
     available_placed state old c.admit_pending.new.self c.args.key view was (subst (λ b. AdmitsPending state old view (Ok b) c.admit_pending.new.self) c.in-Ok-false.field-0-test (c.in-Ok-false.ensures c.args.key view was refl size))
@@ -27,15 +27,15 @@ returns-in-Ok g c =
     let state = g.R.Source.state in
     let old = c.args.self.now in
     let made = c.admit_pending.new.self in
-    let view = view_with c.args.info old.body.items in
+    let view = view_with c.args.envelope old.body.items in
     let was = ap (λ p. unplaced_by p old.body.items) c.requires in
     let size : held_size view ≡ c.held_size-size.result = ap (λ n. n + 192) (sym old.body.ok.0 ∙ sym c.len.ensures) ∙ sym c.held_size-size.ensures in
     let admission = subst (λ b. AdmitsPending state old view (Ok b) made) c.in-Ok-true.field-0-test (c.in-Ok-true.ensures c.args.key view was refl size) in
     let done = c.in-Ok.ensures in
-    let copied = done.1.1 ∙ ap (λ b. view_with c.args.info b) c.as_slice.ensures.value in
+    let copied = done.1.1 ∙ ap (λ b. view_with c.args.envelope b) c.as_slice.ensures.value in
     let now = body_read made.pending made.body.items (Some c.args.key) view (admission.pending ∙ was) in
     let sizes = ap (λ h. held_size h) copied ∙ ap (λ b. length b + 192) now ∙ size in
-    record_placed state old made (with_parts made c.insert.new.self Nothing c.saturating_add-self.result) c.args.key c.args.info done.0 was admission
+    record_placed state old made (with_parts made c.insert.new.self Nothing c.saturating_add-self.result) c.args.key c.args.envelope done.0 was admission
     copied done.1.0 refl refl refl refl refl (subst (λ n. n < 2 ^ 64) (sym sizes) c.held_size-size.type_inv) (bytes_added made.held_bytes c.held_size-size.result (held_size (held_view done.0)) c.saturating_add-self.result sizes c.saturating_add-self.ensures)
 
 pub returns-in-Err-insert : goal.returns-in-Err-insert
@@ -43,7 +43,7 @@ returns-in-Err-insert g c =
     let state = g.R.Source.state in
     let old = c.args.self.now in
     let made = c.admit_pending.new.self in
-    let view = view_with c.args.info old.body.items in
+    let view = view_with c.args.envelope old.body.items in
     let was = ap (λ p. unplaced_by p old.body.items) c.requires in
     let size : held_size view ≡ c.held_size-size.result = ap (λ n. n + 192) (sym old.body.ok.0 ∙ sym c.len.ensures) ∙ sym c.held_size-size.ensures in
     let admission = subst (λ b. AdmitsPending state old view (Ok b) made) c.in-Ok-true.field-0-test (c.in-Ok-true.ensures c.args.key view was refl size) in

@@ -11,10 +11,10 @@ returns-in-Some g c =
     let old = c.args.self.now in
     let file = c.args.perf_file.now in
     let new_file = c.read_record.new.perf_file in
-    let info = c.in-Ok-Some.info in
+    let envelope = c.in-Ok-Some.envelope in
     let key = c.in-Some.key in
-    let read = with_pending (record old { records = c.read_record.new.records; body = c.read_record.new.body }) (Some key) info in
-    let h = view_with info c.read_record.new.body.items in
+    let read = with_pending (record old { records = c.read_record.new.records; body = c.read_record.new.body }) (Some key) envelope in
+    let h = view_with envelope c.read_record.new.body.items in
     let has_time : key_of_time h.timestamp ≡ Some key = search rules in
     let was_read : ReadsWaiting state old file (Some key) h read new_file = record {
       nothing_pending = ap (λ p. unplaced_by p old.body.items) c.in-Nothing.is;
@@ -31,9 +31,9 @@ returns-in-None g c =
     let old = c.args.self.now in
     let file = c.args.perf_file.now in
     let new_file = c.read_record.new.perf_file in
-    let info = c.in-Ok-Some.info in
-    let read = with_pending (record old { records = c.read_record.new.records; body = c.read_record.new.body }) None info in
-    let h = view_with info c.read_record.new.body.items in
+    let envelope = c.in-Ok-Some.envelope in
+    let read = with_pending (record old { records = c.read_record.new.records; body = c.read_record.new.body }) None envelope in
+    let h = view_with envelope c.read_record.new.body.items in
     let has_time : key_of_time h.timestamp ≡ None = search rules in
     let was_read : ReadsWaiting state old file None h read new_file = record {
       nothing_pending = ap (λ p. unplaced_by p old.body.items) c.in-Nothing.is;

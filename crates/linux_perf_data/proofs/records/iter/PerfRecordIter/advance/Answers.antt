@@ -48,8 +48,8 @@ returns-in-Ok-clause-advances g c =
     let piece = c.next_raw_record.new.self in
     let header_bytes = c.in-Ok-Some.header in
     let t = some_record state c.raw_records.self piece _ header_bytes c.in-Ok-Some.field-0-is c.in-Ok-Some.ensures.raw_record in
-    let step = subst (λ f. RecordProcessed state piece f c.raw_records.self.offset c.raw_records.self.round header_bytes c.in-Ok.info c.process_record.new.self c.process_record.new.perf_file) i.file c.in-Ok.ensures.processes in
-    returns_record state c.args.self.now c.raw_records.self piece c.process_record.new.self c.args.perf_file.now c.process_record.new.perf_file header_bytes c.in-Ok.info i.idles t c.if-header-ne-PERF_RECORD_FINISHED_ROUND.true c.raw_records-test.ensures step
+    let step = subst (λ f. RecordProcessed state piece f c.raw_records.self.offset c.raw_records.self.round header_bytes c.in-Ok.identified c.process_record.new.self c.process_record.new.perf_file) i.file c.in-Ok.ensures.processes in
+    returns_record state c.args.self.now c.raw_records.self piece c.process_record.new.self c.args.perf_file.now c.process_record.new.perf_file header_bytes c.in-Ok.identified i.idles t c.if-header-ne-PERF_RECORD_FINISHED_ROUND.true c.raw_records-test.ensures step
 
 pub returns-in-Err-process_record-clause-advances : goal.returns-in-Err-process_record-clause-advances
 returns-in-Err-process_record-clause-advances g c =

@@ -6,13 +6,13 @@ use Rattle.linux_perf_data.proofs.records.iter.PerfRecordIter.process_record.Goa
 
 pub returns-in_ok-apply_metadata-in-Pipe-clause-processes : goal.returns-in_ok-apply_metadata-in-Pipe-clause-processes
 returns-in_ok-apply_metadata-in-Pipe-clause-processes g c =
-    record_processed g.R.Source.state c.args.self.now _ c.args.perf_file.now c.apply_metadata.new.perf_file c.args.offset c.args.round c.args.header c.identify-info.result c.identify-info.new.lookup c.as_slice-body.result.now c.as_slice-body.ensures.value (ap section_size_in c.in-Pipe.is)
-    c.identify-info.ensures.identifies c.identify-info.ensures.keeps_attributes c.in_ok-apply_metadata-in-Pipe.ensures.applies (λ isnt. c.in_ok-apply_metadata-in-Pipe.ensures.other (λ attribute. isnt (inl attribute)) (λ feature. isnt (inr feature))) (record { source = refl; same_endian = refl; body = refl; offset = refl; round = refl; input = refl }) refl
+    record_processed g.R.Source.state c.args.self.now _ c.args.perf_file.now c.apply_metadata.new.perf_file c.args.offset c.args.round c.args.header c.identify-identified.result c.identify-identified.new.lookup c.as_slice-body.result.now c.as_slice-body.ensures.value (ap section_size_in c.in-Pipe.is)
+    c.identify-identified.ensures.identifies c.identify-identified.ensures.keeps_attributes c.in_ok-apply_metadata-in-Pipe.ensures.applies (λ isnt. c.in_ok-apply_metadata-in-Pipe.ensures.other (λ attribute. isnt (inl attribute)) (λ feature. isnt (inr feature))) (record { source = refl; same_endian = refl; body = refl; offset = refl; round = refl; input = refl }) refl
 
 pub returns-in_err-apply_metadata-in-Pipe-clause-processes : goal.returns-in_err-apply_metadata-in-Pipe-clause-processes
 returns-in_err-apply_metadata-in-Pipe-clause-processes g c =
     let p = err_from_is_err_and c.from_residual.result c.from_residual.ensures.1 in
-    rw (p.1, p.2) (record_rejected g.R.Source.state c.args.self.now _ c.args.perf_file.now c.apply_metadata.new.perf_file c.args.header c.in_err-apply_metadata-in-Pipe.field-0.0 c.identify-info.new.lookup c.as_slice-body.result.now c.as_slice-body.ensures.value (ap section_size_in c.in-Pipe.is) c.identify-info.ensures.keeps_attributes
+    rw (p.1, p.2) (record_rejected g.R.Source.state c.args.self.now _ c.args.perf_file.now c.apply_metadata.new.perf_file c.args.header c.in_err-apply_metadata-in-Pipe.field-0.0 c.identify-identified.new.lookup c.as_slice-body.result.now c.as_slice-body.ensures.value (ap section_size_in c.in-Pipe.is) c.identify-identified.ensures.keeps_attributes
     c.in_err-apply_metadata-in-Pipe.ensures.applies (record { source = refl; same_endian = refl; body = refl; offset = refl; round = refl; input = refl }))
 
 pub returns-in-Section-clause-processes : goal.returns-in-Section-clause-processes
