@@ -1,5 +1,6 @@
 //! Optional words of eight bytes each, and lists of numbers.
-ghost use Rattle.std.specs.Prelude.{◌≡◌, ◌<◌, ◌*◌, [], ◌∷◌, IfErr, IfSome, IfNone, OnErr, OnOk, length, take};
+ghost use Rattle.std.specs.Prelude.{◌≡◌, ◌<◌, ◌*◌, [], ◌∷◌, length, take};
+ghost use Rattle.std.specs.Prelude.{IfErr, IfOk, IfSome, IfNone, OnErr, OnOk};
 ghost use Rattle.perfdata_base.specs.Raw.{DropsPrefix, EndsBefore, bytes_of};
 ghost use Rattle.perfdata_events.specs.Single.{KeepsSingle, NoParts};
 ghost use Rattle.perfdata_events.specs.SingleParts.{SingleNumbers};
@@ -15,22 +16,24 @@ use crate::fields::u64s::{RawDataU64, split_off_elements};
 use perfdata_base::raw::{Endianness, RawData};
 use std::io::Result;
 
-// Does what `RawData::read_exact` does, faster for bytes in one slice.
+// Removes the first N bytes, and returns them by value: a word that was written into a buffer byte by byte is
+// slow to load.
 #[inline(always)]
-fn read_exact(fields: &mut RawData<'_>, buf: &mut [u8]) -> Result<()>
-    ensures read { OnOk result (buf.new ≡ take (length buf.old) (bytes_of fields.old)) }
-    ensures rest { OnOk result (DropsPrefix (length buf.old) fields.old fields.new) }
-    ensures too_short { IfErr result (λ error. EndsBefore (length buf.old) (bytes_of fields.old) error) }
+fn read_array<const N: usize>(fields: &mut RawData<'_>) -> Result<[u8; N]>
+    ensures read { IfOk result (λ bytes. bytes ≡ take N (bytes_of fields.old)) }
+    ensures rest { OnOk result (DropsPrefix N fields.old fields.new) }
+    ensures too_short { IfErr result (λ error. EndsBefore N (bytes_of fields.old) error) }
     ensures unchanged { OnErr result (fields.new ≡ fields.old) }
 {
     if let RawData::Single(bytes) = *fields {
-        if let Some((prefix, rest)) = bytes.split_at_checked(buf.len()) {
-            buf.copy_from_slice(prefix);
+        if let Some((first, rest)) = bytes.split_first_chunk::<N>() {
             *fields = RawData::Single(rest);
-            return Ok(());
+            return Ok(*first);
         }
     }
-    fields.read_exact(buf)
+    let mut bytes = [0u8; N];
+    fields.read_exact(&mut bytes)?;
+    Ok(bytes)
 }
 
 /// Removes a number of eight bytes if it is there.
@@ -49,8 +52,7 @@ pub fn read_u64_if(
     if !present {
         return Ok(None);
     }
-    let mut bytes = [0u8; 8];
-    read_exact(fields, &mut bytes)?;
+    let bytes = read_array::<8>(fields)?;
     Ok(Some(u64_at(endian, &bytes, 0)))
 }
 
@@ -70,8 +72,7 @@ pub fn read_u32_if(
     if !present {
         return Ok(None);
     }
-    let mut bytes = [0u8; 8];
-    read_exact(fields, &mut bytes)?;
+    let bytes = read_array::<8>(fields)?;
     Ok(Some(u32_at(endian, &bytes, 0)))
 }
 
@@ -91,8 +92,7 @@ pub fn read_task_if(
     if !present {
         return Ok(None);
     }
-    let mut bytes = [0u8; 8];
-    read_exact(fields, &mut bytes)?;
+    let bytes = read_array::<8>(fields)?;
     Ok(Some(Task {
         pid: i32_at(endian, &bytes, 0),
         tid: i32_at(endian, &bytes, 4),
@@ -107,8 +107,7 @@ pub fn read_u64(endian: Endianness, fields: &mut RawData<'_>) -> Result<u64>
         (bytes_of fields.new) }
     ensures single { KeepsSingle NoParts fields.old result fields.new }
 {
-    let mut bytes = [0u8; 8];
-    read_exact(fields, &mut bytes)?;
+    let bytes = read_array::<8>(fields)?;
     Ok(u64_at(endian, &bytes, 0))
 }
 
@@ -120,8 +119,7 @@ pub fn read_u32(endian: Endianness, fields: &mut RawData<'_>) -> Result<u32>
         (bytes_of fields.new) }
     ensures single { KeepsSingle NoParts fields.old result fields.new }
 {
-    let mut bytes = [0u8; 4];
-    read_exact(fields, &mut bytes)?;
+    let bytes = read_array::<4>(fields)?;
     Ok(u32_at(endian, &bytes, 0))
 }
 
@@ -133,8 +131,7 @@ pub fn read_task(endian: Endianness, fields: &mut RawData<'_>) -> Result<Task>
         (bytes_of fields.new) }
     ensures single { KeepsSingle NoParts fields.old result fields.new }
 {
-    let mut bytes = [0u8; 8];
-    read_exact(fields, &mut bytes)?;
+    let bytes = read_array::<8>(fields)?;
     Ok(Task {
         pid: i32_at(endian, &bytes, 0),
         tid: i32_at(endian, &bytes, 4),
