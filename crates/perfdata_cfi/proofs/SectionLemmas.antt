@@ -1,16 +1,17 @@
 -- A section has one list of CIEs and one of FDEs.
-use Rattle.std.proofs.Common.{◌≡◌, ℕ, ◌+◌, ◌-◌, ◌%◌, ◌^◌, ◌<◌, ◌≤◌, List, [], ◌∷◌, length, take, drop, get_or, suc, zero, refl, sym, ap, ◌∙◌, subst, arith, Bool, true, false, Option, Some, None, inl, inr, length-drop}
+use Rattle.std.proofs.Common.{◌≡◌, ℕ, ◌+◌, ◌-◌, ◌*◌, ◌%◌, ◌^◌, ◌<◌, ◌≤◌, List, [], ◌∷◌, length, take, drop, get_or, suc, zero, refl, sym, ap, ◌∙◌, subst, arith, Bool, true, false, Option, Some, None, inl, inr, length-drop, length-take-le}
 use Rattle.std.specs.Prelude.{◌≢◌, ◌⊎◌, ◌==◌, All, if◌then◌else◌}
 use Rattle.std.proofs.lemmas.Bool.{cases_lt}
 use Rattle.std.proofs.lemmas.List.{get_or_default}
 use Rattle.std.proofs.lemmas.List.Elements.{All-cons}
+use Rattle.std.proofs.lemmas.List.Sorted.{length_permutation}
 use Rattle.perfdata_cfi.specs.Numbers.{FixedAt}
 use Rattle.perfdata_cfi.specs.Pointers.{PointerAt, EncodedAt}
 use Rattle.perfdata_cfi.specs.Entries.{LengthAt, id_size, cie_id, cie_offset, EntryAt, AfterZero, ZeroAt, PieceAt, NoPiece}
 use Rattle.perfdata_cfi.specs.Cies.{VersionAt, CieAt}
 use Rattle.perfdata_cfi.specs.Fdes.{DataAt, FdeAt, IsFde}
 use Rattle.perfdata_cfi.specs.Tables.{Pieces, IsCieIn, CiesOf, CiesOfSection, IsFdeIn, FdesOf, AreRising, IsNearest, IsFdeAt, SortedFdesOf}
-use Rattle.perfdata_cfi.specs.Sections.{HasEntries, FdeOfSectionAt, FindsFdeOfSection, HasOneListOfCies, HasOneListOfFdes, HasOneFdeAt, Covers, FindsEachThatCovers}
+use Rattle.perfdata_cfi.specs.Sections.{AreFew, HasEntries, FdeOfSectionAt, FindsFdeOfSection, HasOneListOfCies, HasOneListOfFdes, HasOneFdeAt, Covers, FindsEachThatCovers}
 use Rattle.perfdata_cfi.specs.declared.entry.FrameSection.{FrameSection}
 use Rattle.perfdata_cfi.specs.declared.entry.FrameSection.TheVariants as sections
 use Rattle.perfdata_cfi.specs.declared.entry.Entry.{Entry}
@@ -117,6 +118,28 @@ piece_shorter section size bytes (Some e) r a =
     let less = length_shorter bytes a.is_64 a.len a.mid a.length_at in
     let sizes : length r ≡ length a.mid - a.len = ap (λ (l : List ℕ). length l) a.after ∙ length-drop a.len a.mid in
     omega (arith, less, sizes)
+
+id_least : (section : FrameSection) (w : Bool) → 4 ≤ id_size section w
+id_least sections.EhFrame w = omega arith
+id_least sections.DebugFrame false = omega arith
+id_least sections.DebugFrame true = omega arith
+
+length_least : (bytes : List ℕ) (w : Bool) (n : ℕ) (rest : List ℕ) → LengthAt bytes w n rest → length rest + 4 ≤ length bytes
+length_least bytes false n rest at = let h = fixed_shorter 4 bytes n rest at.0 in omega (arith, h)
+length_least bytes true n rest at =
+    let h = fixed_shorter 4 bytes (2 ^ 32 - 1) at.0 at.1 in
+    let k = fixed_shorter 8 at.0 n rest at.2 in
+    omega (arith, h, k)
+
+entry_size : (section : FrameSection) (size : ℕ) (bytes : List ℕ) (e : Entry) (r : List ℕ) → EntryAt section size bytes e r → length r + 8 ≤ length bytes
+entry_size section size bytes e r a =
+    let less = length_least bytes a.is_64 a.len a.mid a.length_at in
+    let sizes : length r ≡ length a.mid - a.len = ap (λ (l : List ℕ). length l) a.after ∙ length-drop a.len a.mid in
+    let within = a.within in
+    let taken : length (take a.len a.mid) ≡ a.len = length-take-le a.len a.mid within in
+    let id = a.id_at.within in
+    let least = id_least section a.is_64 in
+    omega (arith, less, sizes, within, taken, id, least)
 
 abbrev Ends : FrameSection → ℕ → List ℕ → Type 0
 Ends section size rest = (rest ≡ []) ⊎ NoPiece section size rest
@@ -316,6 +339,53 @@ pub fde_at_is_one : HasOneFdeAt
 fde_at_is_one section address bytes at f g p q =
     let lists = fdes_are_one section address bytes q.cies p.cies q.fdes p.fdes q.entries_are p.entries_are in
     nearest_unique p.fdes at p.index q.index f g p.nearest (subst (λ (l : List Fde). IsNearest l at q.index g) lists q.nearest)
+
+-- how many there are
+cie_size : (section : FrameSection) (size : ℕ) (bytes : List ℕ) (p : Option Entry) (c : Cie) (r : List ℕ) → PieceAt section size bytes p r → IsCieIn p c → length r + 8 ≤ length bytes
+cie_size section size bytes None c r a is = absurd is
+cie_size section size bytes (Some e) c r a is = entry_size section size bytes e r a
+
+fde_size : (address : ℕ) (cies : List Cie) (section : FrameSection) (size : ℕ) (bytes : List ℕ) (p : Option Entry) (f : Fde) (r : List ℕ) → PieceAt section size bytes p r → IsFdeIn address cies p f → length r + 8 ≤ length bytes
+fde_size address cies section size bytes None f r a is = absurd is
+fde_size address cies section size bytes (Some e) f r a is = entry_size section size bytes e r a
+
+cies_few : (section : FrameSection) (size : ℕ) (bytes : List ℕ) (ps : List (Option Entry)) (r : List ℕ) (cs : List Cie) → Pieces section size bytes ps r → CiesOf ps cs → 8 * length cs + length r ≤ length bytes
+cies_few section size bytes [] r cs a h =
+    let none = ap (λ (l : List Cie). length l) h in
+    let left = ap (λ (l : List ℕ). length l) a in
+    omega (arith, none, left)
+cies_few section size bytes (p ∷ ps) r cs a (inl x) =
+    let more = cies_few section size a.0 ps r cs a.2 x.1 in
+    let less = piece_shorter section size bytes p a.0 a.1 in
+    omega (arith, more, less)
+cies_few section size bytes (p ∷ ps) r cs a (inr x) =
+    let more = cies_few section size a.0 ps r x.1 a.2 x.4 in
+    let less = cie_size section size bytes p x.0 a.0 a.1 x.3 in
+    let sizes = ap (λ (l : List Cie). length l) x.2 in
+    omega (arith, more, less, sizes)
+
+fdes_few : (address : ℕ) (cies : List Cie) (section : FrameSection) (size : ℕ) (bytes : List ℕ) (ps : List (Option Entry)) (r : List ℕ) (fs : List Fde) → Pieces section size bytes ps r → FdesOf address cies ps fs → 8 * length fs + length r ≤ length bytes
+fdes_few address cies section size bytes [] r fs a h =
+    let none = ap (λ (l : List Fde). length l) h in
+    let left = ap (λ (l : List ℕ). length l) a in
+    omega (arith, none, left)
+fdes_few address cies section size bytes (p ∷ ps) r fs a (inl x) =
+    let more = fdes_few address cies section size a.0 ps r fs a.2 x.1 in
+    let less = piece_shorter section size bytes p a.0 a.1 in
+    omega (arith, more, less)
+fdes_few address cies section size bytes (p ∷ ps) r fs a (inr x) =
+    let more = fdes_few address cies section size a.0 ps r x.1 a.2 x.4 in
+    let less = fde_size address cies section size bytes p x.0 a.0 a.1 x.3 in
+    let sizes = ap (λ (l : List Fde). length l) x.2 in
+    omega (arith, more, less, sizes)
+
+pub are_few : (section : FrameSection) (address : ℕ) (bytes : List ℕ) (cies : List Cie) (fdes : List Fde) → CiesOfSection section bytes cies → SortedFdesOf section address bytes cies fdes → AreFew bytes cies fdes
+are_few section address bytes cies fdes all sorted =
+    let own = sorted.1 in
+    let one = cies_few section (length bytes) bytes all.pieces all.rest cies all.are all.cies_are in
+    let two = fdes_few address cies section (length bytes) bytes own.pieces own.rest sorted.0 own.are own.fdes_are in
+    let sizes = length_permutation sorted.0 fdes sorted.4 in
+    (omega (arith, one), omega (arith, two, sizes))
 
 -- the FDE that is found in the order of the first addresses
 pub finds_fde : FindsFdeOfSection

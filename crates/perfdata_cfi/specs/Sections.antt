@@ -1,5 +1,5 @@
 -- What a section determines: its CIEs, its FDEs, and the FDE at an address.
-use Rattle.std.specs.Prelude.{◌≡◌, ℕ, ◌+◌, ◌<◌, ◌≤◌, List, length, Option, Some, None, slice_index_or, All}
+use Rattle.std.specs.Prelude.{◌≡◌, ℕ, ◌+◌, ◌*◌, ◌<◌, ◌≤◌, List, length, Option, Some, None, slice_index_or, All}
 use Rattle.perfdata_cfi.specs.Tables.{CiesOfSection, FdesOfSection, SortedFdesOf, IsNearest, IsFdeAt}
 use Rattle.perfdata_cfi.specs.declared.entry.FrameSection.{FrameSection}
 use Rattle.perfdata_cfi.specs.declared.cie.Cie.{Cie}
@@ -39,6 +39,10 @@ HasOneListOfFdes = (section : FrameSection) (address : ℕ) (bytes : List ℕ) (
 
 abbrev pub HasOneFdeAt : Type 0
 HasOneFdeAt = (section : FrameSection) (address : ℕ) (bytes : List ℕ) (at : ℕ) (f g : Fde) → FdeOfSectionAt section address bytes at f → FdeOfSectionAt section address bytes at g → f ≡ g
+
+-- each CIE and each FDE has at least 8 bytes of the section
+abbrev pub AreFew : List ℕ → List Cie → List Fde → Type 0
+AreFew bytes cies fdes = (8 * length cies ≤ length bytes) × (8 * length fdes ≤ length bytes)
 
 -- the address is one of those that the FDE describes
 abbrev pub Covers : Fde → ℕ → Type 0

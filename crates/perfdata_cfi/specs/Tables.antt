@@ -1,6 +1,6 @@
 -- The entries of a section, and the FDE at an address.
 use Rattle.std.specs.Prelude.{◌≡◌, ◌⊎◌, ℕ, ◌+◌, ◌<◌, ◌≤◌, List, [], ◌∷◌, length, Option, Some, None, true, slice_index_or, All}
-use Rattle.std.specs.List.Sorted.{IsNonDecreasingBy, IsStableByKey}
+use Rattle.std.specs.List.Sorted.{IsNonDecreasingBy, IsPermutation, IsStableByKey}
 use Rattle.std.specs.Ordering.{nat_cmp}
 use Rattle.perfdata_cfi.specs.Entries.{EntryAt, PieceAt, NoPiece}
 use Rattle.perfdata_cfi.specs.Cies.{CieAt}
@@ -88,7 +88,7 @@ pub record FdesOfSection (section : FrameSection) (address : ℕ) (bytes : List 
 
 -- the same, sorted by their first addresses; those with one first address keep their order
 abbrev pub SortedFdesOf : FrameSection → ℕ → List ℕ → List Cie → List Fde → Type 0
-SortedFdesOf section address bytes cies fdes = (fs : List Fde) × FdesOfSection section address bytes cies fs × IsNonDecreasingBy (λ (f : Fde). f.start) fdes × IsStableByKey (λ (f : Fde). f.start) nat_cmp fs fdes
+SortedFdesOf section address bytes cies fdes = (fs : List Fde) × FdesOfSection section address bytes cies fs × IsNonDecreasingBy (λ (f : Fde). f.start) fdes × IsStableByKey (λ (f : Fde). f.start) nat_cmp fs fdes × IsPermutation fs fdes
 
 -- the FDE at the index is the first of those with the greatest first address up to the address
 pub record IsNearest (fdes : List Fde) (address index : ℕ) (f : Fde) : Type 0 where

@@ -12,4 +12,4 @@ returns-clause-all c =
 pub returns-clause-in_order : goal.returns-clause-in_order
 returns-clause-in_order c =
     let up : IsNonDecreasingBy (λ (f : Fde). f.start) c.sort_fdes.new.fdes.items = search rules in
-    (c.in_ok-fdes.fdes.items, c.in_ok-fdes.ensures.in_order, up, c.sort_fdes.ensures.stable)
+    (c.in_ok-fdes.fdes.items, c.in_ok-fdes.ensures.in_order, up, c.sort_fdes.ensures.stable, c.sort_fdes.ensures.permutation)
