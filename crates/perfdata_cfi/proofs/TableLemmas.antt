@@ -4,7 +4,7 @@ use Rattle.std.specs.List.Sorted.{IsPartitionPoint, IsNonDecreasingBy}
 use Rattle.std.proofs.lemmas.Bool.{cases_lt, leb-true, ltb-true, le-leb, lt-ltb, true≢false}
 use Rattle.std.proofs.lemmas.List.{get_or_default}
 use Rattle.perfdata_cfi.specs.Entries.{PieceAt}
-use Rattle.perfdata_cfi.specs.Tables.{Pieces, Reaches, IsNearest, IsCieIn, IsCieOf, IsFdeIn, IsFdeOf, FdesOf, NoFdeIn}
+use Rattle.perfdata_cfi.specs.Tables.{Pieces, Reaches, IsNearest, IsCieIn, IsCieOf, CiesOf, NoCieIn, IsFdeIn, IsFdeOf, FdesOf, NoFdeIn}
 use Rattle.perfdata_cfi.specs.declared.entry.FrameSection.{FrameSection}
 use Rattle.perfdata_cfi.specs.declared.entry.Entry.{Entry}
 use Rattle.perfdata_cfi.specs.declared.cie.Cie.{Cie}
@@ -26,6 +26,16 @@ fde_of_piece section address bytes at rest cies (Some e) f reached piece h =
 
 pub reaches_more : (section : FrameSection) (bytes at rest : List ℕ) (p : Option Entry) → Reaches section bytes at → PieceAt section (length bytes) at p rest → Reaches section bytes rest
 reaches_more section bytes at rest p reached piece = (reached.0 ++ p ∷ [], pieces_push section (length bytes) bytes at rest reached.0 p reached.1 piece)
+
+pub cies_skip : (ps : List (Option Entry)) (p : Option Entry) (cs : List Cie) → CiesOf ps cs → NoCieIn p → CiesOf (ps ++ p ∷ []) cs
+cies_skip [] p cs h none = inl (none, h)
+cies_skip (q ∷ ps) p cs (inl h) none = inl (h.0, cies_skip ps p cs h.1 none)
+cies_skip (q ∷ ps) p cs (inr t) none = inr (t.0, t.1, t.2, t.3, cies_skip ps p t.1 t.4 none)
+
+pub cies_push : (ps : List (Option Entry)) (p : Option Entry) (cs : List Cie) (c : Cie) → CiesOf ps cs → IsCieIn p c → CiesOf (ps ++ p ∷ []) (cs ++ c ∷ [])
+cies_push [] p cs c h is = inr (c, [], ap (λ (ds : List Cie). ds ++ c ∷ []) h, is, refl)
+cies_push (q ∷ ps) p cs c (inl h) is = inl (h.0, cies_push ps p cs c h.1 is)
+cies_push (q ∷ ps) p cs c (inr t) is = inr (t.0, t.1 ++ c ∷ [], ap (λ (ds : List Cie). ds ++ c ∷ []) t.2, t.3, cies_push ps p t.1 c t.4 is)
 
 pub fdes_skip : (address : ℕ) (cies : List Cie) (ps : List (Option Entry)) (p : Option Entry) (fs : List Fde) → FdesOf address cies ps fs → NoFdeIn address cies p → FdesOf address cies (ps ++ p ∷ []) fs
 fdes_skip address cies [] p fs h none = inl (none, h)

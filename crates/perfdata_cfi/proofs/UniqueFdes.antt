@@ -78,7 +78,7 @@ none_at_offset cies offset index up point other k d within is = elim (cases_lt k
   ]
 ]
 
-some_same : {A : Type 0} (x y : A) → Some x ≡ Some y → x ≡ y
+pub some_same : {A : Type 0} (x y : A) → Some x ≡ Some y → x ≡ y
 some_same {A} x y is = ap (λ (o : Option A). unwrap_or o x) is
 
 none_some : (n : ℕ) → None ≡ Some n → ⊥

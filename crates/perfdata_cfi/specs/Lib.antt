@@ -7,5 +7,6 @@ pub mod Instructions
 pub mod Numbers
 pub mod Pointers
 pub mod Rows
+pub mod Sections
 pub mod TableRows
 pub mod Tables

@@ -1,6 +1,6 @@
 -- The entries of a section, and the FDE at an address.
 use Rattle.std.specs.Prelude.{◌≡◌, ◌⊎◌, ℕ, ◌+◌, ◌<◌, ◌≤◌, List, [], ◌∷◌, length, Option, Some, None, true, slice_index_or, All}
-use Rattle.std.specs.List.Sorted.{IsStableByKey}
+use Rattle.std.specs.List.Sorted.{IsNonDecreasingBy, IsPermutation, IsStableByKey}
 use Rattle.std.specs.Ordering.{nat_cmp}
 use Rattle.perfdata_cfi.specs.Entries.{EntryAt, PieceAt, NoPiece}
 use Rattle.perfdata_cfi.specs.Cies.{CieAt}
@@ -46,6 +46,23 @@ IsFdeIn address cies (Some e) f = IsFde address cies e f
 abbrev pub NoFdeIn : ℕ → List Cie → Option Entry → Type 0
 NoFdeIn address cies p = (f : Fde) → IsFdeIn address cies p f → ⊥
 
+-- a piece is no CIE that can be used
+abbrev pub NoCieIn : Option Entry → Type 0
+NoCieIn p = (c : Cie) → IsCieIn p c → ⊥
+
+-- the CIEs of pieces, in their order: the pieces that are left out are no CIEs that can be used
+abbrev pub CiesOf : List (Option Entry) → List Cie → Type 0
+CiesOf [] cies = cies ≡ []
+CiesOf (p ∷ ps) cies = (NoCieIn p × CiesOf ps cies) ⊎ ((c : Cie) × (cs : List Cie) × (cies ≡ c ∷ cs) × IsCieIn p c × CiesOf ps cs)
+
+-- the CIEs of a section, in its order: those of all its pieces, after which the section ends or there is no piece
+pub record CiesOfSection (section : FrameSection) (bytes : List ℕ) (cies : List Cie) : Type 0 where
+  pub pieces : List (Option Entry)
+  pub rest : List ℕ
+  pub are : Pieces section (length bytes) bytes pieces rest
+  pub ends : (rest ≡ []) ⊎ NoPiece section (length bytes) rest
+  pub cies_are : CiesOf pieces cies
+
 -- the offset of each CIE is below those of the later ones
 abbrev pub AreRising : List Cie → Type 0
 AreRising cies = (i j : ℕ) (d : Cie) → i < j → j < length cies → (slice_index_or cies i d).offset < (slice_index_or cies j d).offset
@@ -71,7 +88,7 @@ pub record FdesOfSection (section : FrameSection) (address : ℕ) (bytes : List 
 
 -- the same, sorted by their first addresses; those with one first address keep their order
 abbrev pub SortedFdesOf : FrameSection → ℕ → List ℕ → List Cie → List Fde → Type 0
-SortedFdesOf section address bytes cies fdes = (fs : List Fde) × FdesOfSection section address bytes cies fs × IsStableByKey (λ (f : Fde). f.start) nat_cmp fs fdes
+SortedFdesOf section address bytes cies fdes = (fs : List Fde) × FdesOfSection section address bytes cies fs × IsNonDecreasingBy (λ (f : Fde). f.start) fdes × IsStableByKey (λ (f : Fde). f.start) nat_cmp fs fdes × IsPermutation fs fdes
 
 -- the FDE at the index is the first of those with the greatest first address up to the address
 pub record IsNearest (fdes : List Fde) (address index : ℕ) (f : Fde) : Type 0 where

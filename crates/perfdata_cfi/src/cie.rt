@@ -1,8 +1,10 @@
 //! Common information entries (CIE): what several FDEs share.
-ghost use Rattle.std.specs.Prelude.{◌≡◌, ◌≤◌, ◌<◌, length, true, false, IfOk, IfSome, is_some};
+ghost use Rattle.std.specs.Prelude.{◌≡◌, ◌≤◌, ◌<◌, length, true, false, IfOk, IfSome, OnErr, is_some};
 ghost use Rattle.perfdata_cfi.specs.Cies.{StringAt, SizesAt, ReturnAddressAt, PersonalityAt, letter_code};
 ghost use Rattle.perfdata_cfi.specs.Cies.{is_letter, LettersAt, LetterAt, AugmentationAt, VersionAt};
-ghost use Rattle.perfdata_cfi.specs.Cies.{CieAt, some_augmentation};
+ghost use Rattle.perfdata_cfi.specs.Cies.{CieAt, some_augmentation, NoString, NoSizes, NoReturnAddress};
+ghost use Rattle.perfdata_cfi.specs.Cies.{NoPersonality, NoLetter, NoLetters, NoAugmentation};
+ghost use Rattle.perfdata_cfi.specs.Cies.{NoVersion, NoCie};
 
 use crate::entry::Entry;
 use crate::error::CfiError;
@@ -43,6 +45,7 @@ pub struct Augmentation {
 // Reads the bytes before the first zero byte, and returns them with what follows that.
 fn read_string(bytes: &[u8]) -> Result<(&[u8], &[u8]), CfiError>
     ensures found { IfOk result (λ x. StringAt bytes.now x.0.now x.1.now) }
+    ensures none { OnErr result (NoString bytes.now) }
     ensures shorter { IfOk result (λ x. length x.1.now ≤ length bytes.now) }
 {
     match bytes.iter().position(|byte| *byte == 0) {
@@ -57,6 +60,7 @@ fn read_string(bytes: &[u8]) -> Result<(&[u8], &[u8]), CfiError>
 // Reads the sizes of an address and of a segment selector, which version 4 has.
 fn skip_sizes(version: u8, bytes: &[u8]) -> Result<&[u8], CfiError>
     ensures found { IfOk result (λ rest. SizesAt version bytes.now rest.now) }
+    ensures none { OnErr result (NoSizes version bytes.now) }
     ensures shorter { IfOk result (λ rest. length rest.now ≤ length bytes.now) }
 {
     if version != 4 {
@@ -75,7 +79,8 @@ fn skip_sizes(version: u8, bytes: &[u8]) -> Result<&[u8], CfiError>
 
 // Skips the encoding and the address of a personality routine.
 fn skip_personality(bytes: &[u8]) -> Result<&[u8], CfiError>
-    ensures { IfOk result (λ rest. PersonalityAt bytes.now rest.now) }
+    ensures found { IfOk result (λ rest. PersonalityAt bytes.now rest.now) }
+    ensures none { OnErr result (NoPersonality bytes.now) }
 {
     let (encoding, mid) = read_byte(bytes)?;
     if encoding == OMITTED {
@@ -121,7 +126,9 @@ fn read_letter<'a>(
     bytes: &'a [u8],
     augmentation: &mut Augmentation,
 ) -> Result<&'a [u8], CfiError>
-    ensures { IfOk result (λ rest. LetterAt letter bytes.now augmentation.old augmentation.new rest.now) }
+    ensures found { IfOk result (λ rest.
+        LetterAt letter bytes.now augmentation.old augmentation.new rest.now) }
+    ensures none { OnErr result (NoLetter letter bytes.now augmentation.old) }
 {
     match letter {
         Letter::Language => skip(bytes, 1),
@@ -141,7 +148,8 @@ fn read_letter<'a>(
 
 // What the letters after `z` say with the augmentation data, up to the first unknown letter.
 fn read_letters(letters: &[u8], block: &[u8]) -> Result<Augmentation, CfiError>
-    ensures { IfOk result (λ a. LettersAt letters.now block.now some_augmentation a) }
+    ensures found { IfOk result (λ a. LettersAt letters.now block.now some_augmentation a) }
+    ensures none { OnErr result (NoLetters letters.now block.now some_augmentation) }
 {
     let mut augmentation = Augmentation {
         has_data: true,
@@ -164,6 +172,7 @@ fn read_augmentation<'a>(
     bytes: &'a [u8],
 ) -> Result<(Augmentation, &'a [u8]), CfiError>
     ensures found { IfOk result (λ x. AugmentationAt string.now bytes.now x.0 x.1.now) }
+    ensures none { OnErr result (NoAugmentation string.now bytes.now) }
     ensures shorter { IfOk result (λ x. length x.1.now ≤ length bytes.now) }
 {
     match string {
@@ -187,6 +196,7 @@ fn read_augmentation<'a>(
 // Reads the number of the return address register, and returns it with the rest.
 fn read_return_address(version: u8, bytes: &[u8]) -> Result<(u64, &[u8]), CfiError>
     ensures found { IfOk result (λ x. ReturnAddressAt version bytes.now x.0 x.1.now) }
+    ensures none { OnErr result (NoReturnAddress version bytes.now) }
     ensures shorter { IfOk result (λ x. length x.1.now ≤ length bytes.now) }
 {
     if version == 1 {
@@ -200,6 +210,7 @@ fn read_return_address(version: u8, bytes: &[u8]) -> Result<(u64, &[u8]), CfiErr
 // Reads the version and the augmentation, and returns them with the rest.
 fn read_version(body: &[u8]) -> Result<(u8, &[u8], &[u8]), CfiError>
     ensures found { IfOk result (λ x. VersionAt body.now x.0 x.1.now x.2.now) }
+    ensures none { OnErr result (NoVersion body.now) }
     ensures shorter { IfOk result (λ x. length x.2.now ≤ length body.now) }
 {
     let (version, after_version) = read_byte(body)?;
@@ -214,7 +225,8 @@ fn read_version(body: &[u8]) -> Result<(u8, &[u8], &[u8]), CfiError>
 // Reads the CIE that an entry is.
 pub(crate) fn read_cie(entry: &Entry<'_>) -> Result<Cie, CfiError>
     requires { length entry.now.body.now ≤ entry.now.end }
-    ensures { IfOk result (λ c. CieAt entry.now c) }
+    ensures found { IfOk result (λ c. CieAt entry.now c) }
+    ensures none { OnErr result (NoCie entry.now) }
 {
     let (version, string, after_sizes) = read_version(entry.body)?;
     let (code_factor, after_code) = read_uleb128(after_sizes)?;

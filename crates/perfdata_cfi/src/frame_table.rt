@@ -3,7 +3,8 @@ ghost use Rattle.std.specs.Prelude.{◌≡◌, ◌≢◌, ◌≤◌, ◌<◌, le
 ghost use Rattle.std.specs.Prelude.{slice_range, IfOk, IfErr, IfSome, IfNone, All};
 ghost use Rattle.std.specs.Prelude.{Some, None};
 ghost use Rattle.perfdata_cfi.specs.declared.error.CfiError.TheVariants as errors;
-ghost use Rattle.perfdata_cfi.specs.Tables.{IsCieOf, IsFdeOf, IsFdeAt, SortedFdesOf};
+ghost use Rattle.perfdata_cfi.specs.Tables.{IsCieOf, IsFdeOf, IsFdeAt, CiesOfSection, SortedFdesOf};
+ghost use Rattle.perfdata_cfi.specs.Sections.{AreFew};
 ghost use Rattle.perfdata_cfi.specs.TableRows.{IsKept, IsWithin};
 
 use crate::cie::Cie;
@@ -63,9 +64,11 @@ impl FrameTable {
         bytes: Vec<u8>,
     ) -> Result<FrameTable, AllocError>
         ensures cies { IfOk result (λ t. All (IsCieOf section bytes.items) (cies_of t)) }
+        ensures cies_in_order { IfOk result (λ t. CiesOfSection section bytes.items (cies_of t)) }
         ensures fdes { IfOk result (λ t. All (IsFdeOf section address bytes.items (cies_of t)) (fdes_of t)) }
         ensures in_order { IfOk result (λ t. SortedFdesOf section address bytes.items (cies_of t)
             (fdes_of t)) }
+        ensures few { IfOk result (λ t. AreFew bytes.items (cies_of t) (fdes_of t)) }
         ensures bytes { IfOk result (λ t. bytes_of t ≡ bytes.items) }
     {
         let table = EntryTable::new(alloc, machine, section, address, bytes)?;

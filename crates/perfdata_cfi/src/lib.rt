@@ -12,6 +12,7 @@ mod error;
 mod fde;
 mod frame_table;
 mod instruction;
+pub mod laws;
 mod numbers;
 mod pointers;
 mod program;

@@ -5,7 +5,7 @@ ghost use Rattle.std.specs.Prelude.{IfSome, OnOk, All, Some, false, nat_le, nat_
 ghost use Rattle.std.specs.List.Sorted.{IsNonDecreasingBy, IsPartitionPoint, IsPermutation, IsStableByKey};
 ghost use Rattle.std.specs.Ordering.{nat_cmp};
 ghost use Rattle.perfdata_cfi.specs.Tables.{IsCieIn, IsCieOf, IsFdeIn, IsFdeOf, IsFdeAt, FdesOfSection};
-ghost use Rattle.perfdata_cfi.specs.Tables.{SortedFdesOf, AreRising, NoFdeIn};
+ghost use Rattle.perfdata_cfi.specs.Tables.{SortedFdesOf, AreRising, NoFdeIn, NoCieIn, CiesOfSection};
 ghost use Rattle.perfdata_cfi.specs.Fdes.{IsFde};
 
 use crate::cie::{Cie, read_cie};
@@ -55,6 +55,7 @@ impl EntryTable {
         bytes: Vec<u8>,
     ) -> Result<EntryTable, AllocError>
         ensures cies { IfOk result (λ t. All (IsCieOf section bytes.items) t.cies.items) }
+        ensures cies_in_order { IfOk result (λ t. CiesOfSection section bytes.items t.cies.items) }
         ensures fdes { IfOk result (λ t.
             All (IsFdeOf section address bytes.items t.cies.items) t.fdes.items) }
         ensures in_order { IfOk result (λ t. SortedFdesOf section address bytes.items t.cies.items
@@ -184,19 +185,36 @@ impl EntryTable {
 }
 
 // The CIE that an entry is, if it can be used.
+fn cie_of_entry(entry: &Entry<'_>) -> Option<Cie>
+    requires { length entry.now.body.now ≤ entry.now.end }
+    ensures found { IfSome result (λ c. IsCieIn (Some entry.now) c) }
+    ensures none { IfNone result (NoCieIn (Some entry.now)) }
+{
+    if !entry.is_cie {
+        return None;
+    }
+    match read_cie(entry) {
+        Ok(cie) => Some(cie),
+        Err(_) => None,
+    }
+}
+
+// The CIE that a piece is, if it can be used.
 fn cie_of(entry: &Option<Entry<'_>>) -> Option<Cie>
     requires { IfSome entry.now (λ e. length e.body.now ≤ e.end) }
-    ensures { IfSome result (λ c. IsCieIn entry.now c) }
+    ensures found { IfSome result (λ c. IsCieIn entry.now c) }
+    ensures none { IfNone result (NoCieIn entry.now) }
 {
     match entry {
-        Some(entry) if entry.is_cie => read_cie(entry).ok(),
-        _ => None,
+        Some(entry) => cie_of_entry(entry),
+        None => None,
     }
 }
 
 // The CIEs of a section that can be used.
 fn read_cies(alloc: Global, section: FrameSection, bytes: &[u8]) -> Result<Vec<Cie>, AllocError>
     ensures all { IfOk result (λ cies. All (IsCieOf section bytes.now) cies.items) }
+    ensures in_order { IfOk result (λ cies. CiesOfSection section bytes.now cies.items) }
     ensures rising { IfOk result (λ cies. AreRising cies.items) }
 {
     let mut cies = Vec::new(alloc);

@@ -3,6 +3,9 @@ use Rattle.perfdata_cfi.specs.Cies.{LettersAt, some_augmentation}
 use Rattle.perfdata_cfi.specs.declared.cie.Augmentation.{Augmentation}
 use Rattle.perfdata_cfi.proofs.cie.read_letters.Given as goal
 
--- whatever the remaining letters say after the ones read, all letters say
+-- what the remaining letters say after the ones read, all letters say, and the other way round
 abbrev pub invariant-letters : goal.invariant-letters
-invariant-letters l = (a : Augmentation) → LettersAt (drop l.byte-index l.letters) l.rest l.augmentation a → LettersAt l.letters l.block some_augmentation a
+invariant-letters l = record {
+  leads : (a : Augmentation) → LettersAt (drop l.byte-index l.letters) l.rest l.augmentation a → LettersAt l.letters l.block some_augmentation a;
+  follows : (a : Augmentation) → LettersAt l.letters l.block some_augmentation a → LettersAt (drop l.byte-index l.letters) l.rest l.augmentation a;
+}
