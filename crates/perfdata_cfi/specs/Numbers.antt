@@ -1,5 +1,5 @@
 -- Numbers at the start of some bytes: of a fixed size, and LEB128 (DWARF 5, section 7.6).
-use Rattle.std.specs.Prelude.{◌≡◌, ℕ, ◌+◌, ◌-◌, ◌*◌, ◌%◌, ◌<◌, ◌≤◌, List, [], ◌∷◌, length, take, drop, slice_index}
+use Rattle.std.specs.Prelude.{◌≡◌, ◌⊎◌, All, ℕ, ◌+◌, ◌-◌, ◌*◌, ◌%◌, ◌<◌, ◌≤◌, List, [], ◌∷◌, length, take, drop, slice_index}
 use Rattle.std.specs.Prelude.{ℤ, pos, ◌+ℤ◌, ◌-ℤ◌, ◌*ℤ◌, if◌then◌else◌, nat_lt, ◌^◌, FitsSigned}
 use Rattle.std.specs.Int.{w64}
 
@@ -58,6 +58,21 @@ NoUleb128 bytes = (n : ℕ) (rest : List ℕ) → Uleb128At bytes n rest → ⊥
 
 abbrev pub NoSleb128 : List ℕ → Type 0
 NoSleb128 bytes = (n : ℤ) (rest : List ℕ) → Sleb128At bytes n rest → ⊥
+
+-- the bytes end in a LEB128 number: each of them, at most 10, is at least 128
+abbrev pub EndsInLeb128 : List ℕ → Type 0
+EndsInLeb128 bytes = (length bytes ≤ 10) × All (λ b. 128 ≤ b) bytes
+
+-- they start with one of more than 10 bytes
+abbrev pub IsLongLeb128 : List ℕ → Type 0
+IsLongLeb128 bytes = (10 < length bytes) × ((k : ℕ) → k < 10 → 128 ≤ slice_index bytes k)
+
+-- they start with one that has more than 10 bytes or doesn't fit 64 bits
+abbrev pub IsLargeUleb128 : List ℕ → Type 0
+IsLargeUleb128 bytes = IsLongLeb128 bytes ⊎ ((size : ℕ) × IsLeb128 size bytes × (2 ^ 64 ≤ uleb128_value (take size bytes)))
+
+abbrev pub IsLargeSleb128 : List ℕ → Type 0
+IsLargeSleb128 bytes = IsLongLeb128 bytes ⊎ ((size : ℕ) × IsLeb128 size bytes × (FitsSigned w64 (sleb128_value (take size bytes)) → ⊥))
 
 -- the bytes start with an unsigned LEB128 number and a block of that number of bytes
 pub record BlockAt (bytes block rest : List ℕ) : Type 0 where

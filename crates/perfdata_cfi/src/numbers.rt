@@ -1,9 +1,12 @@
 //! Numbers of fixed size and LEB128 numbers, at the start of some bytes.
 ghost use Rattle.std.specs.Prelude.{◌≡◌, ◌≤◌, ◌<◌, ◌+◌, ◌*◌, ◌%◌, ◌^◌, [], ◌∷◌, length, drop};
-ghost use Rattle.std.specs.Prelude.{pos, ◌+ℤ◌, ◌*ℤ◌, IfOk, IfSome, OnErr, IfNone, SomeIff, FitsSigned};
+ghost use Rattle.std.specs.Prelude.{pos, ◌+ℤ◌, ◌*ℤ◌, ◌⊎◌, IfOk, IfErr, IfSome, OnErr, IfNone, SomeIff};
+ghost use Rattle.std.specs.Prelude.{FitsSigned};
 ghost use Rattle.std.specs.Int.{w64};
 ghost use Rattle.perfdata_cfi.specs.Numbers.{fixed_value, FixedAt, IsLeb128, Uleb128At, Sleb128At, BlockAt};
-ghost use Rattle.perfdata_cfi.specs.Numbers.{NoLeb128, NoUleb128, NoSleb128, NoBlock};
+ghost use Rattle.perfdata_cfi.specs.Numbers.{NoLeb128, NoUleb128, NoSleb128, NoBlock, EndsInLeb128};
+ghost use Rattle.perfdata_cfi.specs.Numbers.{IsLongLeb128, IsLargeUleb128, IsLargeSleb128};
+ghost use Rattle.perfdata_cfi.specs.declared.error.CfiError.TheVariants as errors;
 ghost use Rattle.perfdata_cfi.specs.Numbers.{uleb128_value as uleb128, sleb128_value as sleb128};
 
 use crate::error::CfiError;
@@ -43,6 +46,7 @@ pub fn read_fixed(bytes: &[u8], size: usize) -> Result<(u64, &[u8]), CfiError>
     requires { size ≤ 8 }
     ensures found { IfOk result (λ x. FixedAt size bytes.now x.0 x.1.now) }
     ensures none { OnErr result (length bytes.now < size) }
+    ensures error { IfErr result (λ e. e ≡ errors.Truncated) }
     ensures shorter { IfOk result (λ x. length x.1.now ≤ length bytes.now) }
 {
     if bytes.len() < size {
@@ -81,6 +85,9 @@ pub(crate) fn skip(bytes: &[u8], size: usize) -> Result<&[u8], CfiError>
 fn leb128_size(bytes: &[u8]) -> Result<usize, CfiError>
     ensures found { IfOk result (λ size. IsLeb128 size bytes.now) }
     ensures none { OnErr result (NoLeb128 bytes.now) }
+    ensures named { IfErr result (λ e. (e ≡ errors.Truncated) ⊎ (e ≡ errors.Leb128)) }
+    ensures truncated { IfErr result (λ e. e ≡ errors.Truncated → EndsInLeb128 bytes.now) }
+    ensures long { IfErr result (λ e. e ≡ errors.Leb128 → IsLongLeb128 bytes.now) }
 {
     'bytes: for (index, byte) in bytes.iter().enumerate() {
         if index == MAX_LEB128_SIZE {
@@ -161,6 +168,9 @@ fn sleb128_value(bytes: &[u8]) -> Option<i64>
 pub fn read_uleb128(bytes: &[u8]) -> Result<(u64, &[u8]), CfiError>
     ensures found { IfOk result (λ x. Uleb128At bytes.now x.0 x.1.now) }
     ensures none { OnErr result (NoUleb128 bytes.now) }
+    ensures named { IfErr result (λ e. (e ≡ errors.Truncated) ⊎ (e ≡ errors.Leb128)) }
+    ensures truncated { IfErr result (λ e. e ≡ errors.Truncated → EndsInLeb128 bytes.now) }
+    ensures large { IfErr result (λ e. e ≡ errors.Leb128 → IsLargeUleb128 bytes.now) }
     ensures shorter { IfOk result (λ x. length x.1.now < length bytes.now) }
 {
     let size = leb128_size(bytes)?;
@@ -178,6 +188,9 @@ pub fn read_uleb128(bytes: &[u8]) -> Result<(u64, &[u8]), CfiError>
 pub fn read_sleb128(bytes: &[u8]) -> Result<(i64, &[u8]), CfiError>
     ensures found { IfOk result (λ x. Sleb128At bytes.now x.0 x.1.now) }
     ensures none { OnErr result (NoSleb128 bytes.now) }
+    ensures named { IfErr result (λ e. (e ≡ errors.Truncated) ⊎ (e ≡ errors.Leb128)) }
+    ensures truncated { IfErr result (λ e. e ≡ errors.Truncated → EndsInLeb128 bytes.now) }
+    ensures large { IfErr result (λ e. e ≡ errors.Leb128 → IsLargeSleb128 bytes.now) }
     ensures shorter { IfOk result (λ x. length x.1.now < length bytes.now) }
 {
     let size = leb128_size(bytes)?;
