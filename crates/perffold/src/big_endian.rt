@@ -1,11 +1,14 @@
 //! Recordings of big-endian machines. Their compilers make flag n of an attribute bit 63 - n of the word,
 //! where the reader doesn't see SAMPLE_ID_ALL: it knows the times of samples alone.
 
+use crate::records::Source;
 use bitflags::Flags;
 use linux_perf_data::attr::PerfEventAttr;
-use linux_perf_data::in_memory::InMemoryRecords;
-use linux_perf_data::raw::Endianness;
-use linux_perf_data::{Error, PerfFile, PerfFileRecord, RecordPlace, UserRecordType};
+use linux_perf_data::event::RawEventRecord;
+use linux_perf_data::raw::{Endianness, RawData};
+use linux_perf_data::{
+    Error, PerfFile, PerfFileRecord, PerfRecordIter, RawUserRecord, RecordPlace, UserRecordType,
+};
 use perfdata_events::bits::EventFlags;
 use perfdata_events::format::EventFormat;
 use perfdata_events::formats::EventFormats;
@@ -34,12 +37,23 @@ pub(crate) fn find_format<'a>(
     Ok(formats.get(index))
 }
 
+// A record without its body, and a copy of the body.
+#[derive(Drop)]
+struct HeldRecord {
+    place: RecordPlace,
+    record: PerfFileRecord<'static>,
+    body: Vec<u8>,
+}
+
 /// The records of a big-endian machine, in order of time. Those without a time come where they are read.
 #[derive(Drop)]
-pub(crate) struct BigEndianRecords<'a> {
-    records: InMemoryRecords<'a>,
+pub(crate) struct BigEndianRecords {
+    alloc: Global,
+    records: PerfRecordIter<Source>,
     formats: EventFormats,
-    sorter: Sorter<u64, (RecordPlace, PerfFileRecord<'a>)>,
+    sorter: Sorter<u64, HeldRecord>,
+    /// The record that was returned last.
+    returned: Option<HeldRecord>,
     has_ended: bool,
     /// The error at the end of the records.
     failure: Option<Error>,
@@ -55,66 +69,125 @@ fn ends_round(record: &PerfFileRecord<'_>) -> bool {
     }
 }
 
-impl<'a> BigEndianRecords<'a> {
-    pub(crate) fn new(alloc: Global, records: InMemoryRecords<'a>) -> BigEndianRecords<'a> {
+// Returns a record with another body.
+fn with_body<'a>(record: &PerfFileRecord<'_>, body: &'a [u8]) -> PerfFileRecord<'a> {
+    let body = RawData::Single(body);
+    match record {
+        PerfFileRecord::EventRecord { attr_index, event } => PerfFileRecord::EventRecord {
+            attr_index: *attr_index,
+            event: RawEventRecord {
+                record_type: event.record_type,
+                misc: event.misc,
+                body,
+                parse_info: event.parse_info,
+            },
+        },
+        PerfFileRecord::UserRecord(user) => PerfFileRecord::UserRecord(RawUserRecord {
+            record_type: user.record_type,
+            endian: user.endian,
+            misc: user.misc,
+            body,
+        }),
+    }
+}
+
+// Returns the time of a record, if it has one. 0 and 2^64 - 1 stand for no time.
+fn time_of(
+    formats: &mut EventFormats,
+    perf_file: &PerfFile,
+    record: &PerfFileRecord<'_>,
+) -> Result<Option<u64>, AllocError> {
+    let PerfFileRecord::EventRecord { attr_index, event } = record else {
+        return Ok(None);
+    };
+    let Some(format) = find_format(formats, perf_file, *attr_index)? else {
+        return Ok(None);
+    };
+    match format.sample_id(event) {
+        Ok(id) => Ok(id.timestamp.filter(|time| *time != 0 && *time != u64::MAX)),
+        Err(_) => Ok(None),
+    }
+}
+
+impl HeldRecord {
+    // Copies a record.
+    fn of(
+        alloc: Global,
+        place: RecordPlace,
+        record: &PerfFileRecord<'_>,
+    ) -> Result<HeldRecord, AllocError> {
+        let mut body = Vec::new(alloc);
+        record.body().append_to(&mut body)?;
+        Ok(HeldRecord {
+            place,
+            record: with_body(record, &[]),
+            body,
+        })
+    }
+}
+
+impl BigEndianRecords {
+    pub(crate) fn new(alloc: Global, records: PerfRecordIter<Source>) -> BigEndianRecords {
         BigEndianRecords {
+            alloc,
             records,
             formats: EventFormats::new(alloc),
             sorter: Sorter::new(alloc),
+            returned: None,
             has_ended: false,
             failure: None,
         }
     }
 
-    // Returns the time of a record, if it has one. 0 and 2^64 - 1 stand for no time.
-    fn time_of(
+    // Ends all rounds.
+    fn finish(&mut self) -> Result<(), AllocError> {
+        self.sorter.finish()?;
+        self.has_ended = true;
+        Ok(())
+    }
+
+    // Holds a record. Returns it if it has no time.
+    fn hold(
         &mut self,
-        perf_file: &PerfFile,
-        record: &PerfFileRecord<'_>,
-    ) -> Result<Option<u64>, AllocError> {
-        let PerfFileRecord::EventRecord { attr_index, event } = record else {
-            return Ok(None);
-        };
-        let Some(format) = find_format(&mut self.formats, perf_file, *attr_index)? else {
-            return Ok(None);
-        };
-        match format.sample_id(event) {
-            Ok(id) => Ok(id.timestamp.filter(|time| *time != 0 && *time != u64::MAX)),
-            Err(_) => Ok(None),
+        held: HeldRecord,
+        time: Option<u64>,
+    ) -> Result<Option<HeldRecord>, AllocError> {
+        match time {
+            Some(time) => match self.sorter.insert_unordered(time, held) {
+                Ok(()) => Ok(None),
+                Err(_) => Err(AllocError),
+            },
+            None => {
+                if ends_round(&held.record) {
+                    self.sorter.finish_round()?;
+                }
+                Ok(Some(held))
+            }
         }
     }
 
     // Reads the next record. Returns it if it has no time.
-    fn read_next(
-        &mut self,
-        perf_file: &mut PerfFile,
-    ) -> Result<Option<(RecordPlace, PerfFileRecord<'a>)>, Error> {
+    fn read_next(&mut self, perf_file: &mut PerfFile) -> Result<Option<HeldRecord>, Error> {
         match self.records.next_record(perf_file) {
             Ok(Some((place, record))) => {
-                let Some(time) = self.time_of(perf_file, &record)? else {
-                    if ends_round(&record) {
-                        self.sorter.finish_round()?;
-                    }
-                    return Ok(Some((place, record)));
-                };
-                if self.sorter.insert_unordered(time, (place, record)).is_err() {
-                    return Err(Error::Memory);
-                }
-                return Ok(None);
+                let time = time_of(&mut self.formats, perf_file, &record)?;
+                let held = HeldRecord::of(self.alloc, place, &record)?;
+                Ok(self.hold(held, time)?)
             }
-            Ok(None) => {}
-            Err(error) => self.failure = Some(error),
+            Ok(None) => {
+                self.finish()?;
+                Ok(None)
+            }
+            Err(error) => {
+                self.failure = Some(error);
+                self.finish()?;
+                Ok(None)
+            }
         }
-        self.sorter.finish()?;
-        self.has_ended = true;
-        Ok(None)
     }
 
-    /// Returns the next record, or `None` at the end. An error of the records comes after those before it.
-    pub(crate) fn next_record(
-        &mut self,
-        perf_file: &mut PerfFile,
-    ) -> Result<Option<(RecordPlace, PerfFileRecord<'a>)>, Error> {
+    // Takes the next record, or `None` at the end. An error of the records comes after those before it.
+    fn take_next(&mut self, perf_file: &mut PerfFile) -> Result<Option<HeldRecord>, Error> {
         for _ in 0..u64::MAX {
             if let Some(next) = self.sorter.get_next() {
                 return Ok(Some(next));
@@ -128,6 +201,18 @@ impl<'a> BigEndianRecords<'a> {
         }
         match self.failure.take() {
             Some(error) => Err(error),
+            None => Ok(None),
+        }
+    }
+
+    /// Returns the next record, or `None` at the end. An error of the records comes after those before it.
+    pub(crate) fn next_record(
+        &mut self,
+        perf_file: &mut PerfFile,
+    ) -> Result<Option<(RecordPlace, PerfFileRecord<'_>)>, Error> {
+        self.returned = self.take_next(perf_file)?;
+        match &self.returned {
+            Some(held) => Ok(Some((held.place, with_body(&held.record, held.body.as_slice())))),
             None => Ok(None),
         }
     }

@@ -185,7 +185,7 @@ impl<'a> SampleCounter<'a> {
     // Adds the next record. Returns whether there is one.
     fn add_next(
         &mut self,
-        records: &mut Records<'_>,
+        records: &mut Records,
         perf_file: &mut PerfFile,
     ) -> Result<bool, InputError> {
         match records.next_record(perf_file) {
@@ -205,7 +205,7 @@ impl<'a> SampleCounter<'a> {
     /// Adds all records.
     pub(crate) fn add_all(
         &mut self,
-        records: &mut Records<'_>,
+        records: &mut Records,
         perf_file: &mut PerfFile,
     ) -> Result<(), InputError> {
         for _ in 0..u64::MAX {

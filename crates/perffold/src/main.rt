@@ -19,7 +19,7 @@ mod top;
 mod unwinding;
 
 use counter::SampleCounter;
-use linux_perf_data::in_memory::InMemoryReader;
+use linux_perf_data::{Error, PerfFileReader};
 use options::{Arguments, Options, OutputFormat, parse};
 use output::{
     FoldError, detail_of, format_of, is_for_terminal, print_notes, weight_in, write_counted,
@@ -28,22 +28,51 @@ use perfdata_cli::command_line::{
     SUCCESS, USAGE_ERROR, arguments, print_argument_error, print_clap_error,
 };
 use perfdata_cli::error::{InputError, ProgramError, print_error};
-use perfdata_cli::input::{Input, display_name, open_in_memory, path_of};
-use records::Records;
+use perfdata_cli::input::{Input, display_name, path_of};
+use records::{Records, Source};
 use resolver::FrameResolver;
 use std::alloc::Global;
+use std::io::ErrorKind;
 use std::process::ExitCode;
 use symbols::directories::PathError;
 
 // The program's name.
 const NAME: &str = "perffold";
 
-// Reads the input at a path into memory. Returns whether it is a pipe, and its bytes.
-fn read_input(rt: &HostRuntime, path: &str) -> Result<(bool, Vec<u8>), InputError> {
+// The system's number of an invalid argument, such as an offset.
+const EINVAL: i32 = 22;
+
+// Returns the error of an opening. What an offset names that the system can't seek to, since no file is so
+// large, is missing.
+fn opening_error(error: Error) -> InputError {
+    match error {
+        Error::IoError(cause) if cause.raw_os_error() == Some(EINVAL) => {
+            InputError::Metadata(Error::IoError(ErrorKind::UnexpectedEof.into()))
+        }
+        error => InputError::Metadata(error),
+    }
+}
+
+// Opens a pipe or a perf.data file. Fails with `Metadata` if its metadata can't be read.
+fn open_source(
+    alloc: Global,
+    source: Source,
+    is_pipe: bool,
+) -> Result<PerfFileReader<Source>, InputError> {
+    let opened = if is_pipe {
+        PerfFileReader::parse_pipe(alloc, source)
+    } else {
+        PerfFileReader::parse_file(alloc, source)
+    };
+    opened.map_err(opening_error)
+}
+
+// Opens the input at a path.
+fn open_input(rt: &HostRuntime, path: &str) -> Result<PerfFileReader<Source>, InputError> {
     let input = Input::open(rt, path).map_err(InputError::Io)?;
     let is_pipe = input.is_pipe()?;
-    let bytes = input.into_bytes().map_err(InputError::Io)?;
-    Ok((is_pipe, bytes))
+    let source = input.into_source(rt.alloc()).map_err(InputError::Io)?;
+    open_source(rt.alloc(), source, is_pipe)
 }
 
 // Opens what the options name frames by, with what a format needs.
@@ -81,11 +110,11 @@ fn fold_records<'a>(
     rt: &HostRuntime,
     arguments: &Arguments<'a>,
     format: OutputFormat,
-    reader: InMemoryReader<'_>,
+    reader: PerfFileReader<Source>,
     resolver: FrameResolver<'a>,
 ) -> Result<(), FoldError<'a>> {
     let mut perf_file = reader.perf_file;
-    let mut records = Records::new(rt.alloc(), &perf_file, reader.records);
+    let mut records = Records::new(rt.alloc(), &perf_file, reader.record_iter);
     let mut counter = counter_for(rt.alloc(), &arguments.options, format, resolver);
     let read = counter.add_all(&mut records, &mut perf_file);
     let counted = counter.finish();
@@ -103,8 +132,7 @@ fn fold<'a>(
 ) -> Result<(), FoldError<'a>> {
     let format = format_of(rt, arguments);
     let resolver = open_resolver(rt, &arguments.options, format)?;
-    let (is_pipe, bytes) = read_input(rt, path)?;
-    let reader = open_in_memory(rt.alloc(), &bytes, is_pipe)?;
+    let reader = open_input(rt, path)?;
     fold_records(rt, arguments, format, reader, resolver)
 }
 

@@ -2,22 +2,26 @@
 
 use crate::big_endian::{BigEndianRecords, flags_of};
 use bitflags::Flags;
-use linux_perf_data::in_memory::InMemoryRecords;
 use linux_perf_data::raw::Endianness;
-use linux_perf_data::{Error, PerfFile, PerfFileRecord, RecordPlace};
+use linux_perf_data::{Error, PerfFile, PerfFileRecord, PerfRecordIter, RecordPlace};
+use perfdata_base::source::CountedBuffer;
+use perfdata_cli::input_bytes::InputBytes;
 use perfdata_events::bits::EventFlags;
-use perfdata_order::in_memory::InMemoryOrderedRecords;
+use perfdata_order::streaming::OrderedRecords;
 use std::alloc::Global;
+
+/// The bytes of an input in a buffer.
+pub(crate) type Source = CountedBuffer<InputBytes>;
 
 /// The records of a recording.
 #[derive(Drop)]
-pub(crate) enum Records<'a> {
+pub(crate) enum Records {
     /// In order of time.
-    Ordered(InMemoryOrderedRecords<'a>),
+    Ordered(OrderedRecords<Source>),
     /// Those of a big-endian machine, in order of time.
-    BigEndian(BigEndianRecords<'a>),
+    BigEndian(BigEndianRecords),
     /// In the order of the input.
-    InInputOrder(InMemoryRecords<'a>),
+    InInputOrder(PerfRecordIter<Source>),
 }
 
 // Returns whether the records that aren't samples have times.
@@ -31,16 +35,16 @@ fn has_times(perf_file: &PerfFile) -> bool {
     false
 }
 
-impl<'a> Records<'a> {
+impl Records {
     /// Returns the records in order of time or, if only samples have times, in the order of the input.
     pub(crate) fn new(
         alloc: Global,
         perf_file: &PerfFile,
-        records: InMemoryRecords<'a>,
-    ) -> Records<'a> {
+        records: PerfRecordIter<Source>,
+    ) -> Records {
         match (has_times(perf_file), perf_file.endian()) {
             (true, Endianness::LittleEndian) => {
-                Records::Ordered(InMemoryOrderedRecords::new(alloc, records))
+                Records::Ordered(OrderedRecords::new(alloc, records))
             }
             (true, Endianness::BigEndian) => {
                 Records::BigEndian(BigEndianRecords::new(alloc, records))
@@ -53,7 +57,7 @@ impl<'a> Records<'a> {
     pub(crate) fn next_record(
         &mut self,
         perf_file: &mut PerfFile,
-    ) -> Result<Option<(RecordPlace, PerfFileRecord<'a>)>, Error> {
+    ) -> Result<Option<(RecordPlace, PerfFileRecord<'_>)>, Error> {
         match self {
             Records::Ordered(records) => records.next_record(perf_file),
             Records::BigEndian(records) => records.next_record(perf_file),
