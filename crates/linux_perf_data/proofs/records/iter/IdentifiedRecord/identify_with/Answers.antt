@@ -22,7 +22,7 @@ returns-in-Some-only-clause-identifies c =
       record_type = refl;
       kernel_type = λ index is. kernel;
       matches = λ order attrs k.
-          kernel_found order attrs c.args.offset c.args.round kind c.args.header.misc body (event_at lookup 0) c.time_of.result (resolves_one order lookup attrs kind body k kernel (ap length only)) (c.time_of.ensures ∙ ap (λ p. time_of p kind body) (sym is));
+          kernel_found order attrs c.args.offset c.args.round kind c.args.header.misc body (event_at lookup 0) c.time_of-time.result (resolves_one order lookup attrs kind body k kernel (ap length only)) (c.time_of-time.ensures ∙ ap (λ p. time_of p kind body) (sym is));
     }
 
 pub returns-in-None-only-clause-identifies : goal.returns-in-None-only-clause-identifies
@@ -37,5 +37,5 @@ returns-in-None-only-clause-identifies c =
       record_type = refl;
       kernel_type = λ index is. kernel;
       matches = λ order attrs k.
-          kernel_found order attrs c.args.offset c.args.round kind c.args.header.misc body event c.time_of-time.result (c.attr_index_of-index.ensures.resolves order attrs k kernel) (c.time_of-time.ensures ∙ ap (λ p. time_of p kind body) c.parse_info_of.ensures);
+          kernel_found order attrs c.args.offset c.args.round kind c.args.header.misc body event c.time_of-time-in-None-only.result (c.attr_index_of-index.ensures.resolves order attrs k kernel) (c.time_of-time-in-None-only.ensures ∙ ap (λ p. time_of p kind body) c.parse_info_of.ensures);
     }
