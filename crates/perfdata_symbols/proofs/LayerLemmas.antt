@@ -1,6 +1,6 @@
 -- Lists of layers that grow at their ends.
 use Rattle.std.proofs.Common.{◌≡◌, ℕ, ◌+◌, ◌-◌, ◌<◌, ◌≤◌, List, [], ◌∷◌, ◌++◌, length, take, get_or, set, refl, sym, ◌∙◌, ap, arith, Option, None}
-use Rattle.std.proofs.lemmas.List.{take_more, take_more_set, take_all}
+use Rattle.std.proofs.lemmas.List.{take_more, take_more_set, take_all, length-set}
 use Rattle.perfdata_symbols.specs.Cuts.{later_of}
 use Rattle.perfdata_symbols.specs.Layer.{symbol_in, symbol_in_layers, symbol_in_layers_from}
 use Rattle.perfdata_symbols.specs.declared.layer.Layer.{Layer}
@@ -51,3 +51,16 @@ layers-merge_last ls n a b m x two all is_a is_b same =
     ∙ sym (layers-more ls (n - 1) b x second is_b)
     ∙ ap (λ k. symbol_in_layers (take k ls) x) (sym both)
     ∙ ap (λ ks. symbol_in_layers ks x) whole
+
+-- the last layer replaced by one with one more symbol
+pub layers-replace_last : (ls : List Layer) (n : ℕ) (a m : Layer) (o : Option ℕ) (x : ℕ) → 0 < length ls → n ≡ length ls - 1 → a ≡ get_or ls n a
+    → symbol_in m x ≡ later_of (symbol_in a x) o → symbol_in_layers (set ls n m) x ≡ later_of (symbol_in_layers ls x) o
+layers-replace_last ls n a m o x some at is same =
+    let lt : n < length ls = omega (arith, some, at) in
+    let whole : take (n + 1) ls ≡ ls = take_all (n + 1) ls (omega (arith, at)) in
+    let whole_set : take (n + 1) (set ls n m) ≡ set ls n m = take_all (n + 1) (set ls n m) (omega (arith, at, length-set ls n m)) in
+    ap (λ ks. symbol_in_layers ks x) (sym whole_set ∙ take_more_set ls n m lt)
+    ∙ layers-push (take n ls) m x
+    ∙ ap (λ s. later_of (symbol_in_layers (take n ls) x) s) same
+    ∙ sym (later_of-assoc (symbol_in_layers (take n ls) x) (symbol_in a x) o)
+    ∙ ap (λ s. later_of s o) (sym (layers-more ls n a x lt is) ∙ ap (λ ks. symbol_in_layers ks x) whole)

@@ -1,3 +1,4 @@
+pub mod AppendLemmas
 pub mod ArmPltLemmas
 pub mod CrcLemmas
 pub mod CutLemmas

@@ -1,7 +1,7 @@
 //! Layers of symbols, as cuts of the address space.
-ghost use Rattle.std.specs.Prelude.{◌≡◌, ◌<◌, ◌^◌, ℕ, if◌then◌else◌, IfOk, Some, None};
+ghost use Rattle.std.specs.Prelude.{◌≡◌, ◌<◌, ◌^◌, ◌&&◌, ℕ, if◌then◌else◌, IfOk, IfSome, OnErr, Some, None};
 ghost use Rattle.std.specs.List.Sorted.{IsNonDecreasingBy};
-ghost use Rattle.perfdata_symbols.specs.Cuts.{covers, later_of};
+ghost use Rattle.perfdata_symbols.specs.Cuts.{covers, later_of, IsAppendPoint};
 
 use crate::cuts::Cut;
 use crate::overlay::overlay;
@@ -49,6 +49,35 @@ impl Layer {
         }
     }
 
+    // Puts a symbol over all others and returns `true`, if its two cuts are the last ones then. Otherwise
+    // returns `false` and changes nothing. A symbol of size 0 needs no cuts.
+    pub(crate) fn append(&mut self, index: usize, start: u64, size: u64) -> Result<bool, AllocError>
+        ensures ok { IfOk result (λ appended. (x : ℕ) → symbol_in self.new x
+            ≡ later_of (symbol_in self.old x) (if appended && covers start size x then Some index else None)) }
+        ensures err { OnErr result ((x : ℕ) → symbol_in self.new x ≡ symbol_in self.old x) }
+    {
+        if size == 0 {
+            return Ok(true);
+        }
+        let Some(end) = start.checked_add(size) else {
+            return Ok(false);
+        };
+        let Some(kept) = append_point(&self.cuts, start, end) else {
+            return Ok(false);
+        };
+        self.cuts.reserve(2)?;
+        self.cuts.truncate(kept);
+        self.cuts.push(Cut {
+            start,
+            symbol: Some(index),
+        })?;
+        self.cuts.push(Cut {
+            start: end,
+            symbol: None,
+        })?;
+        Ok(true)
+    }
+
     // The number of cuts.
     pub(crate) fn len(&self) -> usize {
         self.cuts.len()
@@ -73,4 +102,27 @@ impl Layer {
         let cuts = overlay(alloc, &lower.cuts, &upper.cuts)?;
         Ok(Layer { cuts })
     }
+}
+
+// The number of cuts after which the two cuts of a symbol over all others can replace the rest: all of them,
+// or all but a last one without a symbol. `None` if the symbol needs a layer of its own.
+fn append_point(cuts: &[Cut], start: u64, end: u64) -> Option<usize>
+    requires { start < end }
+    ensures { IfSome result (λ kept. IsAppendPoint cuts.now start end kept) }
+{
+    let count = cuts.len();
+    if count == 0 {
+        return None;
+    }
+    let last = cuts[count - 1];
+    if last.symbol.is_some() || end < last.start {
+        return None;
+    }
+    if last.start <= start {
+        return Some(count);
+    }
+    if count < 2 || start < cuts[count - 2].start {
+        return None;
+    }
+    Some(count - 1)
 }

@@ -1,8 +1,9 @@
 //! Tables that find the symbol of an address.
 ghost use Rattle.std.specs.Option.{option_map};
-ghost use Rattle.std.specs.Prelude.{◌≡◌, ◌≤◌, ◌<◌, ◌^◌, ◌++◌, ◌∷◌, [], ℕ, IfOk, OnErr, OnOk, None};
+ghost use Rattle.std.specs.Prelude.{◌≡◌, ◌≤◌, ◌<◌, ◌^◌, ◌++◌, ◌∷◌, ◌&&◌, [], ℕ, if◌then◌else◌, IfOk, OnErr, OnOk, Some, None};
 ghost use Rattle.std.specs.Prelude.{vec_len};
 ghost use Rattle.std.proofs.Props.{props};
+ghost use Rattle.perfdata_symbols.specs.Cuts.{covers, later_of};
 ghost use Rattle.perfdata_symbols.specs.Layer.{symbol_in_layers};
 ghost use Rattle.perfdata_symbols.specs.Symbols.{IsLastIndex, IsLastName, IsLastSymbol, IsName, last_from};
 
@@ -13,8 +14,9 @@ use std::alloc::{AllocError, Global};
 /// A table of symbols, which finds the last symbol that was pushed of those that contain an address.
 ///
 /// The order of the pushes is the order of preference, so a reader pushes first what it prefers least. A
-/// push costs amortized logarithmic time. A search costs logarithmic time after `compact`, and the square of
-/// the logarithm otherwise, however many symbols contain one another.
+/// push costs amortized logarithmic time, and amortized constant time if the symbols come in ascending order
+/// of their starts and of their ends, and none contains the address `u64::MAX`. A search costs logarithmic
+/// time after `compact`, and the square of the logarithm otherwise, however many symbols contain one another.
 ///
 /// ```
 /// use perfdata_symbols::symbol::Symbol;
@@ -111,10 +113,14 @@ impl SymbolTable {
         ensures err { OnErr result (symbols_of self.new ≡ symbols_of self.old) }
         ensures names { names_of self.new ≡ names_of self.old }
     {
-        merge_equal(self.alloc, &mut self.layers)?;
-        let layer = Layer::of_symbol(self.alloc, self.symbols.len(), symbol.start, symbol.size)?;
         self.symbols.reserve(1)?;
-        self.layers.push(layer)?;
+        add_symbol(
+            self.alloc,
+            &mut self.layers,
+            self.symbols.len(),
+            symbol.start,
+            symbol.size,
+        )?;
         self.symbols.push(symbol)?;
         Ok(())
     }
@@ -174,15 +180,55 @@ fn merge_last(alloc: Global, layers: &mut Vec<Layer>) -> Result<(), AllocError>
     Ok(())
 }
 
-// Merges the last two layers while the last one is at least as long as the one before it.
+// Merges the last two layers while the last one is at least half as long as the one before it, so that each
+// layer but the last one is more than twice as long as the next.
 fn merge_equal(alloc: Global, layers: &mut Vec<Layer>) -> Result<(), AllocError>
     ensures { (x : ℕ) → symbol_in_layers layers.new.items x ≡ symbol_in_layers layers.old.items x }
 {
     'merges: while layers.len() > 1
-        && layers[layers.len() - 2].len() <= layers[layers.len() - 1].len()
+        && layers[layers.len() - 2].len() / 2 <= layers[layers.len() - 1].len()
     {
         merge_last(alloc, layers)?;
     }
+    Ok(())
+}
+
+// Appends a symbol over all others to the last layer and returns `true`, if it can be appended there.
+fn append_to_last(
+    layers: &mut Vec<Layer>,
+    index: usize,
+    start: u64,
+    size: u64,
+) -> Result<bool, AllocError>
+    ensures ok { IfOk result (λ appended. (x : ℕ) → symbol_in_layers layers.new.items x
+        ≡ later_of (symbol_in_layers layers.old.items x) (if appended && covers start size x then Some index else None)) }
+    ensures err { OnErr result ((x : ℕ) → symbol_in_layers layers.new.items x ≡ symbol_in_layers layers.old.items x) }
+{
+    let count = layers.len();
+    if count == 0 {
+        return Ok(false);
+    }
+    layers[count - 1].append(index, start, size)
+}
+
+// Adds a symbol over all others.
+fn add_symbol(
+    alloc: Global,
+    layers: &mut Vec<Layer>,
+    index: usize,
+    start: u64,
+    size: u64,
+) -> Result<(), AllocError>
+    ensures ok { OnOk result ((x : ℕ) → x < 2 ^ 64 → symbol_in_layers layers.new.items x
+        ≡ later_of (symbol_in_layers layers.old.items x) (if covers start size x then Some index else None)) }
+    ensures err { OnErr result ((x : ℕ) → symbol_in_layers layers.new.items x ≡ symbol_in_layers layers.old.items x) }
+{
+    if append_to_last(layers, index, start, size)? {
+        return Ok(());
+    }
+    merge_equal(alloc, layers)?;
+    let layer = Layer::of_symbol(alloc, index, start, size)?;
+    layers.push(layer)?;
     Ok(())
 }
 

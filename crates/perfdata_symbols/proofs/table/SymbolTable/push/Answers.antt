@@ -2,24 +2,19 @@ use Rattle.std.proofs.Common.{◌≡◌, ◌<◌, [], ◌∷◌, ◌++◌, lengt
 use Rattle.std.specs.Prelude.{if◌then◌else◌, is_ok, vec_capacity}
 use Rattle.std.proofs.lemmas.Bool.{cond-true}
 use Rattle.perfdata_symbols.specs.Cuts.{covers}
-use Rattle.perfdata_symbols.specs.Layer.{symbol_in_layers}
 use Rattle.perfdata_symbols.specs.Symbols.{last_from}
-use Rattle.perfdata_symbols.proofs.LayerLemmas.{layers-push}
 use Rattle.perfdata_symbols.proofs.SymbolLemmas.{found-push}
 use Rattle.perfdata_symbols.proofs.table.SymbolTable.push.Goals as goal
 
 pub invariant_of-self-2 : goal.invariant_of-self-2
 invariant_of-self-2 c = record {
   found = λ x fits.
-      let layers = c.merge_equal.new.layers.items in
       let symbols = c.args.self.now.symbols.items in
-      let old = c.in_ok-merge_equal.ensures x ∙ c.args.self.now.found x fits in
       let room : vec_len c.reserve.new.self < vec_capacity c.reserve.new.self = omega (arith, c.in_ok-reserve.ensures.ok) in
-      let grown = c.push-2.ensures.items ∙ cond-true (is_ok c.push-2.result) (c.reserve.new.self.items ++ c.args.symbol ∷ []) c.reserve.new.self.items (c.push-2.ensures.succeeds room)
+      let grown = c.push.ensures.items ∙ cond-true (is_ok c.push.result) (c.reserve.new.self.items ++ c.args.symbol ∷ []) c.reserve.new.self.items (c.push.ensures.succeeds room)
       ∙ ap (λ ss. ss ++ c.args.symbol ∷ []) c.in_ok-reserve.ensures.items in
       let counted = c.args.self.now.symbols.ok in
-      let size : c.len.result ≡ length symbols = omega (arith, c.len.ensures, counted) in
-      let one = c.in_ok-layer.ensures x fits ∙ ap (λ n. if covers c.args.symbol.start c.args.symbol.size x then Some n else None) size in
-      let after = ap (λ ls. symbol_in_layers ls x) c.in_ok-push.ensures.items ∙ layers-push layers c.in_ok-layer.layer x in
-      found-push symbols c.args.symbol x _ _ _ old one after ∙ ap (λ ss. last_from 0 None ss x) (sym grown);
+      let size : c.len.result ≡ length symbols = omega (arith, c.len.ensures, c.in_ok-reserve.ensures.len, counted) in
+      let one = ap (λ n. if covers c.args.symbol.start c.args.symbol.size x then Some n else None) size in
+      found-push symbols c.args.symbol x _ _ _ (c.args.self.now.found x fits) one (c.in_ok-add_symbol.ensures.ok x fits) ∙ ap (λ ss. last_from 0 None ss x) (sym grown);
 }
