@@ -1,7 +1,7 @@
 //! Tables that find the symbol of an address.
 ghost use Rattle.std.specs.Option.{option_map};
-ghost use Rattle.std.specs.Prelude.{◌≡◌, ◌≤◌, ◌<◌, ◌^◌, ◌++◌, ◌∷◌, ◌&&◌, [], ℕ, if◌then◌else◌, IfOk, OnErr, OnOk, Some, None};
-ghost use Rattle.std.specs.Prelude.{vec_len};
+ghost use Rattle.std.specs.Prelude.{◌≡◌, ◌≤◌, ◌<◌, ◌^◌, ◌++◌, ◌∷◌, ◌&&◌, [], ℕ, if◌then◌else◌};
+ghost use Rattle.std.specs.Prelude.{vec_len, IfOk, OnErr, OnOk, Some, None};
 ghost use Rattle.std.proofs.Props.{props};
 ghost use Rattle.perfdata_symbols.specs.Cuts.{covers, later_of};
 ghost use Rattle.perfdata_symbols.specs.Layer.{symbol_in_layers};
@@ -201,8 +201,10 @@ fn append_to_last(
     size: u64,
 ) -> Result<bool, AllocError>
     ensures ok { IfOk result (λ appended. (x : ℕ) → symbol_in_layers layers.new.items x
-        ≡ later_of (symbol_in_layers layers.old.items x) (if appended && covers start size x then Some index else None)) }
-    ensures err { OnErr result ((x : ℕ) → symbol_in_layers layers.new.items x ≡ symbol_in_layers layers.old.items x) }
+        ≡ later_of (symbol_in_layers layers.old.items x)
+        (if appended && covers start size x then Some index else None)) }
+    ensures err { OnErr result ((x : ℕ) → symbol_in_layers layers.new.items x
+        ≡ symbol_in_layers layers.old.items x) }
 {
     let count = layers.len();
     if count == 0 {
@@ -220,8 +222,10 @@ fn add_symbol(
     size: u64,
 ) -> Result<(), AllocError>
     ensures ok { OnOk result ((x : ℕ) → x < 2 ^ 64 → symbol_in_layers layers.new.items x
-        ≡ later_of (symbol_in_layers layers.old.items x) (if covers start size x then Some index else None)) }
-    ensures err { OnErr result ((x : ℕ) → symbol_in_layers layers.new.items x ≡ symbol_in_layers layers.old.items x) }
+        ≡ later_of (symbol_in_layers layers.old.items x)
+        (if covers start size x then Some index else None)) }
+    ensures err { OnErr result ((x : ℕ) → symbol_in_layers layers.new.items x
+        ≡ symbol_in_layers layers.old.items x) }
 {
     if append_to_last(layers, index, start, size)? {
         return Ok(());
