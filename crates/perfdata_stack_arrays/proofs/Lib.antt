@@ -3,6 +3,7 @@ pub mod ArrayWrites
 pub mod Finding
 pub mod Formats
 pub mod NameSteps
+pub mod Parsed
 pub mod Returned
 pub mod StateSteps
 pub mod Walks

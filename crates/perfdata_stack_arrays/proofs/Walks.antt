@@ -26,7 +26,7 @@ use Rattle.perfdata_stack_arrays.specs.Records.{ReturnsNext}
 use Rattle.perfdata_stack_arrays.specs.Stacks.{AreStacksOf, IsStackOf, applied_as, applied_by, applied_in, none, passed, sampled}
 use Rattle.perfdata_stack_arrays.specs.State.{FollowsState}
 use Rattle.perfdata_stack_arrays.specs.Written.{WritesAll, Written}
-use Rattle.perfdata_stack_arrays.specs.declared.events.Event.{Event}
+use Rattle.perfdata_stack_arrays.specs.Event.{Event}
 use Rattle.perfdata_stack_arrays.specs.declared.frame.StackFrame.{StackFrame}
 use Rattle.perfdata_stack_arrays.specs.declared.records.Records.{Records}
 use Rattle.perfdata_stack_arrays.specs.declared.stack.Stack.{Stack}

@@ -12,7 +12,7 @@ use Rattle.perfdata_stack_arrays.specs.Events.{IsEventOf, ParsesEvent}
 use Rattle.perfdata_stack_arrays.specs.Stacks.{WritesStack, applied_by}
 use Rattle.perfdata_stack_arrays.specs.State.{AppliesRecord, FollowsState, KeepsTotals}
 use Rattle.perfdata_stack_arrays.specs.Written.{Written}
-use Rattle.perfdata_stack_arrays.specs.declared.events.Event.{Event}
+use Rattle.perfdata_stack_arrays.specs.Event.{Event}
 use Rattle.perfdata_stack_arrays.specs.declared.stacks.StackCounts.{StackCounts}
 use Rattle.perfdata_stack_arrays.specs.declared.state.State.{State}
 use Rattle.perfdata_stack_arrays.specs.declared.state.TextCounts.{TextCounts}
@@ -48,6 +48,17 @@ pub record KeepsAll (state : State) (arrays : Written) (state' : State) (arrays'
   pub totals : KeepsTotals state arrays.mappings arrays.text state' arrays'.mappings arrays'.text
   pub same_stacks : arrays'.stacks ≡ arrays.stacks
   pub same_frames : arrays'.frames ≡ arrays.frames
+
+module _ (event : Event) (state : State) (counts : StackCounts) (arrays : Written) where
+  -- Memory ran out for an event that isn't a sample.
+  pub record FailsToApply (state' : State) (arrays' : Written) : Type 0 where
+    pub applied : Applied
+    pub applied_is : applied_by event ≡ applied ∷ []
+    pub keeps : KeepsAll state arrays state' arrays'
+
+  abbrev pub AddsParsed : Result StackCounts AllocError → State → Written → Type 0
+  AddsParsed (Ok more) state' arrays' = AddsSample event state counts arrays more state' arrays' ⊎ AddsApplied event state counts arrays more state' arrays'
+  AddsParsed (Err error) state' arrays' = FailsToApply state' arrays'
 
 module _ (order : Endianness) (attrs : List Attribute) (h : RecordView) (state : State) (counts : StackCounts) (arrays : Written) where
   -- The record is no event that can be parsed, and changes nothing.

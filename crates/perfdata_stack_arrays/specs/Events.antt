@@ -1,30 +1,28 @@
 -- The parsed records of events.
-use Rattle.std.specs.Prelude.{◌≡◌, ◌⊎◌, List, slice_get, Option, None, Some}
+use Rattle.std.specs.Prelude.{◌≡◌, ◌⊎◌, ℕ, List, slice_get, Option, None, Some}
 use Rattle.std.specs.Option.{option_map}
 use Rattle.std.specs.declared.io.ErrorKind.{ErrorKind}
-use Rattle.perfdata_base.specs.declared.attr.PerfEventAttr.{PerfEventAttr}
 use Rattle.perfdata_base.specs.declared.event.raw_event_record.RawEventRecord.{RawEventRecord}
+use Rattle.perfdata_base.specs.declared.place.parse_info.RecordParseInfo.{RecordParseInfo}
 use Rattle.perfdata_base.specs.declared.endian.Endianness.{Endianness}
-use Rattle.perfdata_base.specs.declared.endian.Endianness.TheVariants.{LittleEndian, BigEndian}
 use Rattle.linux_perf_data.specs.Attribute.{Attribute, EventRef}
 use Rattle.linux_perf_data.specs.Layout.{RecordView}
 use Rattle.linux_perf_data.specs.RecordEntries.{attr_index_or_zero}
 use Rattle.perfdata_events.specs.Event.{IsParsed, ParseFails}
-use Rattle.perfdata_events.specs.EventFormat.{big_endian_format_of, event_format_of}
+use Rattle.perfdata_events.specs.EventFormat.{native_format_of}
 use Rattle.perfdata_events.specs.declared.format.EventFormat.{EventFormat}
 use Rattle.perfdata_arrays.specs.Entries.{IsRawOf}
-use Rattle.perfdata_stack_arrays.specs.declared.events.Event.{Event}
-
--- The format of the records of an attribute. A big-endian compiler laid out the flags of a big-endian recording.
-abbrev pub format_of : PerfEventAttr → Endianness → EventFormat
-format_of attr LittleEndian = event_format_of attr LittleEndian
-format_of attr BigEndian = big_endian_format_of attr BigEndian
+use Rattle.perfdata_stack_arrays.specs.Event.{Event}
 
 module _ (order : Endianness) (attrs : List Attribute) where
-  -- The format of the records of an event.
+  -- The format of the records of an event. A big-endian compiler laid out the flags of a big-endian recording.
   abbrev pub format_in : Option EventRef → Option EventFormat
   format_in None = None
-  format_in (Some event) = option_map (λ a. format_of a.attr order) (slice_get attrs event.index)
+  format_in (Some event) = option_map (λ a. native_format_of a.attr order) (slice_get attrs event.index)
+
+  -- The format of the records of the attribute with an index, if there is one.
+  abbrev pub IsFormatAt : ℕ → Option EventFormat → Type 0
+  IsFormatAt index format = (places : RecordParseInfo) → format_in (Some (record { index = index; parse_info = places })) ≡ format
 
   -- The record is parsed by the format of its attribute.
   pub record ParsesEvent (h : RecordView) (event : Event) : Type 0 where

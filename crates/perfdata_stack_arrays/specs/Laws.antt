@@ -10,7 +10,7 @@ use Rattle.perfdata_order.specs.declared.in_memory.InMemoryOrderedRecords.{InMem
 use Rattle.perfdata_spaces.specs.Effects.{Applied}
 use Rattle.perfdata_stack_arrays.specs.Mappings.{text_in}
 use Rattle.perfdata_stack_arrays.specs.Reading.{ReadsEvents}
-use Rattle.perfdata_stack_arrays.specs.declared.events.Event.{Event}
+use Rattle.perfdata_stack_arrays.specs.Event.{Event}
 use Rattle.perfdata_stack_arrays.specs.declared.records.Records.{Records}
 use Rattle.perfdata_stack_arrays.specs.declared.records.Records.TheVariants.{ByTime}
 

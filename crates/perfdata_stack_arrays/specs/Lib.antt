@@ -1,6 +1,7 @@
 -- The modules that contracts use.
 pub mod Adding
 pub mod Arrays
+pub mod Event
 pub mod Events
 pub mod Frames
 pub mod HasTimes

@@ -17,7 +17,7 @@ use Rattle.perfdata_stack_arrays.specs.Records.{ReturnsNext, StartsRecords}
 use Rattle.perfdata_stack_arrays.specs.HasTimes.{has_times}
 use Rattle.perfdata_stack_arrays.specs.Stacks.{AreStacksOf, applied_by, applied_in}
 use Rattle.perfdata_stack_arrays.specs.Written.{WritesAll, Written, totals_of}
-use Rattle.perfdata_stack_arrays.specs.declared.events.Event.{Event}
+use Rattle.perfdata_stack_arrays.specs.Event.{Event}
 use Rattle.perfdata_stack_arrays.specs.declared.records.Records.{Records}
 use Rattle.perfdata_stack_arrays.specs.declared.stacks.StacksResult.{StacksResult}
 use Rattle.perfdata_stack_arrays.specs.declared.stacks.StacksWalk.{StacksWalk}

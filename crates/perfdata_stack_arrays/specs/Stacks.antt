@@ -13,7 +13,7 @@ use Rattle.perfdata_stack_arrays.specs.Arrays.{AreRelated, count_of}
 use Rattle.perfdata_stack_arrays.specs.Frames.{IsFrameOf, frames_in}
 use Rattle.perfdata_stack_arrays.specs.Mappings.{text_in}
 use Rattle.perfdata_stack_arrays.specs.Names.{IsNameAt}
-use Rattle.perfdata_stack_arrays.specs.declared.events.Event.{Event}
+use Rattle.perfdata_stack_arrays.specs.Event.{Event}
 use Rattle.perfdata_stack_arrays.specs.declared.frame.StackFrame.{StackFrame}
 use Rattle.perfdata_stack_arrays.specs.declared.names.TextRange.{TextRange}
 use Rattle.perfdata_stack_arrays.specs.declared.stack.FrameRange.{FrameRange}

@@ -2,17 +2,17 @@
 ghost use Rattle.std.specs.Prelude.{◌≡◌};
 ghost use Rattle.linux_perf_data.specs.PerfFile.{attributes_of_file, endian_of_file};
 ghost use Rattle.linux_perf_data.specs.RecordViews.{record_view_of};
-ghost use Rattle.perfdata_stack_arrays.specs.Adding.{AddsRecord, totals_so_far};
+ghost use Rattle.perfdata_stack_arrays.specs.Adding.{AddsParsed, AddsRecord, totals_so_far};
 ghost use Rattle.perfdata_stack_arrays.specs.Reading.{ReadsFileStacks, ReadsPipeStacks, ReadsStacksOf};
 ghost use Rattle.perfdata_stack_arrays.specs.Reading.{WalksStacks};
 ghost use Rattle.perfdata_stack_arrays.specs.Records.{IsStart};
 
 use crate::array::add_counts;
-use crate::events::event_of;
+use crate::events::format_at;
 use crate::frame::StackFrame;
 use crate::mapping::StackMapping;
 use crate::records::Records;
-use crate::stack::{Stack, write_stack};
+use crate::stack::{Stack, StackEnvelope, write_stack};
 use crate::state::State;
 use crate::totals::StackTotals;
 use linux_perf_data::in_memory::{InMemoryReader, InMemoryRecords};
@@ -37,8 +37,45 @@ struct StackCounts {
     frames: usize,
 }
 
-// Adds a record: a sample to the samples and frames, another one to what is mapped and to names. Returns the
-// numbers of samples and frames with those that it adds.
+// Adds a parsed record: a sample to the samples and frames, another one to what is mapped and to names.
+// Returns the numbers of samples and frames with those that it adds.
+fn add_parsed(
+    state: &mut State,
+    envelope: StackEnvelope,
+    parsed: &EventRecord<'_>,
+    counts: StackCounts,
+    stacks: &mut [Stack],
+    frames: &mut [StackFrame],
+    mappings: &mut [StackMapping],
+    text: &mut [u8],
+) -> Result<StackCounts, AllocError>
+    ensures { AddsParsed (record { envelope = envelope; parsed = parsed.now }) state.old counts
+        (record { stacks = stacks.old; frames = frames.old; mappings = mappings.old; text = text.old }) result
+        state.new
+        (record { stacks = stacks.new; frames = frames.new; mappings = mappings.new; text = text.new }) }
+{
+    if let EventRecord::Sample(sample) = parsed {
+        let added = write_stack(
+            &state.spaces,
+            &state.names,
+            envelope,
+            sample,
+            stacks,
+            counts.stacks,
+            frames,
+            counts.frames,
+        );
+        return Ok(StackCounts {
+            stacks: add_counts(counts.stacks, 1),
+            frames: add_counts(counts.frames, added),
+        });
+    }
+    state.apply(envelope.misc, parsed, mappings, text)?;
+    Ok(counts)
+}
+
+// Adds a record, unless it belongs to no attribute or can't be parsed. Returns the numbers of samples and
+// frames with those that it adds.
 fn add_record(
     state: &mut State,
     perf_file: &PerfFile,
@@ -56,27 +93,25 @@ fn add_record(
         state.new
         (record { stacks = stacks.new; frames = frames.new; mappings = mappings.new; text = text.new }) }
 {
-    let Some(event) = event_of(perf_file, place, returned) else {
+    let PerfFileRecord::EventRecord { attr_index, event } = returned else {
         return Ok(counts);
     };
-    if let EventRecord::Sample(sample) = &event.parsed {
-        let added = write_stack(
-            &state.spaces,
-            &state.names,
-            event.envelope,
-            sample,
-            stacks,
-            counts.stacks,
-            frames,
-            counts.frames,
-        );
-        return Ok(StackCounts {
-            stacks: add_counts(counts.stacks, 1),
-            frames: add_counts(counts.frames, added),
-        });
-    }
-    state.apply(event.envelope.misc, &event.parsed, mappings, text)?;
-    Ok(counts)
+    let Some(format) = format_at(perf_file, *attr_index) else {
+        return Ok(counts);
+    };
+    // A parsed sample is large, so it is not moved.
+    let outcome = format.parse(event);
+    let Ok(parsed) = &outcome else {
+        return Ok(counts);
+    };
+    let envelope = StackEnvelope {
+        offset: place.offset,
+        attr_index: *attr_index,
+        misc: event.misc,
+    };
+    add_parsed(
+        state, envelope, parsed, counts, stacks, frames, mappings, text,
+    )
 }
 
 // The numbers of what a walk counts, and how it ends.

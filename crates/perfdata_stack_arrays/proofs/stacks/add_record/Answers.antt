@@ -1,46 +1,43 @@
 use Rattle.std.proofs.Common.{refl, inl, inr}
-use Rattle.std.proofs.lemmas.Result.{err_from_is_err_and}
-use Rattle.perfdata_stack_arrays.proofs.Walks.{applied_other}
+use Rattle.std.specs.IoError.{error_kind}
+use Rattle.perfdata_stack_arrays.proofs.Parsed.{adds_record}
 use Rattle.perfdata_stack_arrays.proofs.stacks.add_record.Goals as goal
 
-pub returns-in-Sample : goal.returns-in-Sample
-returns-in-Sample c = inr (record {
-  event = c.in-Some.event;
-  is_event = c.in-Some.ensures;
-  adds = inl (record {
-    sample = c.in-Sample.sample;
-    is_sample = c.in-Sample.is;
-    added = c.write_stack-added.result;
-    writes = λ before follows. c.write_stack-added.ensures before follows.spaces follows.names;
-    stacks_more = c.add_counts.ensures;
-    frames_more = c.add_counts-in-Sample.ensures;
-    same_state = refl;
-    same_mappings = refl;
-    same_text = refl;
-  });
-})
+pub returns-in_default-format_at : goal.returns-in_default-format_at
+returns-in_default-format_at c = rw c.in-EventRecord.is (inl (record {
+  is_none = inl (c.in_default-format_at.ensures c.in-EventRecord.event.parse_info);
+  same_counts = refl;
+  same_state = refl;
+  same_arrays = refl;
+}))
 
-pub returns-in_err-apply : goal.returns-in_err-apply
-returns-in_err-apply c =
-    let p = err_from_is_err_and c.from_residual.result c.from_residual.ensures.1 in
-    rw p.1 (record {
-      event = c.in-Some.event;
-      is_event = c.in-Some.ensures;
-      applied = record { misc = c.in-Some.event.envelope.misc; event = c.in-Some.event.parsed };
-      applied_is = applied_other c.in-Some.event.envelope.misc c.in-Some.event.parsed c.in_default-parsed.not-Sample;
-      keeps = record { totals = c.in_err-apply.ensures.err; same_stacks = refl; same_frames = refl };
-    })
+pub returns-in_default-outcome : goal.returns-in_default-outcome
+returns-in_default-outcome c =
+    let failed = rw c.in_default-outcome.is at c.parse-outcome.ensures.error in
+    rw c.in-EventRecord.is (inl (record {
+      is_none = inr (record {
+        format = c.in-Some.format;
+        format_is = c.in-Some.ensures c.in-EventRecord.event.parse_info;
+        raw = c.in-EventRecord.event;
+        raw_is = record { record_type = refl; misc = refl; body = refl };
+        kind = error_kind c.in_default-outcome.field-0;
+        fails = failed;
+      });
+      same_counts = refl;
+      same_state = refl;
+      same_arrays = refl;
+    }))
 
 pub returns : goal.returns
-returns c = inr (record {
-  event = c.in-Some.event;
-  is_event = c.in-Some.ensures;
-  adds = inr (record {
-    applied = record { misc = c.in-Some.event.envelope.misc; event = c.in-Some.event.parsed };
-    applied_is = applied_other c.in-Some.event.envelope.misc c.in-Some.event.parsed c.in_default-parsed.not-Sample;
-    applies = c.in_ok-apply.ensures.ok;
-    same_counts = refl;
-    same_stacks = refl;
-    same_frames = refl;
-  });
-})
+returns c =
+    let value = rw c.in-Ok.is at c.parse-outcome.ensures.value in
+    rw c.in-EventRecord.is (adds_record _ _ _ _ _ _ _ _ _ _ (record {
+      format = c.in-Some.format;
+      format_is = c.in-Some.ensures c.in-EventRecord.event.parse_info;
+      raw = c.in-EventRecord.event;
+      raw_is = record { record_type = refl; misc = refl; body = refl };
+      is_parsed = value;
+      offset_is = refl;
+      attr_index_is = refl;
+      misc_is = refl;
+    }) c.add_parsed.ensures)
