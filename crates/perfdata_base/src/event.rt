@@ -4,6 +4,7 @@ mod cpu_mode;
 mod raw_event_record;
 mod record_header;
 mod record_type;
+pub mod user_types;
 
 pub use cpu_mode::CpuMode;
 pub use raw_event_record::RawEventRecord;

@@ -21,48 +21,8 @@ use perfdata_base::event::{RawEventRecord, RecordType};
 use perfdata_base::raw::RawData;
 use std::io::Result;
 
-const PERF_RECORD_MMAP: u32 = 1;
-
-const PERF_RECORD_LOST: u32 = 2;
-
-const PERF_RECORD_COMM: u32 = 3;
-
-const PERF_RECORD_EXIT: u32 = 4;
-
-const PERF_RECORD_THROTTLE: u32 = 5;
-
-const PERF_RECORD_UNTHROTTLE: u32 = 6;
-
-const PERF_RECORD_FORK: u32 = 7;
-
-const PERF_RECORD_READ: u32 = 8;
-
-const PERF_RECORD_MMAP2: u32 = 10;
-
-const PERF_RECORD_AUX: u32 = 11;
-
-const PERF_RECORD_ITRACE_START: u32 = 12;
-
-const PERF_RECORD_LOST_SAMPLES: u32 = 13;
-
-const PERF_RECORD_SWITCH: u32 = 14;
-
-const PERF_RECORD_SWITCH_CPU_WIDE: u32 = 15;
-
-const PERF_RECORD_NAMESPACES: u32 = 16;
-
-const PERF_RECORD_KSYMBOL: u32 = 17;
-
-const PERF_RECORD_BPF_EVENT: u32 = 18;
-
-const PERF_RECORD_CGROUP: u32 = 19;
-
-const PERF_RECORD_TEXT_POKE: u32 = 20;
-
-const PERF_RECORD_AUX_OUTPUT_HW_ID: u32 = 21;
-
 // The highest type that is parsed.
-const LAST_TYPE: u32 = PERF_RECORD_AUX_OUTPUT_HW_ID;
+const LAST_TYPE: u32 = RecordType::AUX_OUTPUT_HW_ID.0;
 
 // The lowest bit of the sample format after the last one that has a name.
 const SAMPLE_FIELDS_END: u64 = SampleFields::WEIGHT_STRUCT.0 << 1;
@@ -152,32 +112,32 @@ impl EventFormat {
     {
         let endian = self.endian;
         let misc = raw.misc;
-        match raw.record_type.0 {
-            PERF_RECORD_MMAP => {
+        match raw.record_type {
+            RecordType::MMAP => {
                 let mmap = MmapRecord::parse(endian, misc, fields)?;
                 Ok(EventRecord::Mmap(mmap))
             }
-            PERF_RECORD_LOST => {
+            RecordType::LOST => {
                 let lost = LostRecord::parse(endian, fields)?;
                 Ok(EventRecord::Lost(lost))
             }
-            PERF_RECORD_COMM => {
+            RecordType::COMM => {
                 let comm = CommOrExecRecord::parse(endian, misc, fields)?;
                 Ok(EventRecord::Comm(comm))
             }
-            PERF_RECORD_EXIT => {
+            RecordType::EXIT => {
                 let exit = ForkOrExitRecord::parse(endian, fields)?;
                 Ok(EventRecord::Exit(exit))
             }
-            PERF_RECORD_THROTTLE => {
+            RecordType::THROTTLE => {
                 let throttle = ThrottleRecord::parse(endian, fields)?;
                 Ok(EventRecord::Throttle(throttle))
             }
-            PERF_RECORD_UNTHROTTLE => {
+            RecordType::UNTHROTTLE => {
                 let unthrottle = ThrottleRecord::parse(endian, fields)?;
                 Ok(EventRecord::Unthrottle(unthrottle))
             }
-            PERF_RECORD_FORK => {
+            RecordType::FORK => {
                 let fork = ForkOrExitRecord::parse(endian, fields)?;
                 Ok(EventRecord::Fork(fork))
             }
@@ -200,32 +160,32 @@ impl EventFormat {
     {
         let endian = self.endian;
         let misc = raw.misc;
-        match raw.record_type.0 {
-            PERF_RECORD_READ => {
+        match raw.record_type {
+            RecordType::READ => {
                 let read = ReadRecord::parse(endian, self.read_format, fields)?;
                 Ok(EventRecord::Read(read))
             }
-            PERF_RECORD_MMAP2 => {
+            RecordType::MMAP2 => {
                 let mmap2 = Mmap2Record::parse(endian, misc, fields)?;
                 Ok(EventRecord::Mmap2(mmap2))
             }
-            PERF_RECORD_AUX => {
+            RecordType::AUX => {
                 let aux = AuxRecord::parse(endian, fields)?;
                 Ok(EventRecord::Aux(aux))
             }
-            PERF_RECORD_ITRACE_START => {
+            RecordType::ITRACE_START => {
                 let start = ItraceStartRecord::parse(endian, fields)?;
                 Ok(EventRecord::ItraceStart(start))
             }
-            PERF_RECORD_LOST_SAMPLES => {
+            RecordType::LOST_SAMPLES => {
                 let lost_samples = LostSamplesRecord::parse(endian, fields)?;
                 Ok(EventRecord::LostSamples(lost_samples))
             }
-            PERF_RECORD_SWITCH => {
+            RecordType::SWITCH => {
                 let switch = ContextSwitchRecord::parse(misc, fields)?;
                 Ok(EventRecord::ContextSwitch(switch))
             }
-            PERF_RECORD_SWITCH_CPU_WIDE => {
+            RecordType::SWITCH_CPU_WIDE => {
                 let wide = ContextSwitchRecord::parse_cpu_wide(endian, misc, fields)?;
                 Ok(EventRecord::ContextSwitch(wide))
             }
@@ -247,28 +207,28 @@ impl EventFormat {
     {
         let endian = self.endian;
         let misc = raw.misc;
-        match raw.record_type.0 {
-            PERF_RECORD_NAMESPACES => {
+        match raw.record_type {
+            RecordType::NAMESPACES => {
                 let namespaces = NamespacesRecord::parse(endian, fields)?;
                 Ok(EventRecord::Namespaces(namespaces))
             }
-            PERF_RECORD_KSYMBOL => {
+            RecordType::KSYMBOL => {
                 let ksymbol = KsymbolRecord::parse(endian, fields)?;
                 Ok(EventRecord::Ksymbol(ksymbol))
             }
-            PERF_RECORD_BPF_EVENT => {
+            RecordType::BPF_EVENT => {
                 let bpf_event = BpfEventRecord::parse(endian, fields)?;
                 Ok(EventRecord::BpfEvent(bpf_event))
             }
-            PERF_RECORD_CGROUP => {
+            RecordType::CGROUP => {
                 let cgroup = CgroupRecord::parse(endian, fields)?;
                 Ok(EventRecord::Cgroup(cgroup))
             }
-            PERF_RECORD_TEXT_POKE => {
+            RecordType::TEXT_POKE => {
                 let poke = TextPokeRecord::parse(endian, fields)?;
                 Ok(EventRecord::TextPoke(poke))
             }
-            PERF_RECORD_AUX_OUTPUT_HW_ID => {
+            RecordType::AUX_OUTPUT_HW_ID => {
                 let hw_id = AuxOutputHwIdRecord::parse(endian, fields)?;
                 Ok(EventRecord::AuxOutputHwId(hw_id))
             }
@@ -288,9 +248,9 @@ impl EventFormat {
         ensures decodes { DecodesEvent self.now raw.now (bytes_of fields.old) result (bytes_of fields.new) }
         ensures single { KeepsSingle HasSingleParts fields.old result fields.new }
     {
-        if raw.record_type.0 < PERF_RECORD_READ {
+        if raw.record_type.0 < RecordType::READ.0 {
             self.parse_types_to_7(raw, fields)
-        } else if raw.record_type.0 < PERF_RECORD_NAMESPACES {
+        } else if raw.record_type.0 < RecordType::NAMESPACES.0 {
             self.parse_types_to_15(raw, fields)
         } else {
             self.parse_types_to_21(raw, fields)
@@ -308,7 +268,7 @@ impl EventFormat {
     fn has_unknown_values(&self, record_type: RecordType) -> bool
         ensures { result ≡ has_unknown_values self.now record_type.0 }
     {
-        record_type.0 == PERF_RECORD_READ && !self.has_known_values()
+        record_type.0 == RecordType::READ.0 && !self.has_known_values()
     }
 
     /// Whether the offset of each field of a sample is known. `parse` says when it isn't.

@@ -34,8 +34,10 @@ pub fn event_desc_is_unique()
 pub fn event_desc_is_decidable()
     ensures if_error { (endian : Endianness) (eof : Error) (xs : List ℕ) → IsUnexpectedEof eof →
         ((ds : List DescribedEvent) × BeginsWithEventDesc (number_in endian) xs ds)
-        ⊎ (IsEventDescError (number_in endian) eof xs ⊎ (IsEventDescError (number_in endian) (Read PerfEventAttr) xs
-        ⊎ ((own_size : ℕ) × (frame_size : ℕ) × IsEventDescError (number_in endian) (InconsistentAttributeSizes own_size frame_size) xs))) }
+        ⊎ (IsEventDescError (number_in endian) eof xs
+        ⊎ (IsEventDescError (number_in endian) (Read PerfEventAttr) xs
+        ⊎ ((own_size : ℕ) × (frame_size : ℕ)
+        × IsEventDescError (number_in endian) (InconsistentAttributeSizes own_size frame_size) xs))) }
     ensures decided { (endian : Endianness) (xs : List ℕ)
         → ((ds : List DescribedEvent) × BeginsWithEventDesc (number_in endian) xs ds)
         ⊎ ¬ ((ds : List DescribedEvent) × BeginsWithEventDesc (number_in endian) xs ds) }
@@ -61,6 +63,7 @@ pub fn perf_record_numbers()
     ensures time_conv { PERF_RECORD_TIME_CONV ≡ 79 }
     ensures header_feature { PERF_RECORD_HEADER_FEATURE ≡ 80 }
     ensures compressed { PERF_RECORD_COMPRESSED ≡ 81 }
+    ensures finished_init { PERF_RECORD_FINISHED_INIT ≡ 82 }
     ensures compressed2 { PERF_RECORD_COMPRESSED2 ≡ 83 }
 {}
 

@@ -4,6 +4,8 @@ ghost use Rattle.std.specs.Option.{option_map};
 ghost use Rattle.perfdata_base.specs.RecordType.{record_type_name, kernel_type_name, perf_type_name};
 ghost use Rattle.perfdata_base.specs.RecordType.{simpleperf_type_name};
 
+use crate::event::user_types::*;
+
 // The first type that the kernel leaves to programs (`PERF_RECORD_USER_TYPE_START`).
 const FIRST_USER_TYPE: u32 = 64;
 
@@ -98,7 +100,7 @@ impl RecordType {
     pub fn name(&self) -> Option<&'static str>
         ensures { option_map (λ s. s.now) result ≡ record_type_name self.now.0 }
     {
-        kernel_type_name(self.0)
+        kernel_type_name(*self)
             .or(perf_type_name(self.0))
             .or(simpleperf_type_name(self.0))
     }
@@ -106,31 +108,31 @@ impl RecordType {
 
 // The name of a type of the kernel's records (`perf_event_type` in Linux's `perf_event.h`).
 #[tactic(auto, unfolding(crate::specs::RecordType::kernel_type_name))]
-fn kernel_type_name(number: u32) -> Option<&'static str>
-    ensures { option_map (λ s. s.now) result ≡ kernel_type_name number }
+fn kernel_type_name(record_type: RecordType) -> Option<&'static str>
+    ensures { option_map (λ s. s.now) result ≡ kernel_type_name record_type.0 }
 {
-    match number {
-        1 => Some("MMAP"),
-        2 => Some("LOST"),
-        3 => Some("COMM"),
-        4 => Some("EXIT"),
-        5 => Some("THROTTLE"),
-        6 => Some("UNTHROTTLE"),
-        7 => Some("FORK"),
-        8 => Some("READ"),
-        9 => Some("SAMPLE"),
-        10 => Some("MMAP2"),
-        11 => Some("AUX"),
-        12 => Some("ITRACE_START"),
-        13 => Some("LOST_SAMPLES"),
-        14 => Some("SWITCH"),
-        15 => Some("SWITCH_CPU_WIDE"),
-        16 => Some("NAMESPACES"),
-        17 => Some("KSYMBOL"),
-        18 => Some("BPF_EVENT"),
-        19 => Some("CGROUP"),
-        20 => Some("TEXT_POKE"),
-        21 => Some("AUX_OUTPUT_HW_ID"),
+    match record_type {
+        RecordType::MMAP => Some("MMAP"),
+        RecordType::LOST => Some("LOST"),
+        RecordType::COMM => Some("COMM"),
+        RecordType::EXIT => Some("EXIT"),
+        RecordType::THROTTLE => Some("THROTTLE"),
+        RecordType::UNTHROTTLE => Some("UNTHROTTLE"),
+        RecordType::FORK => Some("FORK"),
+        RecordType::READ => Some("READ"),
+        RecordType::SAMPLE => Some("SAMPLE"),
+        RecordType::MMAP2 => Some("MMAP2"),
+        RecordType::AUX => Some("AUX"),
+        RecordType::ITRACE_START => Some("ITRACE_START"),
+        RecordType::LOST_SAMPLES => Some("LOST_SAMPLES"),
+        RecordType::SWITCH => Some("SWITCH"),
+        RecordType::SWITCH_CPU_WIDE => Some("SWITCH_CPU_WIDE"),
+        RecordType::NAMESPACES => Some("NAMESPACES"),
+        RecordType::KSYMBOL => Some("KSYMBOL"),
+        RecordType::BPF_EVENT => Some("BPF_EVENT"),
+        RecordType::CGROUP => Some("CGROUP"),
+        RecordType::TEXT_POKE => Some("TEXT_POKE"),
+        RecordType::AUX_OUTPUT_HW_ID => Some("AUX_OUTPUT_HW_ID"),
         _ => None,
     }
 }
@@ -141,26 +143,26 @@ fn perf_type_name(number: u32) -> Option<&'static str>
     ensures { option_map (λ s. s.now) result ≡ perf_type_name number }
 {
     match number {
-        64 => Some("HEADER_ATTR"),
-        65 => Some("HEADER_EVENT_TYPE"),
-        66 => Some("HEADER_TRACING_DATA"),
-        67 => Some("HEADER_BUILD_ID"),
-        68 => Some("FINISHED_ROUND"),
-        69 => Some("ID_INDEX"),
-        70 => Some("AUXTRACE_INFO"),
-        71 => Some("AUXTRACE"),
-        72 => Some("AUXTRACE_ERROR"),
-        73 => Some("THREAD_MAP"),
-        74 => Some("CPU_MAP"),
-        75 => Some("STAT_CONFIG"),
-        76 => Some("STAT"),
-        77 => Some("STAT_ROUND"),
-        78 => Some("EVENT_UPDATE"),
-        79 => Some("TIME_CONV"),
-        80 => Some("HEADER_FEATURE"),
-        81 => Some("COMPRESSED"),
-        82 => Some("FINISHED_INIT"),
-        83 => Some("COMPRESSED2"),
+        PERF_RECORD_HEADER_ATTR => Some("HEADER_ATTR"),
+        PERF_RECORD_HEADER_EVENT_TYPE => Some("HEADER_EVENT_TYPE"),
+        PERF_RECORD_HEADER_TRACING_DATA => Some("HEADER_TRACING_DATA"),
+        PERF_RECORD_HEADER_BUILD_ID => Some("HEADER_BUILD_ID"),
+        PERF_RECORD_FINISHED_ROUND => Some("FINISHED_ROUND"),
+        PERF_RECORD_ID_INDEX => Some("ID_INDEX"),
+        PERF_RECORD_AUXTRACE_INFO => Some("AUXTRACE_INFO"),
+        PERF_RECORD_AUXTRACE => Some("AUXTRACE"),
+        PERF_RECORD_AUXTRACE_ERROR => Some("AUXTRACE_ERROR"),
+        PERF_RECORD_THREAD_MAP => Some("THREAD_MAP"),
+        PERF_RECORD_CPU_MAP => Some("CPU_MAP"),
+        PERF_RECORD_STAT_CONFIG => Some("STAT_CONFIG"),
+        PERF_RECORD_STAT => Some("STAT"),
+        PERF_RECORD_STAT_ROUND => Some("STAT_ROUND"),
+        PERF_RECORD_EVENT_UPDATE => Some("EVENT_UPDATE"),
+        PERF_RECORD_TIME_CONV => Some("TIME_CONV"),
+        PERF_RECORD_HEADER_FEATURE => Some("HEADER_FEATURE"),
+        PERF_RECORD_COMPRESSED => Some("COMPRESSED"),
+        PERF_RECORD_FINISHED_INIT => Some("FINISHED_INIT"),
+        PERF_RECORD_COMPRESSED2 => Some("COMPRESSED2"),
         _ => None,
     }
 }
@@ -171,15 +173,15 @@ fn simpleperf_type_name(number: u32) -> Option<&'static str>
     ensures { option_map (λ s. s.now) result ≡ simpleperf_type_name number }
 {
     match number {
-        32769 => Some("SIMPLEPERF_KERNEL_SYMBOL"),
-        32770 => Some("SIMPLEPERF_DSO"),
-        32771 => Some("SIMPLEPERF_SYMBOL"),
-        32772 => Some("SIMPLEPERF_SPLIT"),
-        32773 => Some("SIMPLEPERF_SPLIT_END"),
-        32774 => Some("SIMPLEPERF_EVENT_ID"),
-        32775 => Some("SIMPLEPERF_CALLCHAIN"),
-        32776 => Some("SIMPLEPERF_UNWINDING_RESULT"),
-        32777 => Some("SIMPLEPERF_TRACING_DATA"),
+        SIMPLE_PERF_RECORD_KERNEL_SYMBOL => Some("SIMPLEPERF_KERNEL_SYMBOL"),
+        SIMPLE_PERF_RECORD_DSO => Some("SIMPLEPERF_DSO"),
+        SIMPLE_PERF_RECORD_SYMBOL => Some("SIMPLEPERF_SYMBOL"),
+        SIMPLE_PERF_RECORD_SPLIT => Some("SIMPLEPERF_SPLIT"),
+        SIMPLE_PERF_RECORD_SPLIT_END => Some("SIMPLEPERF_SPLIT_END"),
+        SIMPLE_PERF_RECORD_EVENT_ID => Some("SIMPLEPERF_EVENT_ID"),
+        SIMPLE_PERF_RECORD_CALLCHAIN => Some("SIMPLEPERF_CALLCHAIN"),
+        SIMPLE_PERF_RECORD_UNWINDING_RESULT => Some("SIMPLEPERF_UNWINDING_RESULT"),
+        SIMPLE_PERF_RECORD_TRACING_DATA => Some("SIMPLEPERF_TRACING_DATA"),
         _ => None,
     }
 }
