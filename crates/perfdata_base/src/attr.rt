@@ -42,7 +42,8 @@ impl Flags for SampleFormat {
 
     ghost exact = { ⊤ };
 
-    ghost table = { (codes "IP", 1) ∷ (codes "TID", 2) ∷ (codes "TIME", 4) ∷ (codes "ADDR", 8) ∷ (codes "ID", 64) ∷ (codes "CPU", 128) ∷ (codes "STREAM_ID", 512) ∷ (codes "IDENTIFIER", 65536) ∷ [] };
+    ghost table = { (codes "IP", 1) ∷ (codes "TID", 2) ∷ (codes "TIME", 4) ∷ (codes "ADDR", 8) ∷
+        (codes "ID", 64) ∷ (codes "CPU", 128) ∷ (codes "STREAM_ID", 512) ∷ (codes "IDENTIFIER", 65536) ∷ [] };
 
     ghost set_of = { λ format. format.0 };
 

@@ -68,14 +68,14 @@ impl Flags for SampleFields {
 
     ghost exact = { ⊤ };
 
-    ghost table = { (codes "IP", 1) ∷ (codes "TID", 2) ∷ (codes "TIME", 4) ∷ (codes "ADDR", 8) ∷ (codes "READ", 16) ∷
-        (codes "CALLCHAIN", 32) ∷ (codes "ID", 64) ∷ (codes "CPU", 128) ∷ (codes "PERIOD", 256) ∷
-        (codes "STREAM_ID", 512) ∷ (codes "RAW", 1024) ∷ (codes "BRANCH_STACK", 2048) ∷
-        (codes "REGS_USER", 4096) ∷ (codes "STACK_USER", 8192) ∷ (codes "WEIGHT", 16384) ∷
-        (codes "DATA_SRC", 32768) ∷ (codes "IDENTIFIER", 65536) ∷ (codes "TRANSACTION", 131072) ∷
-        (codes "REGS_INTR", 262144) ∷ (codes "PHYS_ADDR", 524288) ∷ (codes "AUX", 1048576) ∷
-        (codes "CGROUP", 2097152) ∷ (codes "DATA_PAGE_SIZE", 4194304) ∷ (codes "CODE_PAGE_SIZE", 8388608) ∷
-        (codes "WEIGHT_STRUCT", 16777216) ∷ [] };
+    ghost table = { (codes "IP", 1) ∷ (codes "TID", 2) ∷ (codes "TIME", 4) ∷ (codes "ADDR", 8) ∷
+        (codes "READ", 16) ∷ (codes "CALLCHAIN", 32) ∷ (codes "ID", 64) ∷ (codes "CPU", 128) ∷
+        (codes "PERIOD", 256) ∷ (codes "STREAM_ID", 512) ∷ (codes "RAW", 1024) ∷
+        (codes "BRANCH_STACK", 2048) ∷ (codes "REGS_USER", 4096) ∷ (codes "STACK_USER", 8192) ∷
+        (codes "WEIGHT", 16384) ∷ (codes "DATA_SRC", 32768) ∷ (codes "IDENTIFIER", 65536) ∷
+        (codes "TRANSACTION", 131072) ∷ (codes "REGS_INTR", 262144) ∷ (codes "PHYS_ADDR", 524288) ∷
+        (codes "AUX", 1048576) ∷ (codes "CGROUP", 2097152) ∷ (codes "DATA_PAGE_SIZE", 4194304) ∷
+        (codes "CODE_PAGE_SIZE", 8388608) ∷ (codes "WEIGHT_STRUCT", 16777216) ∷ [] };
 
     ghost set_of = { λ bits. bits.0 };
 
@@ -298,12 +298,12 @@ impl Flags for EventFlags {
 
     ghost exact = { ⊤ };
 
-    ghost table = { (codes "DISABLED", 1) ∷ (codes "INHERIT", 2) ∷ (codes "PINNED", 4) ∷ (codes "EXCLUSIVE", 8) ∷
-        (codes "EXCLUDE_USER", 16) ∷ (codes "EXCLUDE_KERNEL", 32) ∷ (codes "EXCLUDE_HV", 64) ∷
-        (codes "EXCLUDE_IDLE", 128) ∷ (codes "MMAP", 256) ∷ (codes "COMM", 512) ∷ (codes "FREQ", 1024) ∷
-        (codes "INHERIT_STAT", 2048) ∷ (codes "ENABLE_ON_EXEC", 4096) ∷ (codes "TASK", 8192) ∷
-        (codes "WATERMARK", 16384) ∷ (codes "PRECISE_IP", 98304) ∷ (codes "MMAP_DATA", 131072) ∷
-        (codes "SAMPLE_ID_ALL", 262144) ∷ (codes "EXCLUDE_HOST", 524288) ∷
+    ghost table = { (codes "DISABLED", 1) ∷ (codes "INHERIT", 2) ∷ (codes "PINNED", 4) ∷
+        (codes "EXCLUSIVE", 8) ∷ (codes "EXCLUDE_USER", 16) ∷ (codes "EXCLUDE_KERNEL", 32) ∷
+        (codes "EXCLUDE_HV", 64) ∷ (codes "EXCLUDE_IDLE", 128) ∷ (codes "MMAP", 256) ∷ (codes "COMM", 512) ∷
+        (codes "FREQ", 1024) ∷ (codes "INHERIT_STAT", 2048) ∷ (codes "ENABLE_ON_EXEC", 4096) ∷
+        (codes "TASK", 8192) ∷ (codes "WATERMARK", 16384) ∷ (codes "PRECISE_IP", 98304) ∷
+        (codes "MMAP_DATA", 131072) ∷ (codes "SAMPLE_ID_ALL", 262144) ∷ (codes "EXCLUDE_HOST", 524288) ∷
         (codes "EXCLUDE_GUEST", 1048576) ∷ (codes "EXCLUDE_CALLCHAIN_KERNEL", 2097152) ∷
         (codes "EXCLUDE_CALLCHAIN_USER", 4194304) ∷ (codes "MMAP2", 8388608) ∷
         (codes "COMM_EXEC", 16777216) ∷ (codes "USE_CLOCKID", 33554432) ∷
@@ -371,9 +371,9 @@ impl Flags for MiscFlags {
 
     ghost exact = { ⊤ };
 
-    ghost table = { (codes "PROC_MAP_PARSE_TIMEOUT", 4096) ∷ (codes "MMAP_DATA", 8192) ∷ (codes "COMM_EXEC", 8192) ∷
-        (codes "FORK_EXEC", 8192) ∷ (codes "SWITCH_OUT", 8192) ∷ (codes "EXACT_IP", 16384) ∷
-        (codes "SWITCH_OUT_PREEMPT", 16384) ∷ (codes "MMAP_BUILD_ID", 16384) ∷
+    ghost table = { (codes "PROC_MAP_PARSE_TIMEOUT", 4096) ∷ (codes "MMAP_DATA", 8192) ∷
+        (codes "COMM_EXEC", 8192) ∷ (codes "FORK_EXEC", 8192) ∷ (codes "SWITCH_OUT", 8192) ∷
+        (codes "EXACT_IP", 16384) ∷ (codes "SWITCH_OUT_PREEMPT", 16384) ∷ (codes "MMAP_BUILD_ID", 16384) ∷
         (codes "EXT_RESERVED", 32768) ∷ [] };
 
     ghost set_of = { λ bits. bits.0 };

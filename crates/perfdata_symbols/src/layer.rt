@@ -53,7 +53,8 @@ impl Layer {
     // returns `false` and changes nothing. A symbol of size 0 needs no cuts.
     pub(crate) fn append(&mut self, index: usize, start: u64, size: u64) -> Result<bool, AllocError>
         ensures ok { IfOk result (λ appended. (x : ℕ) → symbol_in self.new x
-            ≡ later_of (symbol_in self.old x) (if appended && covers start size x then Some index else None)) }
+            ≡ later_of (symbol_in self.old x)
+            (if appended && covers start size x then Some index else None)) }
         ensures err { OnErr result ((x : ℕ) → symbol_in self.new x ≡ symbol_in self.old x) }
     {
         if size == 0 {

@@ -91,8 +91,8 @@ fn push_frames<C: CodeMap>(
     requires { frames.old.items ≡ [] }
     ensures few { OnOk result (length frames.new.items ≤ frame_limit sample.now.copy) }
     ensures chain { IfOk result (λ end. IsChain (C.executable code.old) sample.now.machine
-        (Finds (C.places code.old) sample.now.machine sample.now.copy) (frame_limit sample.now.copy) first 16384
-        frames.new.items end) }
+        (Finds (C.places code.old) sample.now.machine sample.now.copy) (frame_limit sample.now.copy) first
+        16384 frames.new.items end) }
 {
     let limit = sample.copy.bytes.len() / 8 + MORE_FRAMES;
     let mut evaluator = Evaluator::new();

@@ -213,7 +213,8 @@ fn merge_info(
     ensures valid_contents { OnOk result
         (IsValidContents IsAnyLeaf (field_type messages.File field_number) (bytes_contents bytes.now)) }
     ensures on_error { IfErr result (λ e. ((e ≡ Memory)
-        × NeedsMemory SubmessageNeedsMemory (field_type messages.File field_number) (bytes_contents bytes.now))
+        × NeedsMemory SubmessageNeedsMemory (field_type messages.File field_number)
+        (bytes_contents bytes.now))
         ⊎ IsInvalidContents LeafError (field_type messages.File field_number) (bytes_contents bytes.now) e) }
 {
     match field_number {

@@ -1,4 +1,4 @@
-use Rattle.std.proofs.Common.{◌≡◌, ◌+◌, ◌<◌, [], ◌∷◌, ◌++◌, ◌∙◌, arith, ap, sym, subst, take, List, None, Some}
+use Rattle.std.proofs.Common.{◌≡◌, ◌+◌, ◌<◌, [], ◌∷◌, ◌++◌, ◌∙◌, arith, ap, sym, subst, take, None, Some}
 use Rattle.std.specs.Prelude.{if◌then◌else◌, is_ok}
 use Rattle.std.specs.List.Sorted.{IsNonDecreasingBy}
 use Rattle.perfdata_symbols.specs.Cuts.{IsAppendPoint, symbol_from}
