@@ -100,21 +100,12 @@ impl Details {
             (bytes_of fields.new) }
         ensures single { KeepsSingle NoParts fields.old result fields.new }
     {
-        let time_enabled = read_u64_if(
-            endian,
-            fields,
-            format.contains(ReadFields::TOTAL_TIME_ENABLED),
-        )?;
-        let time_running = read_u64_if(
-            endian,
-            fields,
-            format.contains(ReadFields::TOTAL_TIME_RUNNING),
-        )?;
+        let times = Times::parse(endian, format, fields)?;
         let id = read_u64_if(endian, fields, format.contains(ReadFields::ID))?;
         let lost = read_u64_if(endian, fields, format.contains(ReadFields::LOST))?;
         Ok(Details {
-            time_enabled,
-            time_running,
+            time_enabled: times.time_enabled,
+            time_running: times.time_running,
             id,
             lost,
         })
