@@ -46,14 +46,10 @@ impl RecordLine for TrackedLine<'_> {
         record: &PerfFileRecord<'_>,
         perf_file: &PerfFile,
     ) -> Result<(), Error> {
-        match self.line.set(place, record, perf_file) {
-            Ok(()) => {
-                self.position.add(&place, record);
-                self.progress.add_record(self.position.offset.unwrap_or(0));
-                Ok(())
-            }
-            Err(memory) => Err(memory),
-        }
+        self.line.set(place, record, perf_file)?;
+        self.position.add(&place, record);
+        self.progress.add_record(self.position.offset.unwrap_or(0));
+        Ok(())
     }
 
     fn as_bytes(&self) -> &[u8] {
