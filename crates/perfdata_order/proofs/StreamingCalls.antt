@@ -1,4 +1,6 @@
 -- The steps of a call over a source.
+use Rattle.std.specs.Prelude.{IfSome, Vec}
+use Rattle.std.specs.declared.alloc.Global.{Global}
 use Rattle.std.proofs.Common.{◌≡◌, ℕ, ◌+◌, ◌-◌, ◌*◌, ◌^◌, ◌<◌, ◌≤◌, ◌⊎◌, List, [], ◌∷◌, ◌++◌, length, min, Option, None, Some, Result, Ok, Err, Bool, true, false, not, refl, sym, ap, ◌∙◌, subst, inl, inr, arith}
 use Rattle.std.proofs.lemmas.List.Sorted.{length_permutation}
 use Rattle.std.specs.Ordering.{nat_cmp}
@@ -19,9 +21,11 @@ use Rattle.perfdata_order.specs.declared.streaming.OrderedRecords.{OrderedRecord
 use Rattle.perfdata_order.specs.HeldRecord.{view_with, held_view, held_size}
 use Rattle.perfdata_order.specs.Sorter.{held_of, available_of, pending_of, IsUnchanged, TestsAvailable, Inserted, HalfReleased, EndsAllRounds}
 use Rattle.perfdata_order.specs.SorterLaws.Call.{inserts, ends_round, ends_all, releases, returns, keeps}
-use Rattle.perfdata_order.specs.StreamingOrder.{Unplaced, unplaced_by, unplaced_of, AfterPlacing, PlacesPending, IsUnplaced, IsOngoing, pending_records, EndReturned, RecordReturned, Step, returned_in, TakesStep, TakesSteps, Progress, Places, ReadsPending, ReadsWaiting, ReadsAndHolds, PassesPending, HasNoUntimed, EndsRoundsBefore, KeepsSorter, EndsRounds, InsertsPending, ReturnsSorted, TakesEnd, FailsInOrder, IsOneRoundLater, IsLaterOrLast, SameBudget, FitsBudget, IsAdmitted, HasAvailable, AdmitsPending, ReleasesEarly, ReleasesForPending, budget_of, early_of, held_bytes_of}
+use Rattle.perfdata_order.specs.StreamingOrder.{Unplaced, unplaced_by, unplaced_of, AfterPlacing, PlacesPending, IsUnplaced, IsOngoing, pending_records, EndReturned, RecordReturned, Step, returned_in, TakesStep, TakesSteps, Progress, Places, ReadsPending, ReadsWaiting, ReadsAndHolds, PassesPending, HasNoUntimed, EndsRoundsBefore, KeepsSorter, EndsRounds, InsertsPending, ReturnsSorted, TakesEnd, FailsInOrder, IsOneRoundLater, IsLaterOrLast, SameBudget, FitsBudget, IsAdmitted, HasAvailable, AdmitsPending, ReleasesEarly, ReleasesForPending, MayInsert, with_pending, budget_of, early_of, held_bytes_of}
 use Rattle.perfdata_order.specs.StreamingOrder.Unplaced.{nothing, waiting, ending, failing, failed}
 use Rattle.perfdata_order.specs.StreamingOrder.Step.{reads, passes, reads_end, reads_error, sorts, reports}
+use Rattle.perfdata_order.specs.Reading.{IsUpToRound, ReadsAndInserts}
+use Rattle.perfdata_order.specs.Times.{time_key_of}
 use Rattle.perfdata_order.proofs.SorterCalls.{held_split}
 
 pub none_append : (ss ts : List Step) → returned_in ss ≡ [] → returned_in ts ≡ [] → returned_in (ss ++ ts) ≡ []
@@ -256,16 +260,19 @@ module _ {R : Type 0} (state : R → State) where
 
   -- ---- holding a record that was read
 
-  -- The record was read, and then held.
-  pub read_held : (old read new : OrderedRecords R) (file file' : PerfFile) (key : ℕ) (h : RecordView) → ReadsWaiting state old file (Some key) h read file' → ((held : HeldRecord) × InsertsPending read key held new) ⊎ KeepsSorter read new → ReadsAndHolds state old file (Some key) h new file'
-  read_held old read new file file' key h was_read (inl (held, inserted)) = record {
+  -- The record was read, and then inserted.
+  pub read_inserted : (old read new : OrderedRecords R) (file file' : PerfFile) (key : ℕ) (h : RecordView) → ReadsWaiting state old file (Some key) h read file' → (held : HeldRecord) → InsertsPending read key held new → ReadsAndHolds state old file (Some key) h new file'
+  read_inserted old read new file file' key h was_read held inserted = record {
     read = read;
     was_read = was_read;
     places = places_inserted read read new key held (places_none read read refl) inserted;
     pending = inl inserted.pending;
     same_records = inserted.same_records;
   }
-  read_held old read new file file' key h was_read (inr kept) = record {
+
+  -- The record was read, and is pending.
+  pub read_kept : (old read new : OrderedRecords R) (file file' : PerfFile) (key : Option ℕ) (h : RecordView) → ReadsWaiting state old file key h read file' → KeepsSorter read new → ReadsAndHolds state old file key h new file'
+  read_kept old read new file file' key h was_read kept = record {
     read = read;
     was_read = was_read;
     places = places_kept read read new (places_none read read refl) kept;
@@ -273,14 +280,67 @@ module _ {R : Type 0} (state : R → State) where
     same_records = kept.same_records;
   }
 
-  pub read_pending : (old new : OrderedRecords R) (file file' : PerfFile) (key : Option ℕ) (h : RecordView) → ReadsWaiting state old file key h new file' → ReadsAndHolds state old file key h new file'
-  read_pending old new file file' key h was_read = record {
-    read = new;
-    was_read = was_read;
-    places = places_none new new refl;
-    pending = inr was_read.pending;
-    same_records = refl;
-  }
+  may_insert : (s : OrderedRecords R) (last : Option ℕ) (round : ℕ) → IfSome last (λ r. MayInsert s r) → IsUpToRound last round → MayInsert s round
+  may_insert s None round may below = absurd below
+  may_insert s (Some r) round may below = record { in_round = (let within = may.in_round in omega (arith, within, below)); no_budget = may.no_budget; none_available = may.none_available }
+
+  -- The record was inserted as soon as it was read. Its body is also in the buffer of the iterator.
+  pub read_and_inserted : (old new : OrderedRecords R) (file file' : PerfFile) (last : Option ℕ) (size : ℕ) (body : Vec ℕ Global) → unplaced_of old ≡ nothing → IfSome last (λ r. MayInsert (record old { body = body }) r)
+      → ReadsAndInserts state old.records file old.held last size new.held new.records file' → unplaced_of new ≡ nothing → new.round ≡ old.round → budget_of new ≡ budget_of old → early_of new ≡ early_of old
+      → held_bytes_of new ≡ min (held_bytes_of old + size) 18446744073709551615 → ReadsPending state old file new file'
+  read_and_inserted old new file file' last size body none may read none_after same_round budget early bytes =
+      let envelope = read.envelope in
+      let h = view_with envelope read.body in
+      let key = read.inserts.key in
+      let middle = with_pending (record old { records = new.records; body = new.records.body }) (Some key) envelope in
+      let was_read : ReadsWaiting state old file (Some key) h middle file' = record {
+        nothing_pending = none;
+        returned = read.returned;
+        has_time = read.inserts.may_hold.has_time;
+        pending = ap (λ b. waiting (Some key) (view_with envelope b)) read.returned.buffered_body;
+        same_order = record { sorter = refl; round = refl; same_budget = record { budget = refl; held_bytes = refl; early = refl } };
+      } in
+      let done = read.inserts.inserted in
+      let can = may_insert (record old { body = body }) last envelope.place.round may read.inserts.may_hold.in_round in
+      let is : held_size (held_view done.0) ≡ size = ap (λ x. held_size x) done.1.1 ∙ sym read.inserts.counts in
+      let small = read.inserts.may_hold.is_small in
+      let counts = read.inserts.counts in
+      inr (inl (
+        Some key,
+        (
+          h,
+          read_inserted old middle new file file' key h was_read done.0 (record {
+            was_pending = was_read.pending ∙ ap (λ x. waiting (Some key) x) (sym done.1.1);
+            in_round = subst (λ x. x.round ≤ old.round) (sym done.1.1) can.in_round;
+            none_available = can.none_available;
+            fits_budget = inl can.no_budget;
+            size_fits = omega (arith, is, small, counts);
+            inserted = done.1.0;
+            pending = none_after;
+            same_records = refl;
+            round = same_round;
+            budget = budget;
+            early = early;
+            held_bytes = bytes_added old.held_bytes size (held_size (held_view done.0)) new.held_bytes is bytes;
+          }),
+        ),
+      ))
+
+  -- The record was read, and its body copied. It is pending.
+  pub read_and_copied : (old new : OrderedRecords R) (file file' : PerfFile) (envelope : RecordEnvelope) → unplaced_of old ≡ nothing → ReturnsRecord state old.records file (view_with envelope new.body.items) new.records file'
+      → IsUnchanged old.held.sorter new.held.sorter → unplaced_of new ≡ waiting (time_key_of envelope.place) (view_with envelope new.body.items) → new.round ≡ old.round → SameBudget old new → ReadsPending state old file new file'
+  read_and_copied old new file file' envelope none returned unchanged is same_round same_budget =
+      let key = time_key_of envelope.place in
+      let h = view_with envelope new.body.items in
+      let middle = with_pending (record old { records = new.records; body = new.body }) key envelope in
+      let was_read : ReadsWaiting state old file key h middle file' = record {
+        nothing_pending = none;
+        returned = returned;
+        has_time = refl;
+        pending = refl;
+        same_order = record { sorter = refl; round = refl; same_budget = record { budget = refl; held_bytes = refl; early = refl } };
+      } in
+      inr (inl (key, (h, read_kept old middle new file file' key h was_read (record { unchanged = unchanged; pending = is; same_records = refl; round = same_round; same_budget = record { budget = same_budget.budget; held_bytes = same_budget.held_bytes; early = same_budget.early } }))))
 
   -- ---- what a record that was read shows of the offset
 

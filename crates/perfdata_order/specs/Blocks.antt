@@ -23,13 +23,13 @@ bytes_by blocks block = slice_index_or (map (λ b. bytes_in b) blocks) block []
 abbrev pub held_by : List Block → ℕ → ℕ
 held_by blocks block = slice_index_or (map (λ b. held_in b) blocks) block 0
 
--- A body of this length fits: the block is empty, or 4,096 bytes are enough.
+-- A body of this length fits: the block is empty, or 65,536 bytes are enough.
 pub record Fits (b : Block) (len : ℕ) : Type 0 where
   pub countable : b.held < 2 ^ 64 - 1
-  pub in_capacity : (length b.bytes.items ≡ 0) ⊎ (length b.bytes.items + len ≤ 4096)
+  pub in_capacity : (length b.bytes.items ≡ 0) ⊎ (length b.bytes.items + len ≤ 65536)
 
 abbrev pub FitsNot : Block → ℕ → Type 0
-FitsNot b len = (2 ^ 64 - 1 ≤ b.held) ⊎ ((0 < length b.bytes.items) × (4096 < length b.bytes.items + len))
+FitsNot b len = (2 ^ 64 - 1 ≤ b.held) ⊎ ((0 < length b.bytes.items) × (65536 < length b.bytes.items + len))
 
 abbrev pub TestsCapacity : Block → ℕ → Bool → Type 0
 TestsCapacity b len true = Fits b len
@@ -51,7 +51,7 @@ pub record Cleared (old new : Block) : Type 0 where
   pub none_after : new.held ≡ 0
   pub bytes : new.bytes.items ≡ []
   pub no_more : vec_capacity new.bytes ≤ vec_capacity old.bytes
-  pub enough : min 4096 (vec_capacity old.bytes) ≤ vec_capacity new.bytes
+  pub enough : min 65536 (vec_capacity old.bytes) ≤ vec_capacity new.bytes
 
 abbrev pub IsCleared : Block → Bool → Block → Type 0
 IsCleared old true new = Cleared old new

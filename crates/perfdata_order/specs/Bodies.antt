@@ -42,7 +42,7 @@ EachIsHeld s = (block : ℕ) → block < block_count s → 0 < held_at s block
 
 -- A body of this length doesn't fit in the current block, or there is none.
 abbrev pub IsCurrentFull : Bodies → ℕ → Type 0
-IsCurrentFull s len = (block_count s ≤ s.current) ⊎ ((2 ^ 64 - 1 ≤ held_at s s.current) ⊎ ((0 < length (bytes_at s s.current)) × (4096 < length (bytes_at s s.current) + len)))
+IsCurrentFull s len = (block_count s ≤ s.current) ⊎ ((2 ^ 64 - 1 ≤ held_at s s.current) ⊎ ((0 < length (bytes_at s s.current)) × (65536 < length (bytes_at s s.current) + len)))
 
 abbrev pub TestsCurrent : Bodies → ℕ → Bool → Type 0
 TestsCurrent s len true = CanAppend s

@@ -13,5 +13,6 @@ pub mod ParseInfos
 pub mod HeldRecord
 pub mod HeldRecords
 pub mod StreamingOrder
+pub mod Reading
 pub mod StreamingLaws
 pub mod InMemoryLaws

@@ -286,10 +286,6 @@ module _ {R : Type 0} where
   abbrev pub with_pending : OrderedRecords R → Option ℕ → RecordEnvelope → OrderedRecords R
   with_pending s key envelope = record s { pending = variant.Record key envelope }
 
-  -- The record that was read is in the sorter, or still pending.
-  abbrev pub HoldsRecord : OrderedRecords R → ℕ → RecordEnvelope → OrderedRecords R → Type 0
-  HoldsRecord old key envelope new = ((held : HeldRecord) × InsertsPending (with_pending old (Some key) envelope) key held new) ⊎ KeepsSorter (with_pending old (Some key) envelope) new
-
   -- The record without a time was taken, if one is pending.
   abbrev pub TakesUntimed : OrderedRecords R → Option RecordEnvelope → OrderedRecords R → Type 0
   TakesUntimed old None new = (new ≡ old) × HasNoUntimed (unplaced_of old)
@@ -324,12 +320,6 @@ module _ {R : Type 0} where
     -- The error of the source, or of the copy of a large body.
     abbrev pub FailsToRead : PerfRecordIter R → PerfFile → Error → List ℕ → PerfRecordIter R → PerfFile → Type 0
     FailsToRead old file e copy new file' = ReturnsError state old file e new file' ⊎ CopyFailed old file e copy new file'
-
-    -- Reading a record, whose body is then `body`.
-    abbrev pub ReadsRecord : PerfRecordIter R → PerfFile → Result (Option RecordEnvelope) Error → List ℕ → PerfRecordIter R → PerfFile → Type 0
-    ReadsRecord old file (Ok (Some envelope)) body new file' = ReturnsRecord state old file (view_with envelope body) new file'
-    ReadsRecord old file (Ok None) body new file' = ReturnsEnd state old file new file'
-    ReadsRecord old file (Err e) body new file' = FailsToRead old file e body new file'
 
     -- A record was read, and is pending.
     pub record ReadsWaiting (old : OrderedRecords R) (file : PerfFile) (key : Option ℕ) (h : RecordView) (new : OrderedRecords R) (file' : PerfFile) : Type 0 where

@@ -1,13 +1,16 @@
 //! The bodies of held records, in blocks.
 ghost use Rattle.std.specs.Prelude.{◌≡◌, ◌^◌, ◌-◌, ◌<◌, ◌≤◌, length, vec_capacity};
 ghost use Rattle.std.proofs.Props.{props};
+ghost use Rattle.perfdata_base.specs.Raw.{bytes_of};
 ghost use Rattle.perfdata_order.specs.Blocks.{AreSpare};
 
+use linux_perf_data::raw::RawData;
 use std::alloc::{AllocError, Global};
 use std::snapshot::Snapshot;
 
-// The capacity of a block in bytes. A larger body has a block of its own.
-const BLOCK_CAPACITY: usize = 4096;
+// The capacity of a block in bytes. The size field of a record header has 16 bits, so only a body with aux
+// data is larger. It has a block of its own.
+const BLOCK_CAPACITY: usize = 65536;
 
 // Bodies one after the other, and how many of them are held.
 #[derive(Drop)]
@@ -29,11 +32,11 @@ impl Block {
     }
 
     // Appends a body. Returns the offset of its end, and the bytes for clauses alone.
-    fn append(&mut self, body: &[u8]) -> Result<(usize, Snapshot<Vec<u8>>), AllocError>
+    fn append(&mut self, body: RawData<'_>) -> Result<(usize, Snapshot<Vec<u8>>), AllocError>
         requires { self.old.held < 2 ^ 64 - 1 }
-        ensures { AppendsTo self.old body.now result self.new }
+        ensures { AppendsTo self.old (bytes_of body.entry) result self.new }
     {
-        self.bytes.extend_from_slice(body)?;
+        body.append_to(&mut self.bytes)?;
         self.held += 1;
         Ok((self.bytes.len(), Snapshot::of(&self.bytes)))
     }
@@ -174,9 +177,9 @@ impl Bodies {
     }
 
     // Appends a body to the current block.
-    fn append_to_current(&mut self, body: &[u8]) -> Result<HeldBody, AllocError>
+    fn append_to_current(&mut self, body: RawData<'_>) -> Result<HeldBody, AllocError>
         requires { CanAppend self.old }
-        ensures appends { AppendsBody self.old body.now result self.new }
+        ensures appends { AppendsBody self.old (bytes_of body.entry) result self.new }
         ensures same_blocks { block_count self.new ≡ block_count self.old }
     {
         let block = self.current;
@@ -195,9 +198,9 @@ impl Bodies {
 
     // Copies a body, which is then held.
     #[inline(always)]
-    pub(crate) fn append(&mut self, body: &[u8]) -> Result<HeldBody, AllocError>
-        ensures appends { AppendsBody self.old body.now result self.new }
-        ensures blocks { AddsBlockIfFull self.old (length body.now) self.new }
+    pub(crate) fn append(&mut self, body: RawData<'_>) -> Result<HeldBody, AllocError>
+        ensures appends { AppendsBody self.old (bytes_of body.entry) result self.new }
+        ensures blocks { AddsBlockIfFull self.old (length (bytes_of body.entry)) self.new }
     {
         if !self.has_capacity(body.len()) {
             self.next_block()?;

@@ -2,6 +2,7 @@
 ghost use Rattle.std.specs.Prelude.{◌≡◌, ◌+◌, ◌≤◌, All};
 ghost use Rattle.std.specs.Ordering.{nat_cmp};
 ghost use Rattle.std.proofs.Props.{props};
+ghost use Rattle.perfdata_base.specs.Raw.{bytes_of};
 ghost use Rattle.perfdata_order.specs.Sorter.{held_of, slots_in};
 ghost use Rattle.perfdata_order.specs.Bodies.{block_count};
 ghost use Rattle.perfdata_order.specs.HeldRecord.{IsStored, IsCounted};
@@ -10,6 +11,7 @@ use crate::bodies::{Bodies, BodyRange};
 use crate::held_record::{HeldFormat, HeldRecord, RecordEnvelope};
 use crate::parse_infos::ParseInfos;
 use crate::sorter::Sorter;
+use linux_perf_data::raw::RawData;
 use std::alloc::{AllocError, Global};
 
 // Held records in rounds, with their bodies and their parse infos.
@@ -74,9 +76,9 @@ impl HeldRecords {
         &mut self,
         key: u64,
         envelope: RecordEnvelope,
-        body: &[u8],
+        body: RawData<'_>,
     ) -> Result<(), AllocError>
-        ensures { InsertsRecord self.old key envelope body.now result self.new }
+        ensures { InsertsRecord self.old key envelope (bytes_of body.entry) result self.new }
     {
         let format = match HeldFormat::of(envelope.format, &mut self.parse_infos) {
             Ok(format) => format,

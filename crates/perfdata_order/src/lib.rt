@@ -11,6 +11,7 @@ mod held_records;
 pub mod in_memory;
 pub mod laws;
 mod parse_infos;
+mod reading;
 mod slots;
 pub mod sorter;
 pub mod streaming;

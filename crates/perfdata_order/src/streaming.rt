@@ -1,11 +1,12 @@
 //! The records of a source, in order of time.
-ghost use Rattle.std.specs.Prelude.{◌≡◌, ℕ, ◌+◌, ◌^◌, ◌<◌, ◌≤◌, [], IsTrue, MatchBool, vec_capacity, Some};
-ghost use Rattle.perfdata_order.specs.StreamingOrder.{ReadsRecord};
+ghost use Rattle.std.specs.Prelude.{◌≡◌, ℕ, ◌+◌, ◌<◌, ◌≤◌, MatchBool, IfSome, Some};
 
 use crate::bodies::BodyRange;
-use crate::held_record::{RecordEnvelope, copy_body};
+use crate::held_record::RecordEnvelope;
 use crate::held_records::HeldRecords;
 use crate::in_memory::time_key;
+use crate::reading::{BODY_CAPACITY, NextRecord, held_size, read_record};
+use linux_perf_data::raw::RawData;
 use linux_perf_data::source::Source;
 use linux_perf_data::{Error, PerfFile, PerfFileRecord, PerfRecordIter, RecordPlace};
 use std::alloc::{AllocError, Global};
@@ -29,10 +30,6 @@ pub(crate) enum BodyBuffer {
     Read,
     Sorted,
 }
-
-// The capacity of the buffer into which records are read. The size field of a record header has 16 bits, so
-// only a body with aux data is larger.
-const BODY_CAPACITY: usize = 65536;
 
 /// Returns the records of a source in order of time.
 ///
@@ -90,9 +87,8 @@ pub struct OrderedRecords<R> {
 }
 
 impl<R> OrderedRecords<R> {
-    ghost use Rattle.perfdata_order.specs.declared.streaming.Pending.TheVariants.{Nothing};
     ghost use Rattle.perfdata_order.specs.StreamingOrder.{IsNewOrder, EndsRoundsBefore, ReleasesEarly};
-    ghost use Rattle.perfdata_order.specs.StreamingOrder.{MayInsert, HoldsRecord, TakesEnd, TakesSorted};
+    ghost use Rattle.perfdata_order.specs.StreamingOrder.{MayInsert, TakesEnd, TakesSorted};
     ghost use Rattle.perfdata_order.specs.StreamingOrder.{TakesUntimed, body_in, early_of};
 
     /// Returns the records of `records` in order of time. The order allocates with `alloc`.
@@ -179,32 +175,16 @@ impl<R> OrderedRecords<R> {
         Ok(())
     }
 
-    // Whether a record of this round may be inserted as soon as it is read: no record is available, no round
-    // ends, and there is no budget.
-    fn may_insert(&self, round: u64) -> bool
-        ensures { IsTrue result → MayInsert self.now round }
+    // The last round whose records are inserted as soon as they are read. There is none if a record is
+    // available, or if there is a budget.
+    fn insertable_round(&self) -> Option<u64>
+        ensures { IfSome result (λ round. MayInsert self.now round) }
     {
-        round <= self.round && self.budget == 0 && !self.held.has_more()
-    }
-
-    // Inserts the record that was read, whose body is in `self.body`. It is pending if it may not be inserted
-    // yet, or if memory runs out. Most records aren't pending: `Pending` is large, and dear to write.
-    #[inline(always)]
-    fn hold(&mut self, key: u64, envelope: RecordEnvelope)
-        requires { self.old.pending ≡ Nothing }
-        ensures { HoldsRecord self.old key envelope self.new }
-    {
-        let size = held_size(self.body.len());
-        if self.may_insert(envelope.place.round) {
-            match self.held.insert(key, envelope, self.body.as_slice()) {
-                Ok(()) => {
-                    self.held_bytes = self.held_bytes.saturating_add(size);
-                    return;
-                }
-                Err(_) => {}
-            }
+        if self.budget == 0 && !self.held.has_more() {
+            Some(self.round)
+        } else {
+            None
         }
-        self.pending = Pending::Record(Some(key), envelope);
     }
 
     // Takes the next available record from the sorter. `self.returned` is then its body.
@@ -267,34 +247,6 @@ impl<R> OrderedRecords<R> {
     }
 }
 
-// The bytes that count for a held record with a body of this length: the body, and what is held beside it.
-const HELD_RECORD_BYTES: u64 = 192;
-
-fn held_size(body_len: usize) -> u64
-    requires { body_len < 2 ^ 63 }
-    ensures { result ≡ body_len + 192 }
-{
-    body_len as u64 + HELD_RECORD_BYTES
-}
-
-// Reads the next record, and copies its body.
-fn read_record<R: Source>(
-    records: &mut PerfRecordIter<R>,
-    perf_file: &mut PerfFile,
-    body: &mut Vec<u8>,
-) -> Result<Option<RecordEnvelope>, Error>
-    requires empty { body.old.items ≡ [] }
-    requires capacity { 65536 ≤ vec_capacity body.old }
-    ensures { ReadsRecord R.state records.old perf_file.old result body.new.items records.new perf_file.new }
-{
-    let Some((place, record)) = records.next_record(perf_file)? else {
-        return Ok(None);
-    };
-    let envelope = RecordEnvelope::of(place, &record);
-    copy_body(body, record.body())?;
-    Ok(Some(envelope))
-}
-
 impl<R: Source> OrderedRecords<R> {
     ghost use Rattle.std.specs.Io.BufRead.{Rests};
     ghost use Rattle.std.specs.Borrow.{sem};
@@ -306,8 +258,8 @@ impl<R: Source> OrderedRecords<R> {
     ghost use Rattle.perfdata_order.specs.HeldRecord.{held_size as size_of};
     ghost use Rattle.linux_perf_data.specs.Layout.{RecordView};
 
-    // Reads the next record, unless something is pending. Its body is then in `self.body`. Holds it if it is
-    // timed.
+    // Reads the next record, unless something is pending. It is then in the sorter, or pending with its body
+    // in `self.body`.
     fn read(&mut self, perf_file: &mut PerfFile) -> Result<(), AllocError>
         ensures { ReadsNext R.state self.old perf_file.old result self.new perf_file.new }
     {
@@ -317,17 +269,23 @@ impl<R: Source> OrderedRecords<R> {
         }
         self.body.clear();
         self.body.try_reserve(BODY_CAPACITY)?;
-        match read_record(&mut self.records, perf_file, &mut self.body) {
-            Ok(Some(envelope)) => match time_key(envelope.place) {
-                Some(key) => {
-                    self.hold(key, envelope);
-                    Ok(())
-                }
-                None => {
-                    self.pending = Pending::Record(None, envelope);
-                    Ok(())
-                }
-            },
+        let last_round = self.insertable_round();
+        match read_record(
+            &mut self.records,
+            perf_file,
+            &mut self.held,
+            last_round,
+            &mut self.body,
+        ) {
+            // Most records aren't pending: `Pending` is large, and dear to write.
+            Ok(Some(NextRecord::Held(size))) => {
+                self.held_bytes = self.held_bytes.saturating_add(size);
+                Ok(())
+            }
+            Ok(Some(NextRecord::Copied(envelope))) => {
+                self.pending = Pending::Record(time_key(envelope.place), envelope);
+                Ok(())
+            }
             Ok(None) => {
                 self.pending = Pending::End;
                 Ok(())
@@ -373,7 +331,10 @@ impl<R: Source> OrderedRecords<R> {
             Ok(false) => return Ok(()),
             Err(error) => return Err(error),
         }
-        match self.held.insert(key, envelope, self.body.as_slice()) {
+        match self
+            .held
+            .insert(key, envelope, RawData::Single(self.body.as_slice()))
+        {
             Ok(()) => {
                 self.pending = Pending::Nothing;
                 self.held_bytes = self.held_bytes.saturating_add(size);

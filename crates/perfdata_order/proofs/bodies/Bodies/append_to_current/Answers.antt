@@ -1,4 +1,5 @@
 use Rattle.std.proofs.Common.{refl, inl, arith}
+use Rattle.perfdata_base.specs.Raw.{bytes_of}
 use Rattle.perfdata_order.proofs.Blocks.{body_appended, block_unchanged, spare_kept, same_count}
 use Rattle.perfdata_order.proofs.bodies.Bodies.append_to_current.Goals as goal
 
@@ -15,7 +16,7 @@ invariant_of-self c =
 pub returns-in-Ok-clause-appends : goal.returns-in-Ok-clause-appends
 returns-in-Ok-clause-appends c =
     let old = c.args.self.now in
-    body_appended old _ old.current c.index_mut.result.now c.append.new.self c.requires.0 c.index_mut.ensures.value refl c.args.body.now c.in-Ok.end c.in-Ok.bytes c.in-Ok.ensures
+    rw c.len.ensures (body_appended old _ old.current c.index_mut.result.now c.append.new.self c.requires.0 c.index_mut.ensures.value refl (bytes_of c.args.body) c.in-Ok.end c.in-Ok.bytes c.in-Ok.ensures)
 
 pub returns-in-Err-clause-appends : goal.returns-in-Err-clause-appends
 returns-in-Err-clause-appends c =
