@@ -5,6 +5,7 @@ use Rattle.std.proofs.lemmas.Bool.{true≢false}
 use Rattle.std.proofs.lemmas.List.Elements.{All-nil, All-cons, All-same}
 use Rattle.perfdata_cfi.specs.declared.instruction.Machine.{Machine}
 use Rattle.perfdata_unwind.specs.Callers.{IsCaller, EndsWith, IsEnd, Calls}
+use Rattle.perfdata_unwind.specs.ChainEnds.{value_in}
 use Rattle.perfdata_unwind.specs.Chains.{IsLast, IsChain, IsMapped}
 use Rattle.perfdata_unwind.specs.Frames.{look_up_of, user_frame_of}
 use Rattle.perfdata_unwind.specs.Steps.{Finds, IsStep}
@@ -63,16 +64,16 @@ module _ (executable : ℕ → Bool → Type 0) (m : Machine) (finds : Frame →
   leads_last limit first start frames f k found n u e leads finds_it is last = leads (u ∷ []) e (found, n, finds_it, is, inl (refl, last))
 
 -- a step of a process that has mapped no more than another
-pub step_in_more : (executable others : ℕ → Bool → Type 0) → ((a : ℕ) (b : Bool) → executable a b → others a b) → (at places : ℕ → CodePlace → Type 0) → ((a : ℕ) (p : CodePlace) → at a p → places a p) → (m : Machine) (c : StackCopy) (f : Frame) (k : ℕ) (step : Step) (n : ℕ) → IsStep executable at m c f k step n → IsStep others places m c f k step n
-step_in_more executable others more at places mapped m c f k step n h = record {
+pub step_in_more : (executable others : ℕ → Bool → Type 0) → ((a : ℕ) (b : Bool) → executable a b → others a b) → (at places : ℕ → CodePlace → Type 0) → ((a : ℕ) (p : CodePlace) → at a p → places a p) → (m : Machine) (c : StackCopy) (f : Frame) (k : ℕ) (step : Step) (caller : Frame) (n : ℕ) → IsStep executable at m c f k step caller n → IsStep others places m c f k step caller n
+step_in_more executable others more at places mapped m c f k step caller n h = record {
   found = h.found;
   finds = finds_in_more at places mapped m c f k h.found n h.finds;
-  calls = calls_in_more executable others more m f h.found step.caller h.calls;
+  calls = calls_in_more executable others more m f h.found (value_in step.end caller) h.calls;
   signal_is = h.signal_is;
 }
 
 -- A frame of a loop: `all` are the frames with it.
-module _ (executable : ℕ → Bool → Type 0) (at : ℕ → CodePlace → Type 0) (m : Machine) (c : StackCopy) (limit : ℕ) (first : Frame) (start : ℕ) (frames all : List UserFrame) (f : Frame) (k : ℕ) (step : Step) (n : ℕ) (u : UserFrame) (is_step : IsStep executable at m c f k step n) (leads : Leads executable m (Finds at m c) limit first start frames f k) (is : u ≡ user_frame_of f step.is_signal) (all_are : all ≡ frames ++ u ∷ []) where
+module _ (executable : ℕ → Bool → Type 0) (at : ℕ → CodePlace → Type 0) (m : Machine) (c : StackCopy) (limit : ℕ) (first : Frame) (start : ℕ) (frames all : List UserFrame) (f : Frame) (k : ℕ) (step : Step) (caller : Frame) (n : ℕ) (u : UserFrame) (is_step : IsStep executable at m c f k step caller n) (leads : Leads executable m (Finds at m c) limit first start frames f k) (is : u ≡ user_frame_of f step.is_signal) (all_are : all ≡ frames ++ u ∷ []) where
   pub user_frame_is : u ≡ user_frame_of f is_step.found.is_signal
   user_frame_is = is ∙ ap (λ (b : Bool). user_frame_of f b) is_step.signal_is
 
@@ -84,21 +85,24 @@ module _ (executable : ℕ → Bool → Type 0) (at : ℕ → CodePlace → Type
       subst (λ (us : List UserFrame). IsChain executable m (Finds at m c) limit first start us e) (sym all_are)
       (leads_last executable m (Finds at m c) limit first start frames f k is_step.found n u e leads is_step.finds user_frame_is last)
 
-  pub chain_ends : (e : ChainEnd) → step.caller ≡ Err e → IsChain executable m (Finds at m c) limit first start all e
-  chain_ends e is_end = chain_with e (record { why = inl (subst (λ (r : Result Frame ChainEnd). Calls executable m f is_step.found r) is_end is_step.calls) })
+  calls_of : (end : Result (Unit {0}) ChainEnd) → step.end ≡ end → Calls executable m f is_step.found (value_in end caller)
+  calls_of end is_end = subst (λ (r : Result (Unit {0}) ChainEnd). Calls executable m f is_step.found (value_in r caller)) is_end is_step.calls
 
-  pub chain_stops : (g : Frame) → step.caller ≡ Ok g → limit ≤ length all → IsChain executable m (Finds at m c) limit first start all ends.Limit
-  chain_stops g is_caller full =
-      let caller : IsCaller executable m f is_step.found g = subst (λ (r : Result Frame ChainEnd). Calls executable m f is_step.found r) is_caller is_step.calls in
+  pub chain_ends : (e : ChainEnd) → step.end ≡ Err e → IsChain executable m (Finds at m c) limit first start all e
+  chain_ends e is_end = chain_with e (record { why = inl (calls_of (Err e) is_end) })
+
+  pub chain_stops : step.end ≡ Ok tt → limit ≤ length all → IsChain executable m (Finds at m c) limit first start all ends.Limit
+  chain_stops is_caller full =
+      let is : IsCaller executable m f is_step.found caller = calls_of (Ok tt) is_caller in
       let room : limit - length frames ≤ 1 = omega (arith, length_all, full) in
-      chain_with ends.Limit (record { why = inr (refl, room, (g, caller)) })
+      chain_with ends.Limit (record { why = inr (refl, room, (caller, is)) })
 
-  pub chain_goes : (g : Frame) → step.caller ≡ Ok g → length all < limit → Leads executable m (Finds at m c) limit first start all g n
-  chain_goes g is_caller within =
-      let caller : IsCaller executable m f is_step.found g = subst (λ (r : Result Frame ChainEnd). Calls executable m f is_step.found r) is_caller is_step.calls in
+  pub chain_goes : step.end ≡ Ok tt → length all < limit → Leads executable m (Finds at m c) limit first start all caller n
+  chain_goes is_caller within =
+      let called : IsCaller executable m f is_step.found caller = calls_of (Ok tt) is_caller in
       let enough : length frames + 1 < limit = omega (arith, length_all, within) in
-      subst (λ (us : List UserFrame). Leads executable m (Finds at m c) limit first start us g n) (sym all_are)
-      (leads_more executable m (Finds at m c) limit first start frames f k is_step.found n u g leads is_step.finds user_frame_is enough caller)
+      subst (λ (us : List UserFrame). Leads executable m (Finds at m c) limit first start us caller n) (sym all_are)
+      (leads_more executable m (Finds at m c) limit first start frames f k is_step.found n u caller leads is_step.finds user_frame_is enough called)
 
 -- The callers are in executable mappings.
 module _ (executable : ℕ → Bool → Type 0) (m : Machine) (finds : Frame → ℕ → Found → ℕ → Type 0) where

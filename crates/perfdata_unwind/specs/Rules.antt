@@ -103,12 +103,16 @@ is_needed f found register = (register == found.return_address) || (register == 
 abbrev pub RegisterIs : Callee → FoundRow → ℕ → ℕ → ℕ → Result (Option ℕ) ChainEnd → ℕ → Type 0
 RegisterIs f found cfa register k result n = ValueIs f register (is_needed f found register) cfa (rule_at found.row register) k result n
 
+-- the caller's value of a register is set by its rule
+abbrev pub SetsRegister : Callee → FoundRow → ℕ → ℕ → ℕ → Registers → Registers → ℕ → Type 0
+SetsRegister f found cfa register k before after n =
+    (value : Option ℕ) × RegisterIs f found cfa register k (Ok value) n × (after ≡ with_register before register value)
+
 -- the registers below a number have values by their rules, taken in order
 abbrev pub ValuesBelow : Callee → FoundRow → ℕ → ℕ → ℕ → Registers → ℕ → Type 0
 ValuesBelow f found cfa zero k values n = (values ≡ no_registers) × (n ≡ k)
 ValuesBelow f found cfa (suc register) k values n =
-    (before : Registers) × (mid : ℕ) × (value : Option ℕ)
-    × ValuesBelow f found cfa register k before mid × RegisterIs f found cfa register mid (Ok value) n × (values ≡ with_register before register value)
+    (before : Registers) × (mid : ℕ) × ValuesBelow f found cfa register k before mid × SetsRegister f found cfa register mid before values n
 
 -- the values of all registers, or the end at the first that has none
 abbrev pub ValuesAre : Callee → FoundRow → ℕ → ℕ → Result Registers ChainEnd → ℕ → Type 0

@@ -8,6 +8,7 @@ use Rattle.perfdata_cfi.specs.declared.frame_table.FrameTable.{FrameTable}
 use Rattle.perfdata_cfi.specs.declared.table.EntryTable.{EntryTable}
 use Rattle.perfdata_cfi.specs.declared.table.FoundRow.{FoundRow}
 use Rattle.perfdata_unwind.specs.Callers.{Calls}
+use Rattle.perfdata_unwind.specs.ChainEnds.{value_in}
 use Rattle.perfdata_unwind.specs.Frames.{look_up_of}
 use Rattle.perfdata_unwind.specs.Known.{is_sigreturn, at_plt, at_signal, by_frame_pointer}
 use Rattle.perfdata_unwind.specs.Rules.{ByRow}
@@ -21,6 +22,8 @@ use Rattle.perfdata_unwind.specs.declared.code.FileTables.{FileTables}
 use Rattle.perfdata_unwind.specs.declared.code.CodePlace.{CodePlace}
 use Rattle.perfdata_unwind.specs.declared.code.CodePlace.TheVariants as places
 use Rattle.perfdata_unwind.specs.declared.rules.Callee.{Callee}
+use Rattle.perfdata_unwind.specs.declared.registers.Registers.{Registers}
+use Rattle.perfdata_unwind.specs.declared.step.Finding.{Finding}
 use Rattle.perfdata_unwind.specs.declared.step.Found.{Found}
 use Rattle.perfdata_unwind.specs.declared.step.Step.{Step}
 
@@ -66,6 +69,10 @@ pub record IsCallee (m : Machine) (c : StackCopy) (f : Frame) (table : FrameTabl
   pub exact_is : callee.is_exact ≡ f.is_exact
   pub copy_is : callee.copy ≡ c
   pub table_is : callee.table.now ≡ table
+
+-- what is found of a caller, with its registers
+abbrev pub found_in : Finding → Registers → Found
+found_in f r = record { is_signal = f.is_signal; origin = f.origin; registers = value_in f.end r }
 
 -- how the caller was found
 abbrev pub origin_by_row : Bool → FrameOrigin
@@ -129,8 +136,8 @@ abbrev pub Finds : (ℕ → CodePlace → Type 0) → Machine → StackCopy → 
 Finds at m c f k found n = FoundByTables at m c f k found n ⊎ FoundByCode at m c f k found n
 
 -- a step: what it finds, and the caller or the end that this makes
-pub record IsStep (executable : ℕ → Bool → Type 0) (at : ℕ → CodePlace → Type 0) (m : Machine) (c : StackCopy) (f : Frame) (k : ℕ) (step : Step) (n : ℕ) : Type 0 where
+pub record IsStep (executable : ℕ → Bool → Type 0) (at : ℕ → CodePlace → Type 0) (m : Machine) (c : StackCopy) (f : Frame) (k : ℕ) (step : Step) (caller : Frame) (n : ℕ) : Type 0 where
   pub found : Found
   pub finds : Finds at m c f k found n
-  pub calls : Calls executable m f found step.caller
+  pub calls : Calls executable m f found (value_in step.end caller)
   pub signal_is : step.is_signal ≡ found.is_signal

@@ -97,13 +97,14 @@ fn push_frames<C: CodeMap>(
     let limit = sample.copy.bytes.len() / 8 + MORE_FRAMES;
     let mut evaluator = Evaluator::new();
     let mut frame = first;
+    let mut caller = first;
     'frames: loop {
-        let step = find_step(sample, code, &frame, &mut evaluator)?;
+        let step = find_step(sample, code, &frame, &mut evaluator, &mut caller)?;
         frames.push(frame.user_frame(step.is_signal))?;
-        match step.caller {
+        match step.end {
             Err(end) => return Ok(end),
-            Ok(_) if frames.len() >= limit => return Ok(ChainEnd::Limit),
-            Ok(caller) => frame = caller,
+            Ok(()) if frames.len() >= limit => return Ok(ChainEnd::Limit),
+            Ok(()) => frame = caller,
         }
     }
 }

@@ -1,13 +1,14 @@
 //! The registers of a caller, by the rules of a row.
-ghost use Rattle.std.specs.Prelude.{◌≡◌, true, slice_range};
+ghost use Rattle.std.specs.Prelude.{◌≡◌, true, slice_range, Err, IfErr, OnOk};
 ghost use Rattle.perfdata_cfi.specs.FrameTables.{bytes_of};
 ghost use Rattle.perfdata_unwind.specs.Expressions.{Evaluates, remaining_of};
+ghost use Rattle.perfdata_unwind.specs.ChainEnds.{value_in};
 ghost use Rattle.perfdata_unwind.specs.Machines.{stack_pointer as stack_pointer_of};
 ghost use Rattle.perfdata_unwind.specs.Rules.{end_of as end_by, ExpressionIs, CfaIs, ValueIs, ValuesAre};
 ghost use Rattle.perfdata_unwind.specs.Rules.{ByRow, is_span};
 ghost use Rattle.perfdata_unwind.specs.Rules.{stored_value as stored, same_value as same};
 ghost use Rattle.perfdata_unwind.specs.Rules.{is_needed as needed};
-ghost use Rattle.perfdata_unwind.specs.Rules.{RegisterIs, rule_of as rule_in};
+ghost use Rattle.perfdata_unwind.specs.Rules.{RegisterIs, SetsRegister, rule_of as rule_in};
 ghost use Rattle.perfdata_unwind.specs.Rules.{return_address_of as return_address};
 ghost use Rattle.perfdata_unwind.specs.Rules.{link_register as link, is_popped as popped};
 ghost use Rattle.perfdata_unwind.specs.Stacks.{register_of};
@@ -202,22 +203,45 @@ fn value_by_row(
     value_of(callee, register, is_needed, rule, cfa, evaluator)
 }
 
-// The caller's registers by the rules of a row, but for the program counter.
-fn values_of(
+// Sets the caller's value of a register by a row. Most registers have the same value.
+fn set_value(
+    callee: &Callee<'_>,
+    found: &FoundRow,
+    register: u64,
+    cfa: u64,
+    evaluator: &mut Evaluator,
+    caller: &mut Registers,
+) -> Result<(), ChainEnd>
+    ensures ok { OnOk result (SetsRegister callee.now found.now cfa register (remaining_of evaluator.old)
+        caller.old caller.new (remaining_of evaluator.new)) }
+    ensures err { IfErr result (λ e. RegisterIs callee.now found.now cfa register
+        (remaining_of evaluator.old) (Err e) (remaining_of evaluator.new)) }
+{
+    if let Rule::SameValue = found.row.rule(register) {
+        caller.set(register, same_value(callee, register, cfa));
+        return Ok(());
+    }
+    let value = value_by_row(callee, found, register, cfa, evaluator)?;
+    caller.set(register, value);
+    Ok(())
+}
+
+// Sets the caller's registers by the rules of a row, but for the program counter.
+fn set_values(
     callee: &Callee<'_>,
     found: &FoundRow,
     cfa: u64,
     evaluator: &mut Evaluator,
-) -> Result<Registers, ChainEnd>
-    ensures { ValuesAre callee.now found.now cfa (remaining_of evaluator.old) result
+    caller: &mut Registers,
+) -> Result<(), ChainEnd>
+    ensures { ValuesAre callee.now found.now cfa (remaining_of evaluator.old) (value_in result caller.new)
         (remaining_of evaluator.new) }
 {
-    let mut caller = Registers::new();
+    *caller = Registers::new();
     'registers: for register in 0..register_count(callee.machine) {
-        let value = value_by_row(callee, found, register, cfa, evaluator)?;
-        caller.set(register, value);
+        set_value(callee, found, register, cfa, evaluator, caller)?;
     }
-    Ok(caller)
+    Ok(())
 }
 
 // The rule of a register. Other registers than those of the machine have none.
@@ -262,17 +286,19 @@ fn return_address_of(
     }
 }
 
-// The caller's registers by a row.
-pub(crate) fn registers_by_row(
+// Sets the caller's registers by a row, where they are: a result with them would be copied at each return.
+pub(crate) fn set_registers_by_row(
     callee: &Callee<'_>,
     found: &FoundRow,
     evaluator: &mut Evaluator,
-) -> Result<Registers, ChainEnd>
-    ensures { ByRow callee.now found.now (remaining_of evaluator.old) result (remaining_of evaluator.new) }
+    caller: &mut Registers,
+) -> Result<(), ChainEnd>
+    ensures { ByRow callee.now found.now (remaining_of evaluator.old) (value_in result caller.new)
+        (remaining_of evaluator.new) }
 {
     let cfa = cfa_of(callee, found.row.cfa(), evaluator)?;
-    let mut caller = values_of(callee, found, cfa, evaluator)?;
-    let pc = return_address_of(callee, found, &caller)?;
+    set_values(callee, found, cfa, evaluator, caller)?;
+    let pc = return_address_of(callee, found, caller)?;
     caller.set(pc_number(callee.machine), pc);
-    Ok(caller)
+    Ok(())
 }

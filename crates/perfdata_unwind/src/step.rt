@@ -1,9 +1,10 @@
 //! From a frame to its caller.
 ghost use Rattle.std.specs.Prelude.{◌≡◌, ℕ, Bool, IfOk, MatchOption};
+ghost use Rattle.perfdata_unwind.specs.ChainEnds.{value_in};
 ghost use Rattle.perfdata_unwind.specs.Expressions.{remaining_of};
 ghost use Rattle.perfdata_cfi.specs.FrameTables.{IsRowAt};
 ghost use Rattle.perfdata_unwind.specs.Steps.{Finds, FoundByFde, FoundByRow, IsStep};
-ghost use Rattle.perfdata_unwind.specs.Steps.{by_code, by_bytes, by_place};
+ghost use Rattle.perfdata_unwind.specs.Steps.{by_code, by_bytes, by_place, found_in};
 ghost use Rattle.perfdata_unwind.specs.Steps.{PlaceHasFde, PlaceHasNoFde, IsCallee, origin_by_row};
 ghost use Rattle.perfdata_unwind.specs.declared.code.CodePlace.{CodePlace as Place};
 ghost use Rattle.perfdata_unwind.specs.Callers.{Calls, Makes, address_of as address_in, may_follow};
@@ -18,7 +19,7 @@ use crate::known::{
 };
 use crate::machine::{pc_number, stack_pointer};
 use crate::registers::Registers;
-use crate::rules::{Callee, registers_by_row};
+use crate::rules::{Callee, set_registers_by_row};
 use perfdata_cfi::{CfiError, FoundRow, FrameTable, Machine};
 use std::alloc::{AllocError, Global};
 
@@ -43,11 +44,27 @@ pub(crate) struct Found {
     registers: Result<Registers, ChainEnd>,
 }
 
-// What a step finds: whether the frame is a signal frame, and its caller.
+// An FDE at an address in a file.
+#[derive(Clone, Copy)]
+struct FdePlace<'a> {
+    table: &'a FrameTable,
+    index: usize,
+    address: u64,
+}
+
+// What is found of a caller beside its registers, and whether these were found.
+#[derive(Clone, Copy)]
+pub(crate) struct Finding {
+    is_signal: bool,
+    origin: FrameOrigin,
+    end: Result<(), ChainEnd>,
+}
+
+// What a step finds beside the caller: whether the frame is a signal frame, and whether it has a caller.
 #[derive(Clone, Copy)]
 pub(crate) struct Step {
     pub(crate) is_signal: bool,
-    pub(crate) caller: Result<Frame, ChainEnd>,
+    pub(crate) end: Result<(), ChainEnd>,
 }
 
 // The frame as rules of a table see it.
@@ -74,49 +91,50 @@ fn origin_of(is_signal: bool) -> FrameOrigin
     }
 }
 
-// The registers of the caller by a row of a table.
+// Sets the registers of the caller by a row of a table.
 fn find_by_row(
     sample: &Sample<'_>,
     frame: &Frame,
     table: &FrameTable,
     row: &FoundRow,
     evaluator: &mut Evaluator,
-) -> Found
+    caller: &mut Registers,
+) -> Finding
     ensures { (index address : ℕ) → IsRowAt table.now index address row.now →
         FoundByRow sample.now.machine sample.now.copy frame.now table.now index address
-        (remaining_of evaluator.old) result (remaining_of evaluator.new) }
+        (remaining_of evaluator.old) (found_in result caller.new) (remaining_of evaluator.new) }
 {
     let callee = callee_of(sample, frame, table);
-    let registers = registers_by_row(&callee, row, evaluator);
-    Found {
+    let end = set_registers_by_row(&callee, row, evaluator, caller);
+    Finding {
         is_signal: row.is_signal,
         origin: origin_of(row.is_signal),
-        registers,
+        end,
     }
 }
 
-// The registers of the caller by an FDE of a table.
+// Sets the registers of the caller by an FDE of a table.
 fn find_by_table(
     sample: &Sample<'_>,
     frame: &Frame,
-    table: &FrameTable,
-    index: usize,
-    address: u64,
+    fde: &FdePlace<'_>,
     evaluator: &mut Evaluator,
-) -> Result<Found, AllocError>
-    ensures { IfOk result (λ found. FoundByFde sample.now.machine sample.now.copy frame.now table.now index
-        address (remaining_of evaluator.old) found (remaining_of evaluator.new)) }
+    caller: &mut Registers,
+) -> Result<Finding, AllocError>
+    ensures { IfOk result (λ found. FoundByFde sample.now.machine sample.now.copy frame.now
+        fde.now.table.now fde.now.index fde.now.address (remaining_of evaluator.old)
+        (found_in found caller.new) (remaining_of evaluator.new)) }
 {
-    if let Some(row) = table.kept_row(index, address) {
-        return Ok(find_by_row(sample, frame, table, row, evaluator));
+    if let Some(row) = fde.table.kept_row(fde.index, fde.address) {
+        return Ok(find_by_row(sample, frame, fde.table, row, evaluator, caller));
     }
-    match table.row(sample.alloc, index, address) {
-        Ok(row) => Ok(find_by_row(sample, frame, table, &row, evaluator)),
+    match fde.table.row(sample.alloc, fde.index, fde.address) {
+        Ok(row) => Ok(find_by_row(sample, frame, fde.table, &row, evaluator, caller)),
         Err(CfiError::Memory) => Err(AllocError),
-        Err(_) => Ok(Found {
+        Err(_) => Ok(Finding {
             is_signal: false,
             origin: FrameOrigin::Cfi,
-            registers: Err(ChainEnd::BadCfi),
+            end: Err(ChainEnd::BadCfi),
         }),
     }
 }
@@ -164,14 +182,6 @@ fn find_by_place(sample: &Sample<'_>, frame: &Frame, place: &CodePlace<'_>) -> F
     }
 }
 
-// An FDE at an address in a file.
-#[derive(Clone, Copy)]
-struct FdePlace<'a> {
-    table: &'a FrameTable,
-    index: usize,
-    address: u64,
-}
-
 // The FDE at a place.
 fn find_fde<'a>(place: &CodePlace<'a>) -> Option<FdePlace<'a>>
     ensures { MatchOption result (PlaceHasNoFde place.now)
@@ -194,30 +204,50 @@ fn find_fde<'a>(place: &CodePlace<'a>) -> Option<FdePlace<'a>>
     }
 }
 
-// The registers of a frame's caller.
+// Sets the registers of a caller, if they were found.
+fn set_found(found: &Found, caller: &mut Registers) -> Finding
+    ensures { found_in result caller.new ≡ found.now }
+{
+    let end = match &found.registers {
+        Ok(registers) => {
+            *caller = *registers;
+            Ok(())
+        }
+        Err(end) => Err(*end),
+    };
+    Finding {
+        is_signal: found.is_signal,
+        origin: found.origin,
+        end,
+    }
+}
+
+// Sets the registers of a frame's caller.
 fn find_caller<C: CodeMap>(
     sample: &Sample<'_>,
     code: &mut C,
     frame: &Frame,
     evaluator: &mut Evaluator,
-) -> Result<Found, AllocError>
+    caller: &mut Registers,
+) -> Result<Finding, AllocError>
     ensures executable { (a : ℕ) → (b : Bool) → C.executable code.new a b → C.executable code.old a b }
     ensures places { (a : ℕ) → (p : Place) → C.places code.new a p → C.places code.old a p }
     ensures found { IfOk result (λ found. Finds (C.places code.old) sample.now.machine sample.now.copy
-        frame.now (remaining_of evaluator.old) found (remaining_of evaluator.new)) }
+        frame.now (remaining_of evaluator.old) (found_in found caller.new) (remaining_of evaluator.new)) }
 {
     let look_up = frame.look_up_address();
     code.load(look_up)?;
     let place = code.place(look_up);
     match find_fde(&place) {
         Some(fde) => {
-            let found = find_by_table(sample, frame, fde.table, fde.index, fde.address, evaluator)?;
+            let found = find_by_table(sample, frame, &fde, evaluator, caller)?;
             Ok(found)
         }
         None => {
             code.load(frame.pc)?;
             let code_place = code.place(frame.pc);
-            Ok(find_by_place(sample, frame, &code_place))
+            let found = find_by_place(sample, frame, &code_place);
+            Ok(set_found(&found, caller))
         }
     }
 }
@@ -249,20 +279,21 @@ fn rises(machine: Machine, frame: &Frame, is_signal: bool, caller_top: u64) -> b
     }
 }
 
-// The caller with these registers, if it can be one.
-fn caller_with<C: CodeMap>(
+// Makes the caller of these registers, if it can be one.
+fn make_caller<C: CodeMap>(
     sample: &Sample<'_>,
     code: &C,
     frame: &Frame,
-    found: &Found,
-    registers: &Registers,
-) -> Result<Frame, ChainEnd>
-    ensures { Makes (C.executable code.now) sample.now.machine frame.now found.now registers.now result }
+    found: &Finding,
+    caller: &mut Frame,
+) -> Result<(), ChainEnd>
+    ensures { Makes (C.executable code.now) sample.now.machine frame.now
+        (found_in found.now caller.old.registers) caller.old.registers (value_in result caller.new) }
 {
-    let Some(stored) = registers.get(pc_number(sample.machine)) else {
+    let Some(stored) = caller.registers.get(pc_number(sample.machine)) else {
         return Err(ChainEnd::BadCfi);
     };
-    let Some(caller_top) = registers.get(stack_pointer(sample.machine)) else {
+    let Some(caller_top) = caller.registers.get(stack_pointer(sample.machine)) else {
         return Err(ChainEnd::BadCfi);
     };
     let pc = address_of(sample.machine, stored);
@@ -272,60 +303,60 @@ fn caller_with<C: CodeMap>(
     if !rises(sample.machine, frame, found.is_signal, caller_top) {
         return Err(ChainEnd::Stuck);
     }
-    let caller = caller_frame(sample.machine, found, registers, pc);
+    set_frame(sample.machine, found, pc, caller);
     if code.is_executable(caller.look_up_address()) {
-        Ok(caller)
+        Ok(())
     } else {
         Err(ChainEnd::Outside)
     }
 }
 
-// The frame that registers are of, with this program counter.
-fn caller_frame(machine: Machine, found: &Found, registers: &Registers, pc: u64) -> Frame
-    ensures { result ≡ frame_of_caller machine found.now registers.now pc }
+// Makes the frame that registers are of, with this program counter.
+fn set_frame(machine: Machine, found: &Finding, pc: u64, caller: &mut Frame)
+    ensures { caller.new ≡ frame_of_caller machine (found_in found.now caller.old.registers)
+        caller.old.registers pc }
 {
-    let mut known = *registers;
-    known.set(pc_number(machine), Some(pc));
-    Frame {
-        registers: known,
-        pc,
-        is_exact: found.is_signal,
-        origin: found.origin,
-    }
+    caller.registers.set(pc_number(machine), Some(pc));
+    caller.pc = pc;
+    caller.is_exact = found.is_signal;
+    caller.origin = found.origin;
 }
 
-// The caller with the registers that were found, if it can be one.
-fn caller_of<C: CodeMap>(
+// Makes the caller of the registers that were found, if it can be one.
+fn call<C: CodeMap>(
     sample: &Sample<'_>,
     code: &C,
     frame: &Frame,
-    found: &Found,
-) -> Result<Frame, ChainEnd>
-    ensures { Calls (C.executable code.now) sample.now.machine frame.now found.now result }
+    found: &Finding,
+    caller: &mut Frame,
+) -> Result<(), ChainEnd>
+    ensures { Calls (C.executable code.now) sample.now.machine frame.now
+        (found_in found.now caller.old.registers) (value_in result caller.new) }
 {
-    match &found.registers {
-        Ok(registers) => caller_with(sample, code, frame, found, registers),
-        Err(end) => Err(*end),
+    match found.end {
+        Ok(()) => make_caller(sample, code, frame, found, caller),
+        Err(end) => Err(end),
     }
 }
 
-// Finds the caller of a frame.
+// Finds the caller of a frame, and sets `caller` to it, if there is one.
 pub(crate) fn find_step<C: CodeMap>(
     sample: &Sample<'_>,
     code: &mut C,
     frame: &Frame,
     evaluator: &mut Evaluator,
+    caller: &mut Frame,
 ) -> Result<Step, AllocError>
     ensures executable { (a : ℕ) → (b : Bool) → C.executable code.new a b → C.executable code.old a b }
     ensures places { (a : ℕ) → (p : Place) → C.places code.new a p → C.places code.old a p }
     ensures step { IfOk result (λ step. IsStep (C.executable code.old) (C.places code.old)
-        sample.now.machine sample.now.copy frame.now (remaining_of evaluator.old) step
+        sample.now.machine sample.now.copy frame.now (remaining_of evaluator.old) step caller.new
         (remaining_of evaluator.new)) }
 {
-    let found = find_caller(sample, code, frame, evaluator)?;
-    let caller = caller_of(sample, code, frame, &found);
+    let found = find_caller(sample, code, frame, evaluator, &mut caller.registers)?;
+    let end = call(sample, code, frame, &found, caller);
     Ok(Step {
         is_signal: found.is_signal,
-        caller,
+        end,
     })
 }

@@ -11,8 +11,8 @@ returns-in-Err-clause-chain g c =
     let executable = g.C.CodeMap.executable c.args.code.now in
     let at = g.C.CodeMap.places c.args.code.now in
     let n = remaining_of c.find_step.new.evaluator in
-    let is_step = step_in_more (g.C.CodeMap.executable c.frames.code) executable c.frames.invariant.executable (g.C.CodeMap.places c.frames.code) at c.frames.invariant.places m copy c.frames.frame (remaining_of c.frames.evaluator) c.in_ok-step.step n c.in_ok-step.ensures.step in
-    chain_ends executable at m copy (frame_limit copy) c.args.first 16384 c.frames.frames.items c.push.new.self.items c.frames.frame (remaining_of c.frames.evaluator) c.in_ok-step.step n c.user_frame.result is_step c.frames.invariant.leads c.user_frame.ensures c.in_ok-push.ensures.items c.in-Err.end c.in-Err.is
+    let is_step = step_in_more (g.C.CodeMap.executable c.frames.code) executable c.frames.invariant.executable (g.C.CodeMap.places c.frames.code) at c.frames.invariant.places m copy c.frames.frame (remaining_of c.frames.evaluator) c.in_ok-step.step c.find_step.new.caller n c.in_ok-step.ensures.step in
+    chain_ends executable at m copy (frame_limit copy) c.args.first 16384 c.frames.frames.items c.push.new.self.items c.frames.frame (remaining_of c.frames.evaluator) c.in_ok-step.step c.find_step.new.caller n c.user_frame.result is_step c.frames.invariant.leads c.user_frame.ensures c.in_ok-push.ensures.items c.in-Err.end c.in-Err.is
 
 pub returns-in-Ok-clause-chain : goal.returns-in-Ok-clause-chain
 returns-in-Ok-clause-chain g c =
@@ -21,8 +21,8 @@ returns-in-Ok-clause-chain g c =
     let executable = g.C.CodeMap.executable c.args.code.now in
     let at = g.C.CodeMap.places c.args.code.now in
     let n = remaining_of c.find_step.new.evaluator in
-    let is_step = step_in_more (g.C.CodeMap.executable c.frames.code) executable c.frames.invariant.executable (g.C.CodeMap.places c.frames.code) at c.frames.invariant.places m copy c.frames.frame (remaining_of c.frames.evaluator) c.in_ok-step.step n c.in_ok-step.ensures.step in
-    chain_stops executable at m copy (frame_limit copy) c.args.first 16384 c.frames.frames.items c.push.new.self.items c.frames.frame (remaining_of c.frames.evaluator) c.in_ok-step.step n c.user_frame.result is_step c.frames.invariant.leads c.user_frame.ensures c.in_ok-push.ensures.items c.in-Ok.field-0 c.in-Ok.is (omega (arith, c.if-len-limit.true, c.len.ensures))
+    let is_step = step_in_more (g.C.CodeMap.executable c.frames.code) executable c.frames.invariant.executable (g.C.CodeMap.places c.frames.code) at c.frames.invariant.places m copy c.frames.frame (remaining_of c.frames.evaluator) c.in_ok-step.step c.find_step.new.caller n c.in_ok-step.ensures.step in
+    chain_stops executable at m copy (frame_limit copy) c.args.first 16384 c.frames.frames.items c.push.new.self.items c.frames.frame (remaining_of c.frames.evaluator) c.in_ok-step.step c.find_step.new.caller n c.user_frame.result is_step c.frames.invariant.leads c.user_frame.ensures c.in_ok-push.ensures.items c.in-Ok.is (omega (arith, c.if-len-limit.true, c.len.ensures))
 
 pub frames-preserved : goal.frames-preserved
 frames-preserved g c =
@@ -31,12 +31,12 @@ frames-preserved g c =
     let executable = g.C.CodeMap.executable c.args.code.now in
     let at = g.C.CodeMap.places c.args.code.now in
     let n = remaining_of c.find_step.new.evaluator in
-    let is_step = step_in_more (g.C.CodeMap.executable c.frames.code) executable c.frames.invariant.executable (g.C.CodeMap.places c.frames.code) at c.frames.invariant.places m copy c.frames.frame (remaining_of c.frames.evaluator) c.in_ok-step.step n c.in_ok-step.ensures.step in
+    let is_step = step_in_more (g.C.CodeMap.executable c.frames.code) executable c.frames.invariant.executable (g.C.CodeMap.places c.frames.code) at c.frames.invariant.places m copy c.frames.frame (remaining_of c.frames.evaluator) c.in_ok-step.step c.find_step.new.caller n c.in_ok-step.ensures.step in
     let within : length c.push.new.self.items < frame_limit copy = omega (arith, c.if-len-limit.false, c.len.ensures) in
     record {
       limit_is = refl;
       within = within;
       executable = λ a b h. c.frames.invariant.executable a b (c.in_ok-step.ensures.executable a b h);
       places = λ a p h. c.frames.invariant.places a p (c.in_ok-step.ensures.places a p h);
-      leads = chain_goes executable at m copy (frame_limit copy) c.args.first 16384 c.frames.frames.items c.push.new.self.items c.frames.frame (remaining_of c.frames.evaluator) c.in_ok-step.step n c.user_frame.result is_step c.frames.invariant.leads c.user_frame.ensures c.in_ok-push.ensures.items c.in-Ok-2.caller c.in-Ok-2.is within;
+      leads = chain_goes executable at m copy (frame_limit copy) c.args.first 16384 c.frames.frames.items c.push.new.self.items c.frames.frame (remaining_of c.frames.evaluator) c.in_ok-step.step c.find_step.new.caller n c.user_frame.result is_step c.frames.invariant.leads c.user_frame.ensures c.in_ok-push.ensures.items c.in-Ok-2.is within;
     }

@@ -7,7 +7,7 @@ returns c = λ index address at. record {
   row_at = at;
   callee = c.callee_of-callee.result;
   callee_is = c.callee_of-callee.ensures;
-  by_row = c.registers_by_row-registers.ensures;
+  by_row = c.set_registers_by_row-end.ensures;
   signal_is = refl;
   origin_is = c.origin_of.ensures;
 }
