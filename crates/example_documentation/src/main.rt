@@ -1,9 +1,10 @@
-//! The functions that the documentation of types shows, run on the perf.data files in its arguments.
+//! The functions that the documentation of types and calls shows, run on the files in its arguments.
 #![tactic(auto)]
 
 mod address_spaces;
 mod ordered_records;
 mod reading;
+mod sample_arrays;
 mod symbol_table;
 
 use linux_perf_data::source::Counted;
@@ -47,11 +48,26 @@ fn print_offset(rt: &HostRuntime, address: u64) -> anyhow::Result<()> {
     Ok(())
 }
 
+// The addresses of the kernel start here, on x86-64.
+const KERNEL_START: u64 = 1 << 63;
+
+// Prints the number of a file's samples with a frame in the kernel, or the status of the first error.
+fn print_kernel_samples(rt: &HostRuntime, path: &str) -> anyhow::Result<()> {
+    let mut bytes = Vec::new(rt.alloc());
+    File::open(rt, path)?.read_to_end(&mut bytes)?;
+    match sample_arrays::samples_through(rt.alloc(), &bytes, KERNEL_START, u64::MAX) {
+        Ok(count) => println!(rt; "samples with a frame in the kernel: {count}")?,
+        Err(status) => println!(rt; "samples: {status:?}")?,
+    }
+    Ok(())
+}
+
 fn main(rt: HostRuntime) -> anyhow::Result<()> {
     for path in env::args(&rt)?.skip(1) {
         reading::print_types(&rt, path.as_str())?;
         print_last_type(&rt, path.as_str())?;
         print_longest_pause(&rt, path.as_str())?;
+        print_kernel_samples(&rt, path.as_str())?;
     }
     for address in [0xfff, 0x1000, 0x101f, 0x1020] {
         let is_in_main = symbol_table::is_in_main(rt.alloc(), address)?;

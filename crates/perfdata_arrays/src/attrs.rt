@@ -13,7 +13,7 @@ use std::alloc::Global;
 /// An attribute as plain numbers (`perf_event_attr` in Linux's `perf_event.h`), with the positions of its
 /// name and its IDs.
 #[repr(C)]
-#[derive(Clone, Copy, Debug, PartialEq, Eq)]
+#[derive(Clone, Copy, Debug, Default, PartialEq, Eq)]
 pub struct Attr {
     /// The event within its type.
     pub config: u64,
@@ -74,7 +74,7 @@ const _: () = prove!(size_of::<Attr>() == 168);
 
 /// The number of attributes, the size of their names and the number of their IDs.
 #[repr(C)]
-#[derive(Clone, Copy, Debug, PartialEq, Eq)]
+#[derive(Clone, Copy, Debug, Default, PartialEq, Eq)]
 pub struct AttrTotals {
     /// The number of attributes.
     pub attr_count: u64,

@@ -20,7 +20,7 @@ const PATH_OFFSET: u64 = 36;
 
 /// An entry of a BUILD_ID section, with the offsets of its build ID and its path.
 #[repr(C)]
-#[derive(Clone, Copy, Debug, PartialEq, Eq)]
+#[derive(Clone, Copy, Debug, Default, PartialEq, Eq)]
 pub struct BuildId {
     /// The offset of the build ID in the section, in bytes.
     pub id_offset: u64,

@@ -19,7 +19,7 @@ use std::alloc::Global;
 /// The value of a counter, as plain numbers: `struct read_format` of Linux's `perf_event.h`. What the read
 /// format of its record's attribute doesn't select is 0.
 #[repr(C)]
-#[derive(Clone, Copy, Debug, PartialEq, Eq)]
+#[derive(Clone, Copy, Debug, Default, PartialEq, Eq)]
 pub struct CounterEntry {
     /// The value.
     pub value: u64,

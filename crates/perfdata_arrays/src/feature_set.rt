@@ -10,7 +10,7 @@ use std::alloc::Global;
 
 /// A set of features. Feature n is bit n mod 64 of the number with index n div 64.
 #[repr(C)]
-#[derive(Clone, Copy, Debug, PartialEq, Eq)]
+#[derive(Clone, Copy, Debug, Default, PartialEq, Eq)]
 pub struct FeatureBits {
     /// The features 0 to 63.
     pub bits0: u64,

@@ -16,7 +16,7 @@ const EMPTY_NAME_CODE_OFFSET: u64 = 57;
 
 /// The header of a jitdump, as plain numbers.
 #[repr(C)]
-#[derive(Clone, Copy, Debug, PartialEq, Eq)]
+#[derive(Clone, Copy, Debug, Default, PartialEq, Eq)]
 pub struct JitHeader {
     /// The time at which the file was created.
     pub timestamp: u64,
@@ -40,7 +40,7 @@ const _: () = prove!(size_of::<JitHeader>() == 40);
 
 /// The offset and the header fields of a jitdump record.
 #[repr(C)]
-#[derive(Clone, Copy, Debug, PartialEq, Eq)]
+#[derive(Clone, Copy, Debug, Default, PartialEq, Eq)]
 pub struct JitRecord {
     /// The offset of the record header in bytes, counted from the start of the file.
     pub offset: u64,
@@ -67,7 +67,7 @@ pub struct JitRecordsResult {
 
 /// A load record, with the offsets of its name and its code.
 #[repr(C)]
-#[derive(Clone, Copy, Debug, PartialEq, Eq)]
+#[derive(Clone, Copy, Debug, Default, PartialEq, Eq)]
 pub struct JitLoad {
     /// The address at which the code is mapped.
     pub vma: u64,

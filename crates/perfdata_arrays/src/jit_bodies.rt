@@ -20,7 +20,7 @@ const UNWINDING_DATA_OFFSET: u64 = 40;
 
 /// A move record.
 #[repr(C)]
-#[derive(Clone, Copy, Debug, PartialEq, Eq)]
+#[derive(Clone, Copy, Debug, Default, PartialEq, Eq)]
 pub struct JitMove {
     /// The address at which the code is mapped after the move.
     pub vma: u64,
@@ -42,7 +42,7 @@ const _: () = prove!(size_of::<JitMove>() == 48);
 
 /// An unwinding info record, with the offsets of its data.
 #[repr(C)]
-#[derive(Clone, Copy, Debug, PartialEq, Eq)]
+#[derive(Clone, Copy, Debug, Default, PartialEq, Eq)]
 pub struct JitUnwinding {
     /// The number of bytes of the data that are mapped: 0 or all.
     pub mapped_size: u64,

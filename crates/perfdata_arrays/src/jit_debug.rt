@@ -24,7 +24,7 @@ const PATH_OFFSET: u64 = 16;
 
 /// The source location of the code from its address up to the address of the next entry.
 #[repr(C)]
-#[derive(Clone, Copy, Debug, PartialEq, Eq)]
+#[derive(Clone, Copy, Debug, Default, PartialEq, Eq)]
 pub struct JitDebugEntry {
     /// The address of the first byte of the code.
     pub code_address: u64,

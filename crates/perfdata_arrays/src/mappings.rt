@@ -23,7 +23,7 @@ const MAX_BUILD_ID_SIZE: usize = 20;
 /// A mapping as plain numbers: `PERF_RECORD_MMAP` or `PERF_RECORD_MMAP2` of Linux's `perf_event.h`. What it
 /// doesn't have is 0.
 #[repr(C)]
-#[derive(Clone, Copy, Debug, PartialEq, Eq)]
+#[derive(Clone, Copy, Debug, Default, PartialEq, Eq)]
 pub struct MappingEntry {
     /// The offset of the record in bytes, counted from the first record.
     pub offset: u64,

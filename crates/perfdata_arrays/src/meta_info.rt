@@ -10,7 +10,7 @@ use perfdata_sections::feature_sections::before_nul;
 
 /// The positions of a key and of its value in the section.
 #[repr(C)]
-#[derive(Clone, Copy, Debug, PartialEq, Eq)]
+#[derive(Clone, Copy, Debug, Default, PartialEq, Eq)]
 pub struct MetaPair {
     /// The offset of the key in the section, in bytes.
     pub key_offset: u64,

@@ -30,6 +30,42 @@ use std::alloc::Global;
 /// file doesn't open, `count` and `frames_count` are 0 and the position is unchanged. At an error, the
 /// position is that of the record in error or of the markers before it: the next call returns the same
 /// status, and `count` is 0.
+///
+/// ```
+/// use linux_perf_data::in_memory::position::RecordPosition;
+/// use perfdata_arrays::samples::file_samples;
+/// use perfdata_arrays::samples::frame::FrameEntry;
+/// use perfdata_arrays::samples::sample::Sample;
+/// use perfdata_arrays::status::Status;
+/// use std::alloc::Global;
+///
+/// fn samples_through(alloc: Global, bytes: &[u8], start: u64, end: u64) -> Result<u64, Status> {
+///     let mut position = RecordPosition {
+///         offset: 0,
+///         round: 0,
+///     };
+///     let mut samples = [Sample::default(); 64];
+///     let mut frames = [FrameEntry::default(); 1024];
+///     let mut found = 0u64;
+///     for _ in 0..u64::MAX {
+///         let page = file_samples(alloc, bytes, &mut position, &mut samples, &mut frames);
+///         if page.status != Status::Success {
+///             return Err(page.status);
+///         }
+///         if page.count == 0 {
+///             break;
+///         }
+///         for sample in samples.iter().take(page.count as usize) {
+///             let chain = frames.iter().skip(sample.frames_start as usize);
+///             let mut chain = chain.take(sample.frames_count as usize);
+///             if chain.any(|frame| frame.address >= start && frame.address < end) {
+///                 found = found.saturating_add(1);
+///             }
+///         }
+///     }
+///     Ok(found)
+/// }
+/// ```
 pub fn file_samples(
     alloc: Global,
     bytes: &[u8],

@@ -13,7 +13,7 @@ const LENGTH_SIZE: usize = 4;
 
 /// The positions of a string in a section.
 #[repr(C)]
-#[derive(Clone, Copy, Debug, PartialEq, Eq)]
+#[derive(Clone, Copy, Debug, Default, PartialEq, Eq)]
 pub struct StringEntry {
     /// The offset of the text in the section, in bytes.
     pub text_offset: u64,

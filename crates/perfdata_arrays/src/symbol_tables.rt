@@ -21,7 +21,7 @@ use std::alloc::Global;
 
 /// A file as plain numbers, with the positions of its path, its symbols and its DEX offsets.
 #[repr(C)]
-#[derive(Clone, Copy, Debug, PartialEq, Eq)]
+#[derive(Clone, Copy, Debug, Default, PartialEq, Eq)]
 pub struct SymbolFile {
     /// The offset of its path in the bytes of all names.
     pub path_offset: u64,
@@ -51,7 +51,7 @@ const _: () = prove!(size_of::<SymbolFile>() == 72);
 
 /// A symbol as plain numbers, with the position of its name.
 #[repr(C)]
-#[derive(Clone, Copy, Debug, PartialEq, Eq)]
+#[derive(Clone, Copy, Debug, Default, PartialEq, Eq)]
 pub struct Symbol {
     /// The symbol's address in the file's own address space.
     pub vaddr: u64,
@@ -67,7 +67,7 @@ const _: () = prove!(size_of::<Symbol>() == 32);
 
 /// The number of files and of what they contain.
 #[repr(C)]
-#[derive(Clone, Copy, Debug, PartialEq, Eq)]
+#[derive(Clone, Copy, Debug, Default, PartialEq, Eq)]
 pub struct SymbolTotals {
     /// The number of files.
     pub file_count: u64,

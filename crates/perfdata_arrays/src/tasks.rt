@@ -15,7 +15,7 @@ use std::alloc::Global;
 /// A record on a task as plain numbers: its name (`PERF_RECORD_COMM` of Linux's `perf_event.h`), its end
 /// (`PERF_RECORD_EXIT`) or its start (`PERF_RECORD_FORK`).
 #[repr(C)]
-#[derive(Clone, Copy, Debug, PartialEq, Eq)]
+#[derive(Clone, Copy, Debug, Default, PartialEq, Eq)]
 pub struct TaskEntry {
     /// The offset of the record in bytes, counted from the first record.
     pub offset: u64,

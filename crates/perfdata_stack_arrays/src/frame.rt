@@ -21,7 +21,7 @@ pub const NO_MAPPING: u64 = u64::MAX;
 /// It is looked up at its address, a caller at its address less one (0 at 0): the address is the recorded
 /// one, which the call returns to, and the code there may be another function's.
 #[repr(C)]
-#[derive(Clone, Copy, Debug, PartialEq, Eq)]
+#[derive(Clone, Copy, Debug, Default, PartialEq, Eq)]
 pub struct StackFrame {
     /// The recorded address: that of an instruction, or the one that the call of a caller returns to.
     pub address: u64,

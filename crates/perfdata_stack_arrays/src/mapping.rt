@@ -12,7 +12,7 @@ const MAX_BUILD_ID_SIZE: usize = 20;
 /// What is mapped, as plain numbers: a file (`PERF_RECORD_MMAP` or `PERF_RECORD_MMAP2` of Linux's
 /// `perf_event.h`), or a symbol of the kernel (`PERF_RECORD_KSYMBOL`). What it doesn't have is 0.
 #[repr(C)]
-#[derive(Clone, Copy, Debug, PartialEq, Eq)]
+#[derive(Clone, Copy, Debug, Default, PartialEq, Eq)]
 pub struct StackMapping {
     /// The start address.
     pub start: u64,

@@ -15,7 +15,7 @@ use perfdata_spaces::address_spaces::AddressSpaces;
 
 /// A sample as a stack, as plain numbers. What it doesn't have is 0.
 #[repr(C)]
-#[derive(Clone, Copy, Debug, PartialEq, Eq)]
+#[derive(Clone, Copy, Debug, Default, PartialEq, Eq)]
 pub struct Stack {
     /// The offset of the record in bytes, counted from the first record.
     pub offset: u64,

@@ -2,7 +2,7 @@
 
 /// The numbers of the stacks, frames and mappings of a recording, and of the bytes of its text.
 #[repr(C)]
-#[derive(Clone, Copy, Debug, PartialEq, Eq)]
+#[derive(Clone, Copy, Debug, Default, PartialEq, Eq)]
 pub struct StackTotals {
     /// The number of stacks: of samples.
     pub stack_count: u64,

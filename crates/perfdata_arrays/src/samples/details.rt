@@ -45,7 +45,7 @@ const BEFORE_AUX: u64 = BEFORE_INTERRUPT_REGISTERS
 /// The fields of a sample that `Sample` doesn't have, as plain numbers. A field that it doesn't have is 0.
 /// Offsets are counted from the start of the body in bytes.
 #[repr(C)]
-#[derive(Clone, Copy, Debug, PartialEq, Eq)]
+#[derive(Clone, Copy, Debug, Default, PartialEq, Eq)]
 pub struct SampleDetails {
     /// The identifier of the event itself, also if another task inherited it.
     pub stream_id: u64,

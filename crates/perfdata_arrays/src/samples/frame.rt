@@ -9,7 +9,7 @@ use perfdata_events::call_chain::{CallChain, CallContext, Frame};
 
 /// A frame of a call chain, as plain numbers.
 #[repr(C)]
-#[derive(Clone, Copy, Debug, PartialEq, Eq)]
+#[derive(Clone, Copy, Debug, Default, PartialEq, Eq)]
 pub struct FrameEntry {
     /// The address of the instruction.
     pub address: u64,

@@ -15,7 +15,7 @@ const KNOWN_BITS: u64 = 2 * SampleFields::WEIGHT_STRUCT.0 - 1;
 /// A sample (`PERF_RECORD_SAMPLE` of Linux's `perf_event.h`) as plain numbers. A field that it doesn't have
 /// is 0.
 #[repr(C)]
-#[derive(Clone, Copy, Debug, PartialEq, Eq)]
+#[derive(Clone, Copy, Debug, Default, PartialEq, Eq)]
 pub struct Sample {
     /// The offset of the record in bytes, counted from the first record.
     pub offset: u64,
