@@ -13,7 +13,7 @@ pub fn entries_are_determined()
 /// [`FrameTable::find`](crate::FrameTable::find) returns for the entries of
 /// [`FrameTable::new`](crate::FrameTable::new) is this FDE, and `None` if there is none. Of several that
 /// describe the address it is the first one of those with the greatest first address. If no FDE starts at an
-/// address that another one describes, it is each FDE that describes the address.
+/// address that another one describes, each FDE is found at all addresses that it describes.
 pub fn fde_at_address()
     ensures found { FindsFdeOfSection }
     ensures one { HasOneFdeAt }
