@@ -83,12 +83,13 @@ pub struct Details {
     pub lost: Option<u64>,
 }
 
-/// The times that a read format selects for a group. A time is `None` if the read format doesn't select it.
+/// The times that a read format selects for an event or a group. A time is `None` if the read format doesn't
+/// select it.
 #[derive(Clone, Copy)]
 pub struct Times {
-    /// The time that the group was enabled, in nanoseconds.
+    /// The time that the event, or the group, was enabled, in nanoseconds.
     pub time_enabled: Option<u64>,
-    /// The time that the group was counted, in nanoseconds.
+    /// The time that the event, or the group, was counted, in nanoseconds.
     pub time_running: Option<u64>,
 }
 
