@@ -4,7 +4,7 @@ use Rattle.std.specs.Prelude.{All}
 use Rattle.std.proofs.lemmas.Bool.{true≢false}
 use Rattle.std.proofs.lemmas.List.Elements.{All-nil, All-cons, All-same}
 use Rattle.perfdata_cfi.specs.declared.instruction.Machine.{Machine}
-use Rattle.perfdata_unwind.specs.Callers.{IsCaller, EndsWith, IsEnd, Calls}
+use Rattle.perfdata_unwind.specs.Callers.{IsCaller, EndsWith, IsEnd, MakesFoundCaller}
 use Rattle.perfdata_unwind.specs.ChainEnds.{value_in}
 use Rattle.perfdata_unwind.specs.Chains.{IsLast, IsChain, IsMapped}
 use Rattle.perfdata_unwind.specs.Frames.{look_up_of, user_frame_of}
@@ -38,9 +38,9 @@ module _ (executable others : ℕ → Bool → Type 0) (more : (a : ℕ) (b : Bo
   end_in_more e (inl h) = inl h
   end_in_more e (inr h) = inr (record { registers = h.registers; found_are = h.found_are; ends_with = ends_in_more h.registers e h.ends_with })
 
-  pub calls_in_more : (r : Result Frame ChainEnd) → Calls executable m f found r → Calls others m f found r
-  calls_in_more (Ok g) h = caller_in_more g h
-  calls_in_more (Err e) h = end_in_more e h
+  pub made_in_more : (r : Result Frame ChainEnd) → MakesFoundCaller executable m f found r → MakesFoundCaller others m f found r
+  made_in_more (Ok g) h = caller_in_more g h
+  made_in_more (Err e) h = end_in_more e h
 
 module _ (at places : ℕ → CodePlace → Type 0) (more : (a : ℕ) (p : CodePlace) → at a p → places a p) (m : Machine) (c : StackCopy) (f : Frame) (k : ℕ) (found : Found) (n : ℕ) where
   pub finds_in_more : Finds at m c f k found n → Finds places m c f k found n
@@ -68,7 +68,7 @@ pub step_in_more : (executable others : ℕ → Bool → Type 0) → ((a : ℕ) 
 step_in_more executable others more at places mapped m c f k step caller n h = record {
   found = h.found;
   finds = finds_in_more at places mapped m c f k h.found n h.finds;
-  calls = calls_in_more executable others more m f h.found (value_in step.end caller) h.calls;
+  makes = made_in_more executable others more m f h.found (value_in step.end caller) h.makes;
   signal_is = h.signal_is;
 }
 
@@ -85,21 +85,21 @@ module _ (executable : ℕ → Bool → Type 0) (at : ℕ → CodePlace → Type
       subst (λ (us : List UserFrame). IsChain executable m (Finds at m c) limit first start us e) (sym all_are)
       (leads_last executable m (Finds at m c) limit first start frames f k is_step.found n u e leads is_step.finds user_frame_is last)
 
-  calls_of : (end : Result (Unit {0}) ChainEnd) → step.end ≡ end → Calls executable m f is_step.found (value_in end caller)
-  calls_of end is_end = subst (λ (r : Result (Unit {0}) ChainEnd). Calls executable m f is_step.found (value_in r caller)) is_end is_step.calls
+  made_of : (end : Result (Unit {0}) ChainEnd) → step.end ≡ end → MakesFoundCaller executable m f is_step.found (value_in end caller)
+  made_of end is_end = subst (λ (r : Result (Unit {0}) ChainEnd). MakesFoundCaller executable m f is_step.found (value_in r caller)) is_end is_step.makes
 
   pub chain_ends : (e : ChainEnd) → step.end ≡ Err e → IsChain executable m (Finds at m c) limit first start all e
-  chain_ends e is_end = chain_with e (record { why = inl (calls_of (Err e) is_end) })
+  chain_ends e is_end = chain_with e (record { why = inl (made_of (Err e) is_end) })
 
   pub chain_stops : step.end ≡ Ok tt → limit ≤ length all → IsChain executable m (Finds at m c) limit first start all ends.Limit
   chain_stops is_caller full =
-      let is : IsCaller executable m f is_step.found caller = calls_of (Ok tt) is_caller in
+      let is : IsCaller executable m f is_step.found caller = made_of (Ok tt) is_caller in
       let room : limit - length frames ≤ 1 = omega (arith, length_all, full) in
       chain_with ends.Limit (record { why = inr (refl, room, (caller, is)) })
 
   pub chain_goes : step.end ≡ Ok tt → length all < limit → Leads executable m (Finds at m c) limit first start all caller n
   chain_goes is_caller within =
-      let called : IsCaller executable m f is_step.found caller = calls_of (Ok tt) is_caller in
+      let called : IsCaller executable m f is_step.found caller = made_of (Ok tt) is_caller in
       let enough : length frames + 1 < limit = omega (arith, length_all, within) in
       subst (λ (us : List UserFrame). Leads executable m (Finds at m c) limit first start us caller n) (sym all_are)
       (leads_more executable m (Finds at m c) limit first start frames f k is_step.found n u caller leads is_step.finds user_frame_is enough called)

@@ -80,6 +80,6 @@ abbrev pub IsEnd : (ℕ → Bool → Type 0) → Machine → Frame → Found →
 IsEnd executable m f found e = (found.registers ≡ Err e) ⊎ HasEnd executable m f found e
 
 -- what a step makes of the registers that it found
-abbrev pub Calls : (ℕ → Bool → Type 0) → Machine → Frame → Found → Result Frame ChainEnd → Type 0
-Calls executable m f found (Ok caller) = IsCaller executable m f found caller
-Calls executable m f found (Err e) = IsEnd executable m f found e
+abbrev pub MakesFoundCaller : (ℕ → Bool → Type 0) → Machine → Frame → Found → Result Frame ChainEnd → Type 0
+MakesFoundCaller executable m f found (Ok caller) = IsCaller executable m f found caller
+MakesFoundCaller executable m f found (Err e) = IsEnd executable m f found e

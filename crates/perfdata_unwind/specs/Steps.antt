@@ -7,7 +7,7 @@ use Rattle.perfdata_cfi.specs.declared.instruction.Machine.{Machine}
 use Rattle.perfdata_cfi.specs.declared.frame_table.FrameTable.{FrameTable}
 use Rattle.perfdata_cfi.specs.declared.table.EntryTable.{EntryTable}
 use Rattle.perfdata_cfi.specs.declared.table.FoundRow.{FoundRow}
-use Rattle.perfdata_unwind.specs.Callers.{Calls}
+use Rattle.perfdata_unwind.specs.Callers.{MakesFoundCaller}
 use Rattle.perfdata_unwind.specs.ChainEnds.{value_in}
 use Rattle.perfdata_unwind.specs.Frames.{look_up_of}
 use Rattle.perfdata_unwind.specs.Known.{is_sigreturn, at_plt, at_signal, by_frame_pointer}
@@ -23,7 +23,7 @@ use Rattle.perfdata_unwind.specs.declared.code.CodePlace.{CodePlace}
 use Rattle.perfdata_unwind.specs.declared.code.CodePlace.TheVariants as places
 use Rattle.perfdata_unwind.specs.declared.rules.Callee.{Callee}
 use Rattle.perfdata_unwind.specs.declared.registers.Registers.{Registers}
-use Rattle.perfdata_unwind.specs.declared.step.Finding.{Finding}
+use Rattle.perfdata_unwind.specs.declared.step.FoundInPlace.{FoundInPlace}
 use Rattle.perfdata_unwind.specs.declared.step.Found.{Found}
 use Rattle.perfdata_unwind.specs.declared.step.Step.{Step}
 
@@ -71,7 +71,7 @@ pub record IsCallee (m : Machine) (c : StackCopy) (f : Frame) (table : FrameTabl
   pub table_is : callee.table.now ≡ table
 
 -- what is found of a caller, with its registers
-abbrev pub found_in : Finding → Registers → Found
+abbrev pub found_in : FoundInPlace → Registers → Found
 found_in f r = record { is_signal = f.is_signal; origin = f.origin; registers = value_in f.end r }
 
 -- how the caller was found
@@ -139,5 +139,5 @@ Finds at m c f k found n = FoundByTables at m c f k found n ⊎ FoundByCode at m
 pub record IsStep (executable : ℕ → Bool → Type 0) (at : ℕ → CodePlace → Type 0) (m : Machine) (c : StackCopy) (f : Frame) (k : ℕ) (step : Step) (caller : Frame) (n : ℕ) : Type 0 where
   pub found : Found
   pub finds : Finds at m c f k found n
-  pub calls : Calls executable m f found (value_in step.end caller)
+  pub makes : MakesFoundCaller executable m f found (value_in step.end caller)
   pub signal_is : step.is_signal ≡ found.is_signal

@@ -7,7 +7,8 @@ ghost use Rattle.perfdata_unwind.specs.Steps.{Finds, FoundByFde, FoundByRow, IsS
 ghost use Rattle.perfdata_unwind.specs.Steps.{by_code, by_bytes, by_place, found_in};
 ghost use Rattle.perfdata_unwind.specs.Steps.{PlaceHasFde, PlaceHasNoFde, IsCallee, origin_by_row};
 ghost use Rattle.perfdata_unwind.specs.declared.code.CodePlace.{CodePlace as Place};
-ghost use Rattle.perfdata_unwind.specs.Callers.{Calls, Makes, address_of as address_in, may_follow};
+ghost use Rattle.perfdata_unwind.specs.Callers.{Makes, MakesFoundCaller, address_of as address_in};
+ghost use Rattle.perfdata_unwind.specs.Callers.{may_follow};
 ghost use Rattle.perfdata_unwind.specs.Callers.{caller_frame as frame_of_caller};
 
 use crate::code::{CodeMap, CodePlace, Plt};
@@ -52,9 +53,9 @@ struct FdePlace<'a> {
     address: u64,
 }
 
-// What is found of a caller beside its registers, and whether these were found.
+// How a caller was found whose registers are already in its frame, and whether they were found.
 #[derive(Clone, Copy)]
-pub(crate) struct Finding {
+pub(crate) struct FoundInPlace {
     is_signal: bool,
     origin: FrameOrigin,
     end: Result<(), ChainEnd>,
@@ -99,14 +100,14 @@ fn find_by_row(
     row: &FoundRow,
     evaluator: &mut Evaluator,
     caller: &mut Registers,
-) -> Finding
+) -> FoundInPlace
     ensures { (index address : ℕ) → IsRowAt table.now index address row.now →
         FoundByRow sample.now.machine sample.now.copy frame.now table.now index address
         (remaining_of evaluator.old) (found_in result caller.new) (remaining_of evaluator.new) }
 {
     let callee = callee_of(sample, frame, table);
     let end = set_registers_by_row(&callee, row, evaluator, caller);
-    Finding {
+    FoundInPlace {
         is_signal: row.is_signal,
         origin: origin_of(row.is_signal),
         end,
@@ -120,7 +121,7 @@ fn find_by_table(
     fde: &FdePlace<'_>,
     evaluator: &mut Evaluator,
     caller: &mut Registers,
-) -> Result<Finding, AllocError>
+) -> Result<FoundInPlace, AllocError>
     ensures { IfOk result (λ found. FoundByFde sample.now.machine sample.now.copy frame.now
         fde.now.table.now fde.now.index fde.now.address (remaining_of evaluator.old)
         (found_in found caller.new) (remaining_of evaluator.new)) }
@@ -131,7 +132,7 @@ fn find_by_table(
     match fde.table.row(sample.alloc, fde.index, fde.address) {
         Ok(row) => Ok(find_by_row(sample, frame, fde.table, &row, evaluator, caller)),
         Err(CfiError::Memory) => Err(AllocError),
-        Err(_) => Ok(Finding {
+        Err(_) => Ok(FoundInPlace {
             is_signal: false,
             origin: FrameOrigin::Cfi,
             end: Err(ChainEnd::BadCfi),
@@ -205,7 +206,7 @@ fn find_fde<'a>(place: &CodePlace<'a>) -> Option<FdePlace<'a>>
 }
 
 // Sets the registers of a caller, if they were found.
-fn set_found(found: &Found, caller: &mut Registers) -> Finding
+fn set_found(found: &Found, caller: &mut Registers) -> FoundInPlace
     ensures { found_in result caller.new ≡ found.now }
 {
     let end = match &found.registers {
@@ -215,7 +216,7 @@ fn set_found(found: &Found, caller: &mut Registers) -> Finding
         }
         Err(end) => Err(*end),
     };
-    Finding {
+    FoundInPlace {
         is_signal: found.is_signal,
         origin: found.origin,
         end,
@@ -229,7 +230,7 @@ fn find_caller<C: CodeMap>(
     frame: &Frame,
     evaluator: &mut Evaluator,
     caller: &mut Registers,
-) -> Result<Finding, AllocError>
+) -> Result<FoundInPlace, AllocError>
     ensures executable { (a : ℕ) → (b : Bool) → C.executable code.new a b → C.executable code.old a b }
     ensures places { (a : ℕ) → (p : Place) → C.places code.new a p → C.places code.old a p }
     ensures found { IfOk result (λ found. Finds (C.places code.old) sample.now.machine sample.now.copy
@@ -284,7 +285,7 @@ fn make_caller<C: CodeMap>(
     sample: &Sample<'_>,
     code: &C,
     frame: &Frame,
-    found: &Finding,
+    found: &FoundInPlace,
     caller: &mut Frame,
 ) -> Result<(), ChainEnd>
     ensures { Makes (C.executable code.now) sample.now.machine frame.now
@@ -312,7 +313,7 @@ fn make_caller<C: CodeMap>(
 }
 
 // Makes the frame that registers are of, with this program counter.
-fn set_frame(machine: Machine, found: &Finding, pc: u64, caller: &mut Frame)
+fn set_frame(machine: Machine, found: &FoundInPlace, pc: u64, caller: &mut Frame)
     ensures { caller.new ≡ frame_of_caller machine (found_in found.now caller.old.registers)
         caller.old.registers pc }
 {
@@ -323,14 +324,14 @@ fn set_frame(machine: Machine, found: &Finding, pc: u64, caller: &mut Frame)
 }
 
 // Makes the caller of the registers that were found, if it can be one.
-fn call<C: CodeMap>(
+fn make_found_caller<C: CodeMap>(
     sample: &Sample<'_>,
     code: &C,
     frame: &Frame,
-    found: &Finding,
+    found: &FoundInPlace,
     caller: &mut Frame,
 ) -> Result<(), ChainEnd>
-    ensures { Calls (C.executable code.now) sample.now.machine frame.now
+    ensures { MakesFoundCaller (C.executable code.now) sample.now.machine frame.now
         (found_in found.now caller.old.registers) (value_in result caller.new) }
 {
     match found.end {
@@ -354,7 +355,7 @@ pub(crate) fn find_step<C: CodeMap>(
         (remaining_of evaluator.new)) }
 {
     let found = find_caller(sample, code, frame, evaluator, &mut caller.registers)?;
-    let end = call(sample, code, frame, &found, caller);
+    let end = make_found_caller(sample, code, frame, &found, caller);
     Ok(Step {
         is_signal: found.is_signal,
         end,
