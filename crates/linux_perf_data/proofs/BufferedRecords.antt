@@ -16,7 +16,6 @@ use Rattle.perfdata_base.specs.declared.endian.Endianness.TheVariants.{LittleEnd
 use Rattle.linux_perf_data.specs.BufferedRecord.{IsFinished, IsNextBuffered, ContainsNextRecord, TestsNextBuffered, WholeRecordLength}
 use Rattle.linux_perf_data.specs.Iter.{TestsMayStart, section_size_of}
 use Rattle.linux_perf_data.specs.declared.records.iter.PerfRecordIter.{PerfRecordIter}
-use Rattle.linux_perf_data.specs.declared.records.iter.Stage.TheVariants.{Running}
 use Rattle.linux_perf_data.specs.Layout.{ConsistsOfMarkers, MayStartAt, SectionSize, IsCompressed, IsRecord, AreMarkerRecords, total_size_of, record_type_of, record_size_of, aux_size_of}
 use Rattle.linux_perf_data.proofs.RecordHeaders.{total_size_plain, total_size_auxtrace, record_type_prefix, record_least, record_length, same_prefix, size_first_part, aux_size_prefix}
 
@@ -175,9 +174,6 @@ module _ {R : Type 0} (state : R → State) (it : PerfRecordIter R) where
   -- an iterator whose section has ended is finished
   pub section_over : TestsMayStart (section_size_of state it) it.offset false → IsFinished state it
   section_over ends = inr (no_begin (section_size_of state it) it.offset ends)
-
-  pub not_over : it.stage ≡ Running → TestsMayStart (section_size_of state it) it.offset true → ¬ IsFinished state it
-  not_over runs begins = λ over. elim over [ inl stopped ↦ stopped runs | inr ends ↦ ends begins ]
 
   module _ (hand : List ℕ) (first_part : IsPrefixOfRemaining (state it.source) hand) where
     pub tests_finished : IsFinished state it → TestsNextBuffered state it true

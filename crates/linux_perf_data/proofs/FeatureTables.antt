@@ -1,15 +1,15 @@
 -- Parsed entries and bytes determine a file's feature sections, or the error.
-use Rattle.std.proofs.Common.{◌≡◌, ℕ, ◌+◌, ◌*◌, ◌≤◌, ◌⊎◌, true, false, List, [], ◌∷◌, ◌++◌, length, take, drop, refl, sym, ap, ◌∙◌, subst, arith, inl, inr, length-append, length-drop, append_assoc, append-nil, Option, None, Some}
+use Rattle.std.proofs.Common.{◌≡◌, ℕ, ◌+◌, ◌*◌, ◌≤◌, ◌⊎◌, true, false, List, [], ◌∷◌, ◌++◌, length, take, drop, refl, sym, ap, ◌∙◌, subst, arith, inl, inr, length-append, length-drop, append_assoc, Option, None, Some}
 use Rattle.std.specs.Prelude.{Result, Ok, Err, IfSome, Vec, All, cond, nat_eq}
 use Rattle.std.specs.Option.{option_map}
 use Rattle.std.specs.Map.{lookup, update, update_all}
 use Rattle.std.specs.declared.alloc.Global.{Global}
 use Rattle.std.specs.declared.io.Error.{Error as IoErrorValue}
-use Rattle.std.proofs.lemmas.List.{drop-append-le, map_push, map-append, take_all}
-use Rattle.std.proofs.lemmas.List.Elements.{All-nil, All-push}
+use Rattle.std.proofs.lemmas.List.{drop-append-le, map_push, map-append}
+use Rattle.std.proofs.lemmas.List.Elements.{All-push}
 use Rattle.std.proofs.lemmas.List.Sums.{fold_push}
 use Rattle.indexmap.specs.IndexMap.{IndexMap, get}
-use Rattle.perfdata_base.specs.Source.{State, Position, AfterSeek, ReadExactError, RemainsFromPosition, all_bytes_of, remaining_from, prepend, at_offset}
+use Rattle.perfdata_base.specs.Source.{State, Position, AfterSeek, ReadExactError, all_bytes_of, remaining_from, prepend, at_offset}
 use Rattle.perfdata_base.specs.Endian.{number_in}
 use Rattle.perfdata_base.specs.Section.{section_entry_of, SectionEntryParsed}
 use Rattle.perfdata_base.specs.declared.features.Feature.{Feature}
@@ -18,7 +18,7 @@ use Rattle.perfdata_base.specs.declared.section.PerfFileSection.{PerfFileSection
 use Rattle.perfdata_base.specs.declared.source.append.AppendError.{AppendError}
 use Rattle.perfdata_base.specs.declared.source.append.AppendError.TheVariants.{Memory, Source}
 use Rattle.perfdata_base.proofs.ConsumedLemmas.{consumed_none, consumed_more, consumed_none_later, failed_later}
-use Rattle.perfdata_base.proofs.ReadErrors.{none_or_paused, all_read, consumed-after_seek, after_seek_none, after_seek_more, failed_after_seek, paused_after_seek}
+use Rattle.perfdata_base.proofs.ReadErrors.{none_or_paused, all_read, consumed-after_seek, after_seek_more, failed_after_seek, paused_after_seek}
 use Rattle.perfdata_base.proofs.Numbers.{number_prefix, number_drop_prefix}
 use Rattle.perfdata_sections.specs.ParsedPart.{ReadsBytes, file_error_of}
 use Rattle.perfdata_sections.specs.Error.{IsUnexpectedEof}
@@ -42,16 +42,8 @@ earlier_source_error : (a b c : State) (e : Error) → AfterSeek a b → SourceE
 earlier_source_error a b c e seek (inl (is, failed)) = inl (is, failed_after_seek a b c seek failed)
 earlier_source_error a b c e seek (inr (is, paused)) = inr (is, paused_after_seek a b c seek paused)
 
-is_visible_before : (a b : State) (P : List ℕ → Type 0) → AfterSeek a b → IfSome (all_bytes_of b.position) P → IfSome (all_bytes_of a.position) P
+pub is_visible_before : (a b : State) (P : List ℕ → Type 0) → AfterSeek a b → IfSome (all_bytes_of b.position) P → IfSome (all_bytes_of a.position) P
 is_visible_before a b P seek seen_here = subst (λ o. IfSome o P) seek.all_bytes seen_here
-
-if_more : (o : Option (List ℕ)) (P Q : List ℕ → Type 0) → ((x : List ℕ) → P x → Q x) → IfSome o P → IfSome o Q
-if_more None P Q more is = tt
-if_more (Some x) P Q more is = more x is
-
-if_each : (o : Option (List ℕ)) (P : List ℕ → Type 0) → ((x : List ℕ) → P x) → IfSome o P
-if_each None P each = tt
-if_each (Some x) P each = each x
 
 if_both : (o : Option (List ℕ)) (P Q S : List ℕ → Type 0) → ((x : List ℕ) → P x → Q x → S x) → IfSome o P → IfSome o Q → IfSome o S
 if_both None P Q S both p q = tt
@@ -153,11 +145,6 @@ module _ (order : Endianness) where
     cause = λ other. absurd (other refl);
   }
 
-  pub table_done : (features remaining_features : List ℕ) (a b : State) (es : List FeatureEntry) → SoFar features a es remaining_features b → remaining_features ≡ [] → TableRead order features a es b
-  table_done features remaining_features a b es so none =
-      let all : features ≡ so.done = so.split ∙ ap (λ l. so.done ++ l) none ∙ append-nil so.done in
-      subst (λ ns. TableRead order ns a es b) (sym all) so.table_read
-
 -- ---- the bytes
 
 -- the bytes of these entries' sections are read
@@ -212,24 +199,6 @@ module _ {S : Type 0} (a b c : State) (m new : IndexMap Feature (Vec ℕ Global)
       | inr source_error ↦ inr (earlier_source_error a b c e so.seek source_error)
     ],
   )
-
-  -- memory runs out for the next section
-  pub data_full : (v : Vec ℕ Global) → DataSoFar (feature_entries_of (take i table)) a m b → ReadsSectionBytes s b (Ok v) c → ReadsFeatureData {S = S} (feature_entries_of table) a (Err OfMemory) c
-  data_full v so one = (after_seek_more a b c so.seek one.0, λ other. absurd (other refl))
-
-pub data_none : {S : Type 0} (a : State) (m : IndexMap Feature (Vec ℕ Global) S) (table : List (Feature × PerfFileSection)) → RemainsFromPosition a → m.entries ≡ [] → DataSoFar (feature_entries_of (take 0 table)) a m a
-data_none a m table placed none = record {
-  seek = after_seek_none a placed;
-  seen_here = if_each (all_bytes_of a.position) (λ all. All (λ e. HoldsSection all e.1) (feature_entries_of (take 0 table)) × ((n : ℕ) → feature_data_of m n ≡ feature_data_by all (feature_entries_of (take 0 table)) n))
-      (λ all. (All-nil (λ e. HoldsSection all e.1), λ n. ap (λ es. option_map (λ v. v.items) (lookup (λ f. nat_eq n f.0) es)) none));
-}
-
-pub data_done : {S : Type 0} (a b : State) (m : IndexMap Feature (Vec ℕ Global) S) (table : List (Feature × PerfFileSection)) (i : ℕ) → DataSoFar (feature_entries_of (take i table)) a m b → length table ≤ i
-    → ReadsFeatureData (feature_entries_of table) a (Ok m) b
-data_done a b m table i so all =
-    let whole : take i table ≡ table = take_all i table all in
-    let whole_table = subst (λ t. DataSoFar (feature_entries_of t) a m b) whole so in
-    (whole_table.seek, whole_table.seen_here)
 
 -- ---- the whole table
 

@@ -28,10 +28,7 @@ use Rattle.linux_perf_data.specs.FileOpening.{table_offset, HoldsSections, secti
 use Rattle.linux_perf_data.specs.FeatureNumbers.{event_desc, simpleperf_meta_info}
 use Rattle.linux_perf_data.specs.NamedErrors.{IsFileOpeningError}
 use Rattle.linux_perf_data.proofs.NamedErrors.{file_bytes, file_inconsistency, file_io}
-
--- a property of all bytes holds before a seek if it holds after
-is_visible_before : (a b : State) (P : List ℕ → Type 0) → AfterSeek a b → IfSome (all_bytes_of b.position) P → IfSome (all_bytes_of a.position) P
-is_visible_before a b P seek seen_here = subst (λ o. IfSome o P) seek.all_bytes seen_here
+use Rattle.linux_perf_data.proofs.FeatureTables.{is_visible_before}
 
 earlier_source_error : (a b c : State) (e : Error) → AfterSeek a b → SourceErrorInOpening b e c → SourceErrorInOpening a e c
 earlier_source_error a b c e seek (inl (is, failed)) = inl (is, failed_after_seek a b c seek failed)

@@ -12,14 +12,11 @@ use Rattle.perfdata_base.proofs.Numbers.{in_reads_first}
 use Rattle.perfdata_sections.specs.declared.error.Error.{Error}
 use Rattle.perfdata_sections.specs.declared.error.Error.TheVariants.{Memory}
 use Rattle.perfdata_sections.proofs.EventPrefixes.{event_desc_or_error}
-use Rattle.linux_perf_data.specs.declared.records.input.Input.{Input}
-use Rattle.linux_perf_data.specs.declared.records.input.Input.TheVariants.{Section, Pipe}
 use Rattle.linux_perf_data.specs.declared.records.iter.PerfRecordIter.{PerfRecordIter}
 use Rattle.linux_perf_data.specs.declared.records.iter.Stage.TheVariants.{Running, Ended}
 use Rattle.linux_perf_data.specs.declared.perf_file.PerfFile.{PerfFile}
 use Rattle.linux_perf_data.specs.Attribute.{Attribute, AreConsistent}
 use Rattle.linux_perf_data.specs.Descriptions.{described_attribute}
-use Rattle.linux_perf_data.specs.Input.{section_size_in, input_source_state}
 use Rattle.linux_perf_data.specs.AttributeLookup.{Represents}
 use Rattle.linux_perf_data.specs.LateMetadata.{AccumulatesMetadata, UpdatesPerfFile, SamePerfFile}
 use Rattle.linux_perf_data.specs.Layout.{ConsistsOfMarkers, IsEnd, SectionSize, RecordView, LayoutEnd, RemainingRecords, record_views, attributes_in_views, ends_complete, ends_with_error, LayoutError}
@@ -34,6 +31,7 @@ use Rattle.linux_perf_data.specs.FileReading.{ReadingFilePartly, ReadingFileToEr
 use Rattle.linux_perf_data.proofs.IterCalls.{read_so_far_none, read_so_far_more, read_so_far_end, read_so_far_reason}
 use Rattle.linux_perf_data.proofs.LayoutUniqueness.{layout_exists}
 use Rattle.linux_perf_data.proofs.MetadataAccumulation.{holds_none, holds_more, event_desc_stays_valid}
+use Rattle.linux_perf_data.proofs.InMemoryPlaces.{section_view}
 
 -- the attributes that an iterator's lookup represents are consistent
 represented_consistent : {R : Type 0} (it : PerfRecordIter R) (attrs : List Attribute) → Represents it.endian it.attribute_lookup attrs → AreConsistent attrs
@@ -56,11 +54,6 @@ source_error_none order bound a c e steady (bytes_read, inl (too_few, inl (is, f
 source_error_none order bound a c e steady (bytes_read, inl (too_few, inr (is, file, paused))) = paused.not_steady steady
 source_error_none order bound a c e steady (bytes_read, inr (many, is, inl failed)) = failed.not_steady steady
 source_error_none order bound a c e steady (bytes_read, inr (many, is, inr paused)) = paused.1.not_steady steady
-
--- the view of a file's section is the state of its source
-section_view : (i : Input) (size : ℕ) (s : State) → section_size_in i ≡ Some size → input_source_state i s ≡ s
-section_view (Section n) size s is = refl
-section_view (Pipe kept) size s is = absurd cc
 
 -- the bytes after a prefix
 pub after_prefix_is : (o unread : Option (List ℕ)) (prefix all : List ℕ) → o ≡ prepend prefix unread → o ≡ Some all → unread ≡ Some (drop (length prefix) all)

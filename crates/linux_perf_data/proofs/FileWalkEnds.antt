@@ -1,11 +1,8 @@
 -- What follows where a walk finds no record.
-use Rattle.std.proofs.Common.{◌≡◌, ◌^◌, ◌<◌, ℕ, ◌+◌, ◌≤◌, take, drop, length, sym, ap, ◌∙◌, subst, arith, None, Some}
+use Rattle.std.proofs.Common.{◌≡◌, ◌^◌, ◌<◌, ℕ, ◌+◌, ◌≤◌, take, drop, length, sym, ap, ◌∙◌, subst, arith, Some}
 use Rattle.std.proofs.lemmas.Option.{same_Some}
 use Rattle.std.specs.Io.Cursor.{cursor_inner, cursor_position}
 use Rattle.std.proofs.lemmas.List.{length-take-le, take-append-drop}
-use Rattle.perfdata_base.specs.Endian.{number_in}
-use Rattle.perfdata_base.specs.RecordHeader.{record_header_of}
-use Rattle.perfdata_base.specs.declared.event.record_header.PerfEventHeader.{PerfEventHeader}
 use Rattle.perfdata_sections.specs.RecordTypes.{finished_round}
 use Rattle.linux_perf_data.specs.declared.in_memory.file_walk.FileWalk.{FileWalk}
 use Rattle.linux_perf_data.specs.BufferedRecord.{WholeRecordLength}
@@ -16,15 +13,6 @@ use Rattle.linux_perf_data.specs.Layout.{StartsWithRecord, record_type_of}
 use Rattle.linux_perf_data.specs.RecordEntries.{StartsWithMarkerAtMost}
 use Rattle.linux_perf_data.proofs.BufferedRecords.{says}
 use Rattle.linux_perf_data.proofs.RecordHeaders.{same_prefix}
-
--- no whole record
-pub marker_at_most_without_record : (walk : FileWalk) → WholeRecordLength walk.endian walk.remaining.now None → WalkStartsWithMarkerAtMost walk
-marker_at_most_without_record walk none = λ may_start p starts. absurd (none p starts.after_record starts.is_record starts.split)
-
--- a marker
-pub marker_at_most_at_marker : (walk : FileWalk) (header : PerfEventHeader) → header ≡ record_header_of (number_in walk.endian) walk.remaining.now → header.type_ ≡ finished_round → WalkStartsWithMarkerAtMost walk
-marker_at_most_at_marker walk header header_is marker = λ may_start p starts.
-    sym (says walk.endian walk.remaining.now p starts.after_record starts.is_record starts.split).kind ∙ sym (ap (λ h. h.type_) header_is) ∙ marker
 
 -- a record that ends at 2 ^ 64 or later
 pub marker_at_most_if_end_overflows : (walk : FileWalk) (n : ℕ) → WholeRecordLength walk.endian walk.remaining.now (Some n) → 2 ^ 64 ≤ walk.offset + n → WalkStartsWithMarkerAtMost walk

@@ -1,7 +1,7 @@
 -- The index of attributes by their first ids, as attributes are added and renamed.
 use Rattle.std.proofs.Common.{◌≡◌, ◌==◌, ℕ, zero, suc, ◌+◌, ◌<◌, ◌≤◌, Bool, true, false, List, [], ◌∷◌, ◌++◌, length, map, get_or, refl, sym, ap, ◌∙◌, subst, arith, inl, inr, eqb-true, length-append, Option, None, Some}
 use Rattle.std.specs.Prelude.{cond, if◌then◌else◌}
-use Rattle.std.specs.BTreeMap.{BTreeMap, get, is_at}
+use Rattle.std.specs.BTreeMap.{get, is_at}
 use Rattle.std.specs.Map.{lookup}
 use Rattle.std.specs.Ordering.{nat_cmp}
 use Rattle.std.proofs.lemmas.Bool.{cases_Bool, cases_eq}
@@ -69,15 +69,6 @@ index_none x lists no_last none =
       previous = λ id k less has. absurd (omega (arith, empty, less));
     }
 
-pub index_same : (old new : FirstIdIndex) (lists : List (List ℕ)) → new.previous.items ≡ old.previous.items → new.last.entries ≡ old.last.entries → IndexesAttributes old lists → IndexesAttributes new lists
-index_same old new lists same same_last x =
-    let count : length new.previous.items ≡ length old.previous.items = ap length same in
-    let bound = x.in_bounds in record {
-      in_bounds = omega (arith, count, bound);
-      last = λ id. ap (λ (es : List (ℕ × ℕ)). lookup (is_at (nat_cmp id)) es) same_last ∙ x.last id ∙ sym (ap (last_with_first_id lists id) count);
-      previous = λ id k less has. ap (λ l. get_or l k None) same ∙ x.previous id k (omega (arith, count, less)) has;
-    }
-
 pub index_more : (old new : FirstIdIndex) (lists : List (List ℕ)) (p : Option ℕ) → length old.previous.items < length lists → new.previous.items ≡ old.previous.items ++ p ∷ []
     → ((id : ℕ) → get nat_cmp new.last id ≡ (if has_first_id lists id (length old.previous.items) then Some (length old.previous.items) else get nat_cmp old.last id))
     → ((id : ℕ) → has_first_id lists id (length old.previous.items) ≡ true → p ≡ get nat_cmp old.last id) → IndexesAttributes old lists → IndexesAttributes new lists
@@ -98,24 +89,12 @@ index_more old new lists p there items last previous x =
       ];
     }
 
-false_not_true : false ≡ true → ⊥
-false_not_true same = cc
-
 first_tests : (ids : List ℕ) (first id : ℕ) → 0 < length ids → first ≡ get_or ids 0 0 → same_first_id ids (id ∷ []) ≡ (first == id)
 first_tests [] first id some is = absurd (omega (arith, some))
 first_tests (x ∷ xs) first id some is = ap (λ n. n == id) (sym is)
 
 equal_of : (x y : ℕ) → (x == y) ≡ true → x ≡ y
 equal_of x y is = eqb-true x y is
-
--- an attribute without ids
-pub index_more_without : (old new : FirstIdIndex) (lists : List (List ℕ)) (ids : List ℕ) → ids ≡ [] → get_or lists (length old.previous.items) [] ≡ ids → length old.previous.items < length lists → new.previous.items ≡ old.previous.items ++ None ∷ [] → new.last ≡ old.last
-    → IndexesAttributes old lists → IndexesAttributes new lists
-index_more_without old new lists ids none is there items same x =
-    let n = length old.previous.items in
-    let no_id : (id : ℕ) → has_first_id lists id n ≡ false = λ id. ap (λ l. same_first_id l (id ∷ [])) (is ∙ none) in
-    index_more old new lists None there items (λ id. ap (λ (m : BTreeMap ℕ ℕ). get nat_cmp m id) same ∙ sym (ap (λ b. if b then Some n else get nat_cmp old.last id) (no_id id)))
-    (λ id has. absurd (false_not_true (sym (no_id id) ∙ has))) x
 
 -- an attribute with a first id
 pub index_more_with : (old new : FirstIdIndex) (lists : List (List ℕ)) (ids : List ℕ) (first : ℕ) (p : Option ℕ) → 0 < length ids → first ≡ get_or ids 0 0 → get_or lists (length old.previous.items) [] ≡ ids → length old.previous.items < length lists

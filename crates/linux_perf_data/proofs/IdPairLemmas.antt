@@ -255,9 +255,6 @@ pub record Halved (ps : Pairs) (id low high : ℕ) : Type 0 where
   pub below : (k : ℕ) → k < low → key_at ps k < id
   pub above : (k : ℕ) → high ≤ k → k < length ps → id ≤ key_at ps k
 
-pub bisected_all : (ps : Pairs) (id : ℕ) → Halved ps id 0 (length ps)
-bisected_all ps id = record { order = omega arith; within = omega arith; below = λ k low. absurd (omega (arith, low)); above = λ k high inside. absurd (omega (arith, high, inside)) }
-
 pub bisected_up : (ps : Pairs) (id low high middle : ℕ) → AreAscending ps → low ≤ middle → middle < high → key_at ps middle < id → Halved ps id low high → Halved ps id (middle + 1) high
 bisected_up ps id low high middle up from to less h =
     let within = h.within in record {

@@ -8,7 +8,7 @@ use Rattle.perfdata_base.specs.declared.endian.Endianness.{Endianness}
 use Rattle.perfdata_base.specs.declared.event.record_header.PerfEventHeader.{PerfEventHeader}
 use Rattle.perfdata_sections.specs.declared.error.Error.{Error}
 use Rattle.perfdata_sections.specs.declared.error.Error.TheVariants.{Memory}
-use Rattle.perfdata_sections.specs.Error.{IsIoError, IsUnexpectedEof}
+use Rattle.perfdata_sections.specs.Error.{IsUnexpectedEof}
 use Rattle.linux_perf_data.specs.declared.in_memory.raw_record.RawRecord.{RawRecord}
 use Rattle.linux_perf_data.specs.declared.in_memory.raw_record.RawRecord.TheVariants.{Marker, Record, End}
 use Rattle.linux_perf_data.specs.declared.perf_file.PerfFile.{PerfFile}
@@ -34,9 +34,6 @@ buffer_of v bytes small = record v { len = length bytes; cap = length bytes; ite
 -- these errors aren't out of memory
 pub unexpected_not_memory : (e : Error) → IsUnexpectedEof e → e ≢ Memory
 unexpected_not_memory e short is = subst IsUnexpectedEof is short
-
-pub io_not_memory : (e : Error) → IsIoError e → e ≢ Memory
-io_not_memory e io is = subst IsIoError is io
 
 -- a truncated record is the end of a pipe, or an error
 pub truncated_consumed : (old new : MemoryIter) (e : Error) (r : Result RawRecord Error) → EndsOrFails new.input e r → e ≢ Memory → SameInput memory_state old new → new.offset ≡ old.offset → new.round ≡ old.round → new.attribute_lookup ≡ old.attribute_lookup → HasNoPendingHeader new.input

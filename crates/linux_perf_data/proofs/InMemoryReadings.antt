@@ -1,5 +1,5 @@
 -- A reading in memory returns what a streaming reading of the same bytes returns.
-use Rattle.std.proofs.Common.{◌≡◌, ℕ, List, [], ◌∷◌, refl, sym, ap, subst, inl, inr}
+use Rattle.std.proofs.Common.{◌≡◌, ℕ, ◌+◌, ◌^◌, ◌<◌, ◌≤◌, List, [], ◌∷◌, length, refl, sym, ap, subst, inl, inr, arith}
 use Rattle.std.specs.Prelude.{Vec}
 use Rattle.std.specs.declared.alloc.Global.{Global}
 use Rattle.perfdata_sections.specs.declared.error.Error.{Error}
@@ -124,3 +124,27 @@ same_error now new file file' e buffer runs failed = record {
   if_running = λ _. stops_from now.records new.records file e buffer (failed.if_running runs);
   same_file = failed.same_file;
 }
+
+-- ---- each record has an offset of its own
+
+pub offset_after : (old now : InMemoryRecords) (file file' : PerfFile) (records : List RecordView) → ReturnsRecordsInMemory old file records now file' → old.records.offset + length records ≤ now.records.offset
+offset_after old now file file' [] (same, same_file) = (let e = ap (λ i. i.records.offset) same in omega (arith, e))
+offset_after old now file file' (h ∷ hs) (next, (next_file, (place, (r, step, is)), more)) =
+    let rest = offset_after next now next_file file' hs more in
+    let moved = step.returns.offset in
+    let start = step.returns.record_offset in
+    omega (arith, rest, moved, start)
+
+pub count_fits : (old now : InMemoryRecords) (file file' : PerfFile) (records : List RecordView) → ReturnsRecordsInMemory old file records now file' → length records < 2 ^ 64
+count_fits old now file file' [] returned = omega arith
+count_fits old now file file' (h ∷ []) returned = omega arith
+count_fits old now file file' (h ∷ k ∷ ks) (next, (next_file, (place, (r, step, is)), more)) =
+    let fits = last_fits next now next_file file' k ks more in
+    let rest = offset_after next now next_file file' (k ∷ ks) more in
+    let moved = step.returns.offset in
+    let start = step.returns.record_offset in
+    omega (arith, fits, rest, moved, start)
+  where
+    last_fits : (old now : InMemoryRecords) (file file' : PerfFile) (h : RecordView) (hs : List RecordView) → ReturnsRecordsInMemory old file (h ∷ hs) now file' → now.records.offset < 2 ^ 64
+    last_fits old now file file' h [] (next, (next_file, (place, (r, step, is)), (same, same_file))) = (let at = ap (λ i. i.records.offset) same in let fits = step.returns.offset_fits in omega (arith, at, fits))
+    last_fits old now file file' h (k ∷ ks) (next, (next_file, one, more)) = last_fits next now next_file file' k ks more

@@ -1,15 +1,12 @@
 -- The effect of a late metadata record on a `PerfFile`.
-use Rattle.std.proofs.Common.{◌≡◌, ◌≢◌, ℕ, List, [], ◌∷◌, ◌++◌, length, drop, refl, sym, ap, ◌∙◌, subst, arith, inl, inr, append-nil, false, ◌==◌, None, Some}
+use Rattle.std.proofs.Common.{◌≡◌, ◌≢◌, ℕ, List, [], ◌∷◌, ◌++◌, length, drop, refl, sym, ap, ◌∙◌, subst, arith, inl, inr, append-nil, Some}
 use Rattle.std.specs.Prelude.{◌⊎◌, cond, nat_eq, Result, Ok, Err, Vec, vec_len}
-use Rattle.std.specs.Map.{update_all}
-use Rattle.std.proofs.lemmas.Bool.{ne_eqb}
 use Rattle.std.proofs.lemmas.List.{length-map}
 use Rattle.perfdata_base.specs.ParseInfo.{parse_info_of}
 use Rattle.perfdata_base.specs.Features.{HasFeature, InsertsFeature}
 use Rattle.perfdata_base.specs.declared.attr.PerfEventAttr.{PerfEventAttr}
 use Rattle.perfdata_base.specs.declared.features.FeatureSet.{FeatureSet}
 use Rattle.perfdata_sections.specs.Error.{IsInvalidInput}
-use Rattle.linux_perf_data.specs.Layout.{attributes_in_record}
 use Rattle.perfdata_base.specs.Endian.{number_in}
 use Rattle.perfdata_base.specs.declared.endian.Endianness.{Endianness}
 use Rattle.perfdata_sections.specs.EventDesc.{IsEventDescError}
@@ -21,7 +18,7 @@ use Rattle.linux_perf_data.specs.declared.perf_file.PerfFile.{PerfFile}
 use Rattle.linux_perf_data.specs.Attribute.{Attribute, HoldsAttribute, attribute_in, Inconsistency, AreInconsistent, missing_identifier, sample_id_all_differs}
 use Rattle.linux_perf_data.specs.Descriptions.{described_attribute, described_attributes}
 use Rattle.linux_perf_data.specs.AttributeLookup.{Represents}
-use Rattle.linux_perf_data.specs.LateMetadata.{SamePerfFile, IsMetadataType, SameAttributeCount, IsMetadataError, AppliesMetadata, features_in_record}
+use Rattle.linux_perf_data.specs.LateMetadata.{SamePerfFile, IsMetadataType, SameAttributeCount, IsMetadataError, AppliesMetadata}
 use Rattle.linux_perf_data.specs.LateSteps.{FeatureReplaced, FindsFileRenames, FindsLateNames, AreLateNamesFor, IsAttributeError, PushesAttribute, AttributeApplied, AppliesAttribute, AppliesFeature, name_table_after}
 use Rattle.linux_perf_data.specs.NameTable.{HasTableWithEndian, IsTableOf, name_from_table, names_from_table}
 use Rattle.linux_perf_data.specs.FeatureNumbers.{event_desc}
@@ -239,27 +236,6 @@ mismatch_rejected A order lookup file record_type body e metadata is apart = rec
   );
 }
 
--- a record of any other type
-pub other_record_applied : {A : Type 0} (order : Endianness) (lookup : AttributeLookup) (file : PerfFile) (record_type : ℕ) (body : List ℕ) (r : A) → (¬ IsMetadataType record_type) → AppliesMetadata order {A = A} lookup file record_type body (Ok r) lookup file
-other_record_applied order lookup file record_type body r other =
-    let no_attribute : (record_type == 64) ≡ false = ne_eqb record_type 64 (λ k. other (inl k)) in
-    let no_feature : (record_type == 80) ≡ false = ne_eqb record_type 80 (λ k. other (inr k)) in
-    let none : attributes_in_record order None record_type body ≡ [] = rw no_attribute refl in
-    let nothing : features_in_record order None record_type body ≡ [] = rw no_feature refl in record {
-      same_attribute_count = λ metadata. absurd (other metadata);
-      valid_attribute = λ k. absurd (other (inl k));
-      valid_feature = λ k. absurd (other (inr k));
-      represents = λ attrs k. subst (Represents order lookup) (sym (ap (λ l. attrs ++ l) none ∙ append-nil attrs)) k;
-      file_updates = record {
-        same_endian = refl;
-        attributes = sym (ap (λ l. attributes_of_file file ++ l) none ∙ append-nil (attributes_of_file file));
-        feature_data = λ n. sym (ap (λ l. update_all nat_eq (feature_data_in_file file) l n) nothing);
-        features = λ n. (λ has. inl has, λ either. elim either [ inl has ↦ has | inr (low, added) ↦ absurd (other (inr added.1)) ]);
-        names_match = λ renames. absurd (other (elim renames [ inl k ↦ inl k | inr put ↦ inr put.0 ]));
-        if_not_renamed = λ _. refl;
-      };
-    }
-
 -- ---- an EVENT_DESC
 
 -- the renames of all attributes
@@ -273,14 +249,6 @@ found_changed file before t ds (Ok renames) same is (valid, others) =
     let named : NamedBy before.events.items ds = subst (NamedBy before.events.items) (sym same) (file.names_match_table before is) in
     subst (λ l. AreRenamesFor l t renames.items) same (renames_for ds before t renames.items named valid others)
 found_changed file before t ds (Err e) same is memory = memory
-
-pub same_after : (old now new : PerfFile) → SamePerfFile old now → SamePerfFile now new → SamePerfFile old new
-same_after old now new first second = record {
-  same_endian = second.same_endian ∙ first.same_endian;
-  descriptions = second.descriptions ∙ first.descriptions;
-  features = second.features ∙ first.features;
-  feature_data = λ n. second.feature_data n ∙ first.feature_data n;
-}
 
 pub replaced_after : (old now new : PerfFile) (bytes : List ℕ) → SamePerfFile old now → FeatureReplaced now event_desc bytes new → FeatureReplaced old event_desc bytes new
 replaced_after old now new bytes same put = record {

@@ -4,12 +4,11 @@ use Rattle.std.specs.Prelude.{cond, if◌then◌else◌, nat_eq, String, Vec, st
 use Rattle.std.specs.Option.{option_map}
 use Rattle.std.specs.BTreeMap.{BTreeMap, get, is_at}
 use Rattle.std.specs.Cmp.{nat_cmp_is}
-use Rattle.std.specs.Map.{lookup}
 use Rattle.std.specs.Ordering.{is_eq, nat_cmp}
 use Rattle.std.specs.declared.cmp.Ordering.TheVariants.{Less, Equal, Greater}
 use Rattle.std.proofs.lemmas.Bool.{cases_Bool, cases_eq, cases_order, eqb-true, false≢true, ne_eqb}
 use Rattle.std.proofs.lemmas.List.Elements.{All-push}
-use Rattle.std.proofs.lemmas.List.{take_more, take_all, map_push, at_drop_all, at_drop_more, nil_from_length}
+use Rattle.std.proofs.lemmas.List.{take_more, take_all, map_push, nil_from_length}
 use Rattle.std.specs.declared.alloc.Global.{Global}
 use Rattle.indexmap.specs.IndexMap.{IndexMap, get as index_get}
 use Rattle.perfdata_base.specs.Endian.{number_in}
@@ -20,7 +19,7 @@ use Rattle.perfdata_sections.specs.AttributeDescription.{events_in, ids_in, name
 use Rattle.perfdata_sections.specs.EventDesc.{DescribesByEventDesc, BeginsWithEventDesc}
 use Rattle.perfdata_sections.specs.declared.feature_sections.AttributeDescription.{AttributeDescription}
 use Rattle.perfdata_sections.proofs.EventPrefixes.{event_desc_is_unique, event_desc_or_not}
-use Rattle.linux_perf_data.specs.FirstIds.{IndexesFirstIds, InsertsFirstId, first_index_with_id}
+use Rattle.linux_perf_data.specs.FirstIds.{IndexesFirstIds, first_index_with_id}
 use Rattle.linux_perf_data.specs.FeatureNumbers.{event_desc}
 use Rattle.linux_perf_data.specs.NameTable.{name_from_table, names_from_table, HasTableWithEndian, IsTableOf, TableHasEvents, TableNamesAll, TableEmptyWithoutEventDesc, TableIsReadable}
 use Rattle.linux_perf_data.specs.Names.{name_bytes_of, IsReadableOrAbsent, NamedByEventDesc, NamedBy, name_by_first_id, same_first_id}
@@ -44,32 +43,6 @@ at_is x y = elim (cases_order x y) [
 pub record PutFrom (first : BTreeMap ℕ ℕ) (descriptions : List AttributeDescription) (index : ℕ) : Type 0 where
   pub within : index ≤ length descriptions
   pub finds : (id : ℕ) → get nat_cmp first id ≡ first_index_with_id id index (drop index descriptions)
-
-nothing_there : (first : BTreeMap ℕ ℕ) → first.entries ≡ [] → (id : ℕ) → get nat_cmp first id ≡ None
-nothing_there first none id = ap (λ (es : List (ℕ × ℕ)). lookup (is_at (nat_cmp id)) es) none
-
-pub put_none : (first : BTreeMap ℕ ℕ) (descriptions : List AttributeDescription) → first.entries ≡ [] → PutFrom first descriptions (length descriptions)
-put_none first descriptions none = record {
-  within = omega arith;
-  finds = λ id. nothing_there first none id ∙ sym (at_drop_all (first_index_with_id id (length descriptions)) descriptions (length descriptions) (omega arith));
-}
-
-pub put_more : (old new : BTreeMap ℕ ℕ) (descriptions : List AttributeDescription) (index before : ℕ) (d : AttributeDescription) → before ≡ index + 1 → d ≡ get_or descriptions index d → InsertsFirstId old (ids_in d) index new → PutFrom old descriptions before → PutFrom new descriptions index
-put_more old new descriptions index before d next is puts p =
-    let within = p.within in
-    let there : index < length descriptions = omega (arith, within, next) in
-    let finds : (id : ℕ) → get nat_cmp old id ≡ first_index_with_id id (index + 1) (drop (index + 1) descriptions) = λ id. p.finds id ∙ ap (λ n. first_index_with_id id n (drop n descriptions)) next in record {
-      within = omega (arith, within, next);
-      finds = λ id.
-          puts id ∙ ap (λ o. if same_first_id (ids_in d) (id ∷ []) then Some index else o) (finds id)
-          ∙ sym (at_drop_more (first_index_with_id id index) descriptions index d there ∙ sym (ap (λ x. first_index_with_id id index (x ∷ drop (index + 1) descriptions)) is));
-    }
-
-pub put_all : (first : BTreeMap ℕ ℕ) (descriptions : List AttributeDescription) (index : ℕ) → index ≡ 0 → PutFrom first descriptions index → IndexesFirstIds first descriptions
-put_all first descriptions index none p = λ id. p.finds id ∙ ap (λ n. first_index_with_id id n (drop n descriptions)) none
-
-pub nothing_first : (first : BTreeMap ℕ ℕ) (descriptions : List AttributeDescription) → first.entries ≡ [] → descriptions ≡ [] → IndexesFirstIds first descriptions
-nothing_first first descriptions none empty = λ id. nothing_there first none id ∙ sym (ap (first_index_with_id id 0) empty)
 
 -- ---- its name
 

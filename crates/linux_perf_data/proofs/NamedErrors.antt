@@ -19,7 +19,6 @@ use Rattle.perfdata_sections.specs.declared.error.Error.TheVariants.{IoError, Re
 use Rattle.perfdata_sections.specs.declared.error.ReadError.TheVariants.{PerfEventAttr}
 use Rattle.linux_perf_data.specs.declared.file_reader.PerfFileReader.{PerfFileReader}
 use Rattle.linux_perf_data.specs.declared.file.opening.FileOpening.{FileOpening}
-use Rattle.linux_perf_data.specs.declared.pipe.opening.PipeOpening.{PipeOpening}
 use Rattle.linux_perf_data.specs.declared.records.iter.PerfRecordIter.{PerfRecordIter}
 use Rattle.linux_perf_data.specs.declared.records.iter.Stage.{Stage}
 use Rattle.linux_perf_data.specs.declared.records.iter.Stage.TheVariants.{Running, Failed, Ended}
@@ -33,7 +32,6 @@ use Rattle.linux_perf_data.specs.Layout.{SectionSize, LayoutError, truncated_hea
 use Rattle.linux_perf_data.specs.Iter.{iter_source_state, section_size_of, IsMismatchedPerfFile, IsErrorCause, ReturnsError}
 use Rattle.linux_perf_data.specs.NamedErrors.{IsFileOpeningError, IsPipeOpeningError, IsRecordError}
 use Rattle.linux_perf_data.specs.OpenedFile.{BuildsReader}
-use Rattle.linux_perf_data.specs.OpenedPipe.{BuildsPipeReader}
 use Rattle.linux_perf_data.specs.PipeOpening.{FailsBy, IsPipeError, IsMetadataRecordError, IsMetadataListError}
 use Rattle.linux_perf_data.specs.RecordFraming.{IsErrorFor, SourceErrorInRecord}
 
@@ -208,10 +206,6 @@ pipe_opening old new e fails = unless_memory IsPipeOpeningError tt e (λ other. 
   | inl each ↦ pipe_bytes _ e (each [])
   | inr rest ↦ elim rest [ inl ended ↦ pipe_bytes _ e ended.1 | inr failed ↦ io_in IsPipeOpeningError (λ _. tt) e failed.0 ]
 ])
-
-pub pipe_reader : {R : Type 0} (state : R → State) (source : R) (opening : PipeOpening) (r : Result (PerfFileReader R) Error) → BuildsPipeReader state source opening r → IfErr r IsPipeOpeningError
-pipe_reader state source opening (Ok r) builds = tt
-pipe_reader state source opening (Err e) is = subst IsPipeOpeningError (sym is) tt
 
 -- ---- reading a record
 

@@ -1,7 +1,7 @@
 -- Without a pending header, the view of a reader is the state of its source.
-use Rattle.std.proofs.Common.{◌≡◌, ◌≢◌, ℕ, List, [], length, refl, sym, ap, ◌∙◌, subst, inl, inr, Option, None, Some}
+use Rattle.std.proofs.Common.{◌≡◌, ◌≢◌, ℕ, List, [], refl, sym, ap, ◌∙◌, subst, inl, inr, Option, None, Some}
 use Rattle.std.specs.Prelude.{Bool, true, false, Result, Ok, Err, IfErr}
-use Rattle.perfdata_base.specs.Source.{State, prepend, Consumed, EndedOrPaused, SourceFailed, SourcePaused, PartlyRead, PartlyAppended, SkippedExactly, AppendedExactly}
+use Rattle.perfdata_base.specs.Source.{State, prepend, Consumed, EndedOrPaused, SourceFailed, SourcePaused, PartlyRead, SkippedExactly, AppendedExactly}
 use Rattle.perfdata_base.specs.Endian.{number_in}
 use Rattle.perfdata_base.specs.RecordHeader.{RecordHeaderParsed}
 use Rattle.perfdata_base.specs.declared.endian.Endianness.{Endianness}
@@ -92,9 +92,6 @@ truncated_by i e (Err e') P answers pipe file = subst (λ x. P (Err x)) (sym ans
 -- a read that returns `true` reads all bytes
 pub read_true : (a b : State) (buffered : List ℕ) (count : ℕ) (now : List ℕ) (r : Bool) → r ≡ true → AppendsBody a buffered count (Ok r) now b → AppendedExactly a buffered count now b
 read_true a b buffered count now r is reads = subst (λ o. AppendsBody a buffered count (Ok o) now b) is reads
-
-pub read_false : (a b : State) (buffered : List ℕ) (count : ℕ) (now : List ℕ) (r : Bool) → r ≡ false → AppendsBody a buffered count (Ok r) now b → PartlyAppended a (length buffered) count (length now) b × EndedOrPaused a b
-read_false a b buffered count now r is reads = subst (λ o. AppendsBody a buffered count (Ok o) now b) is reads
 
 pub pass_true : (a b : State) (count : ℕ) (r : Bool) → r ≡ true → SkipsBody a count (Ok r) b → SkippedExactly a count b
 pass_true a b count r is passes = subst (λ o. SkipsBody a count (Ok o) b) is passes

@@ -30,11 +30,6 @@ abbrev pub TestsMayStart : SectionSize → ℕ → Bool → Type 0
 TestsMayStart bound offset true = MayStartAt bound offset
 TestsMayStart bound offset false = (bound ≢ None) × ((order : Endianness) (bytes : List ℕ) → IsEnd order bound offset bytes)
 
--- The iterator has neither failed nor ended, and its offset fits in 64 bits.
-pub record IsRunning {R : Type 0} (it : PerfRecordIter R) : Type 0 where
-  pub stage : it.stage ≡ Running
-  pub offset_fits : it.offset < 2 ^ 64
-
 module _ {R : Type 0} (state : R → State) where
   -- The source as the iterator sees it. In a pipe, the pending header precedes the remaining bytes.
   abbrev pub iter_source_state : PerfRecordIter R → State

@@ -13,7 +13,7 @@ use Rattle.perfdata_arrays.specs.declared.status.Status.{Status}
 use Rattle.perfdata_arrays.specs.declared.status.Status.TheVariants.{OutOfMemory}
 use Rattle.perfdata_arrays.proofs.OverwriteLemmas.{with_entries_at-with_prefix}
 
-flat_map-snoc : {X : Type 0} (f : X → List ℕ) (xs : List X) (x : X) → flat_map f (xs ++ x ∷ []) ≡ flat_map f xs ++ f x
+pub flat_map-snoc : {X : Type 0} (f : X → List ℕ) (xs : List X) (x : X) → flat_map f (xs ++ x ∷ []) ≡ flat_map f xs ++ f x
 flat_map-snoc f xs x = flat_map-append f xs (x ∷ []) ∙ ap (λ l. flat_map f xs ++ l) (append-nil (f x))
 
 -- the entries of one more attribute
@@ -32,9 +32,6 @@ attr_entries_at-snoc names ids (e ∷ ds) d =
 length-attr_entries_at : (names ids : ℕ) (ds : List AttributeDescription) → length (attr_entries_at names ids ds) ≡ length ds
 length-attr_entries_at names ids [] = refl
 length-attr_entries_at names ids (d ∷ ds) = ap (λ n. suc n) (length-attr_entries_at (names + length (name_bytes d)) (ids + length (ids_in d)) ds)
-
-pub writes_attrs-none : (entries : List Attr) (names ids : List ℕ) → WritesAttrs [] entries names ids entries names ids
-writes_attrs-none entries names ids = record { entries_written = refl; names_written = refl; ids_written = refl }
 
 -- one more attribute is written
 pub writes_attrs-snoc : (descriptions : List AttributeDescription) (d : AttributeDescription) (entries entries' new : List Attr) (names ids names' ids' new_names new_ids : List ℕ) (index name_offset ids_start : ℕ) (entry : Attr) (name own : List ℕ)

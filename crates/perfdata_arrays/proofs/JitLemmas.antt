@@ -1,5 +1,5 @@
 -- Lemmas on the header and the records of a jitdump.
-use Rattle.std.proofs.Common.{◌≡◌, ℕ, zero, suc, ◌+◌, ◌-◌, ◌^◌, ◌<◌, ◌≤◌, ◌++◌, List, [], ◌∷◌, length, take, drop, refl, sym, ap, ◌∙◌, subst, arith, inl, inr, Ok, Err, Some, None, append_assoc, length-append, length-drop}
+use Rattle.std.proofs.Common.{◌≡◌, ℕ, zero, suc, ◌+◌, ◌-◌, ◌^◌, ◌<◌, ◌≤◌, ◌++◌, List, [], ◌∷◌, length, take, drop, refl, sym, ap, ◌∙◌, subst, arith, Ok, Some, append_assoc, length-append, length-drop}
 use Rattle.std.specs.Prelude.{min, slice_set}
 use Rattle.std.specs.List.{concat}
 use Rattle.std.proofs.lemmas.List.{drop-append-le, drop-drop, take-append-drop, length-take-le, take_all}
@@ -18,7 +18,6 @@ use Rattle.perfdata_jit.specs.declared.record.JitDumpRecordHeader.{JitDumpRecord
 use Rattle.perfdata_arrays.specs.Jit.{FindsRecord, IsLoadAt, WritesJitRecords, HasWholeRecordAt, jit_entries, jit_entry}
 use Rattle.linux_perf_data.specs.RecordEntries.{with_prefix}
 use Rattle.perfdata_arrays.specs.declared.jit.JitRecord.{JitRecord}
-use Rattle.perfdata_arrays.specs.declared.status.Status.TheVariants.{JitBadRecordSize}
 use Rattle.linux_perf_data.proofs.EntryLemmas.{with_prefix-snoc}
 use Rattle.perfdata_arrays.proofs.OverwriteLemmas.{take-drop-length}
 
@@ -43,24 +42,6 @@ module _ (endian : Endianness) where
   record_header-prefix xs size least within = sym (header_front endian (take size xs) (drop size xs) (omega (arith, least, length-take-le size xs within))) ∙ ap (record_header_at endian) (take-append-drop size xs)
 
   -- ---- the record at an offset
-
-  pub finds_none-short : (bytes : List ℕ) (at : ℕ) → length (drop at bytes) < 16 → FindsRecord endian bytes at (Ok None)
-  finds_none-short bytes at fewer = inl fewer
-
-  pub finds_none-past_end : (bytes : List ℕ) (at : ℕ) → length bytes < at → FindsRecord endian bytes at (Ok None)
-  finds_none-past_end bytes at past = inl (let long = length-drop at bytes in omega (arith, long, past))
-
-  pub finds_invalid_size : (bytes : List ℕ) (at : ℕ) (header : JitDumpRecordHeader) → 16 ≤ length (drop at bytes) → header ≡ record_header_at endian (drop at bytes) → header.total_size < 16 → FindsRecord endian bytes at (Err JitBadRecordSize)
-  finds_invalid_size bytes at header has_header is small = (refl, record { has_header = has_header; cause = inl (subst (λ h. h.total_size < 16) is small) })
-
-  pub finds_none-truncated : (bytes : List ℕ) (at : ℕ) (header : JitDumpRecordHeader) → 16 ≤ length (drop at bytes) → header ≡ record_header_at endian (drop at bytes) → 16 ≤ header.total_size → header.total_size < 2 ^ 32 → at ≤ length bytes → length bytes < 2 ^ 63
-      → length (drop at bytes) < header.total_size → FindsRecord endian bytes at (Ok None)
-  finds_none-truncated bytes at header has_header is least most within in_range fewer = inr (record {
-    has_header = has_header;
-    min_size = subst (λ h. 16 ≤ h.total_size) is least;
-    end_fits = subst (λ h. at + h.total_size < 2 ^ 64) is (omega (arith, most, within, in_range));
-    too_few = subst (λ h. length (drop at bytes) < h.total_size) is fewer;
-  })
 
   pub finds_whole : (bytes : List ℕ) (at : ℕ) (header : JitDumpRecordHeader) → header ≡ record_header_at endian (drop at bytes) → 16 ≤ header.total_size → header.total_size ≤ length (drop at bytes) → at ≤ length bytes → length bytes < 2 ^ 63
       → FindsRecord endian bytes at (Ok (Some (record { offset = at; timestamp = header.timestamp; record_type = header.record_type.0; size = header.total_size })))
@@ -99,9 +80,6 @@ module _ (endian : Endianness) where
   length-jit_entries offset [] = refl
   length-jit_entries offset (raw ∷ raw_records) = ap (λ n. suc n) (length-jit_entries (offset + length raw) raw_records)
 
-  pub writes_jit_records-none : (bytes : List ℕ) (from : ℕ) (old : List JitRecord) → WritesJitRecords endian bytes from [] old 0 from old
-  writes_jit_records-none bytes from old = record { counted = refl; next_offset_is = omega arith; split = refl; elements = tt; within_capacity = omega arith; written = refl }
-
   pub writes_jit_records-snoc : (bytes : List ℕ) (from : ℕ) (raw_records : List (List ℕ)) (old : List JitRecord) (count next : ℕ) (new : List JitRecord) (raw : List ℕ) (r : JitRecord) → WritesJitRecords endian bytes from raw_records old count next new → count < length old
       → HasWholeRecordAt endian bytes next raw → r ≡ jit_entry endian next raw → WritesJitRecords endian bytes from (raw_records ++ raw ∷ []) old (count + 1) (next + r.size) (slice_set new count r)
   writes_jit_records-snoc bytes from raw_records old count next new raw r t fits found is =
@@ -121,10 +99,6 @@ module _ (endian : Endianness) where
         written = ap (λ l. slice_set l count r) t.written ∙ ap (λ n. slice_set (with_prefix entries old) n r) (sym long) ∙ sym (with_prefix-snoc entries old r (omega (arith, long, fits)))
             ∙ ap (λ e. with_prefix (entries ++ e ∷ []) old) (is ∙ ap (λ n. jit_entry endian n raw) next_is) ∙ ap (λ l. with_prefix l old) (sym (jit_entries-snoc from raw_records raw));
       }
-
-  -- a complete record ends within all bytes
-  pub record_end_fits : (bytes : List ℕ) (next : ℕ) (raw : List ℕ) (r : JitRecord) → HasWholeRecordAt endian bytes next raw → r ≡ jit_entry endian next raw → next + r.size < 2 ^ 64
-  record_end_fits bytes next raw r found is = (let size : r.size ≡ length raw = ap (λ e. e.size) is ∙ found.record_valid.size in let end = found.record_valid.end_fits in omega (arith, size, end))
 
   -- ---- a load record
 

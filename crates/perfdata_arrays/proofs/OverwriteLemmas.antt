@@ -15,13 +15,6 @@ with_prefix-snoc-full [] (o ∷ os) e full = absurd (omega (arith, full))
 with_prefix-snoc-full (x ∷ es) [] e full = refl
 with_prefix-snoc-full (x ∷ es) (o ∷ os) e full = ap (λ l. x ∷ l) (with_prefix-snoc-full es os e (omega (arith, full)))
 
--- the written entries and the unchanged rest
-pub with_prefix-take-drop : {T : Type 0} (es old : List T) → with_prefix es old ≡ take (length old) es ++ drop (length es) old
-with_prefix-take-drop [] [] = refl
-with_prefix-take-drop [] (o ∷ os) = refl
-with_prefix-take-drop (x ∷ es) [] = refl
-with_prefix-take-drop (x ∷ es) (o ∷ os) = ap (λ l. x ∷ l) (with_prefix-take-drop es os)
-
 -- an empty array stays empty
 pub with_prefix-nil : {T : Type 0} (es : List T) → with_prefix es [] ≡ []
 with_prefix-nil [] = refl

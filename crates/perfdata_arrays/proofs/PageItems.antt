@@ -48,10 +48,6 @@ prefix_of_all bytes {base} {base'} {capacity} {capacity'} {from} {next} {next'} 
     (x.0, unique.0 ∙ append-nil records')
 
 module _ {A B : Type 0} (kind : ItemKind A B) where
-  -- what some records add, by the attributes of the file of a page
-  abbrev pub ItemsIn : (bytes : List ℕ) {base capacity : ℕ} {from next : RecordPosition} {records : List RecordView} {status : Status} → IsPage bytes base from capacity records status next → List RecordView → List A → List B → Type 0
-  ItemsIn bytes {base} page rs s f = ItemsFrom kind (endian_of_file page.file) (attributes_of_file page.file) base 0 rs s f
-
   -- the same by the attributes of another page of the same file
   pub in_file_of : (bytes : List ℕ) {base base' capacity capacity' : ℕ} {from from' next next' : RecordPosition} {records records' : List RecordView} {status status' : Status}
       (a : IsPage bytes base from capacity records status next) (b : IsPage bytes base' from' capacity' records' status' next') (used : ℕ) (rs : List RecordView) (s : List A) (f : List B)

@@ -14,6 +14,7 @@ use Rattle.perfdata_arrays.specs.declared.symbol_tables.Symbol.{Symbol}
 use Rattle.perfdata_arrays.specs.declared.symbol_tables.SymbolFile.{SymbolFile}
 use Rattle.perfdata_arrays.specs.declared.symbol_tables.SymbolTotals.{SymbolTotals}
 use Rattle.perfdata_arrays.proofs.OverwriteLemmas.{with_entries_at-more, with_entries_at-with_prefix}
+use Rattle.perfdata_arrays.proofs.AttrsLemmas.{flat_map-snoc}
 
 -- ---- prefixes of a list
 
@@ -26,9 +27,6 @@ drop-next : {A : Type 0} (all : List A) (index : ℕ) (x : A) → index < length
 drop-next [] index x inside is = absurd (omega (arith, inside))
 drop-next (y ∷ all) zero x inside is = ap (λ e. e ∷ all) (sym is)
 drop-next (y ∷ all) (suc index) x inside is = drop-next all index x (omega (arith, inside)) is
-
-flat_map-snoc : {X : Type 0} (f : X → List ℕ) (xs : List X) (x : X) → flat_map f (xs ++ x ∷ []) ≡ flat_map f xs ++ f x
-flat_map-snoc f xs x = flat_map-append f xs (x ∷ []) ∙ ap (λ l. flat_map f xs ++ l) (append-nil (f x))
 
 -- ---- symbols
 

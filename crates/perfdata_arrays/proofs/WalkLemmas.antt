@@ -22,7 +22,7 @@ use Rattle.linux_perf_data.specs.InMemory.{memory_state, MemoryIter, with_buffer
 use Rattle.linux_perf_data.specs.InMemoryReading.{KeepsInput, NeedsMemoryForMetadataOnly, ReturnsRecordInMemory, ReturnsRecordsInMemory, input_of, first_record_offset_of}
 use Rattle.linux_perf_data.specs.Layout.{RecordView}
 use Rattle.linux_perf_data.proofs.EntryLemmas.{body-returned, has_bodies-snoc}
-use Rattle.linux_perf_data.proofs.InMemoryReadings.{one_call_more, same_records, same_end, same_error}
+use Rattle.linux_perf_data.proofs.InMemoryReadings.{one_call_more, same_records, same_end, same_error, offset_after}
 use Rattle.perfdata_arrays.specs.Overwrites.{with_prefix_from}
 use Rattle.linux_perf_data.specs.RecordEntries.{HasBodiesAt, HasBytesAt, record_entries_at, record_entry_at, with_prefix}
 use Rattle.perfdata_arrays.specs.Records.{WritesRecords}
@@ -66,15 +66,6 @@ pub calls-append : (old now new : InMemoryRecords) (file now_file file' : PerfFi
 calls-append old now new file now_file file' [] later (same, same_file) more = subst (λ f. ReturnsRecordsInMemory old f later new file') same_file (subst (λ i. ReturnsRecordsInMemory i now_file later new file') same more)
 calls-append old now new file now_file file' (h ∷ hs) later (next, (next_file, one, rest)) more = (next, (next_file, one, calls-append next now new next_file now_file file' hs later rest more))
 
--- each record moves the offset
-pub offset-after : (old now : InMemoryRecords) (file file' : PerfFile) (records : List RecordView) → ReturnsRecordsInMemory old file records now file' → old.records.offset + length records ≤ now.records.offset
-offset-after old now file file' [] (same, same_file) = (let e = ap (λ i. i.records.offset) same in omega (arith, e))
-offset-after old now file file' (h ∷ hs) (next, (next_file, (place, (r, step, is)), more)) =
-    let rest = offset-after next now next_file file' hs more in
-    let moved = step.returns.offset in
-    let start = step.returns.record_offset in
-    omega (arith, rest, moved, start)
-
 offset-fits : (old now : InMemoryRecords) (file file' : PerfFile) (h : RecordView) (hs : List RecordView) → ReturnsRecordsInMemory old file (h ∷ hs) now file' → now.records.offset < 2 ^ 64
 offset-fits old now file file' h [] (next, (next_file, (place, (r, step, is)), (same, same_file))) = (let at = ap (λ i. i.records.offset) same in let fits = step.returns.offset_fits in omega (arith, at, fits))
 offset-fits old now file file' h (k ∷ ks) (next, (next_file, one, more)) = offset-fits next now next_file file' k ks more
@@ -116,7 +107,7 @@ read_more old now new file now_file start count more array entries after so_far 
     let counted = so_far.count_is in
     let added = step.more_is in
     let below = so_far.count_below_offset in
-    let moved = offset-after now new now_file now_file step.records (step.returned now_file) in
+    let moved = offset_after now new now_file now_file step.records (step.returned now_file) in
     let both = map-append (record_entry_at base) first step.records in
     record {
       count_below_offset = omega (arith, below, added, moved);

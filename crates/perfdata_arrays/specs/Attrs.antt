@@ -73,11 +73,6 @@ pub record WritesAttrs (descriptions : List AttributeDescription) (entries : Lis
   pub names_written : names' ≡ with_prefix (all_names descriptions) names
   pub ids_written : ids' ≡ with_prefix (all_ids descriptions) ids
 
--- a sum, or `None` if it doesn't fit in 64 bits
-abbrev pub IsCheckedSum : ℕ → ℕ → Option ℕ → Type 0
-IsCheckedSum a b (Some n) = n ≡ a + b
-IsCheckedSum a b None = 2 ^ 64 ≤ a + b
-
 -- The end of the attribute's name or of its IDs doesn't fit in 64 bits. The name starts at offset `names`, the IDs start at index
 -- `ids`.
 abbrev pub ExceedsU64 : ℕ → ℕ → AttributeDescription → Type 0

@@ -12,7 +12,7 @@ use Rattle.std.specs.declared.io.ErrorKind.TheVariants.{UnexpectedEof, InvalidDa
 use Rattle.perfdata_base.specs.Source.{State, prepend, Consumed, ReadExactError, SkippedExactly, BytesOrSourceExplain}
 use Rattle.perfdata_base.proofs.ConsumedLemmas.{consumed_more, consumed_none_later, failed_later}
 use Rattle.perfdata_base.proofs.ReadErrors.{none_or_paused, all_read}
-use Rattle.perfdata_base.specs.Attr.{own_size, field, attr_of_size, IsAttr, AttrParsed, IsTooSmall, IsTruncatedAttr, AttrErrorCause, IsInvalidAttr, AttrParseError, OwnSizeRead, IsInvalidOwnSize, OwnSizeReadError, AttrRestRead}
+use Rattle.perfdata_base.specs.Attr.{own_size, field, attr_of_size, IsAttr, AttrParsed, IsTooSmall, IsTruncatedAttr, AttrErrorCause, IsInvalidAttr, AttrParseError, OwnSizeRead, AttrRestRead}
 use Rattle.perfdata_base.specs.declared.attr.PerfEventAttr.{PerfEventAttr}
 
 -- the prefix of a buffer whose part from index a on was overwritten
@@ -182,10 +182,6 @@ module _ (number : ℕ → List ℕ → ℕ) (first : (n : ℕ) (xs ys : List �
     ]
     | inr small ↦ inl (visible a.bytes b.bytes prefix (λ xs. ((error_kind e ≡ UnexpectedEof) × Unfinished xs) ⊎ ((error_kind e ≡ InvalidData) × IsTooSmall number xs)) consumed.bytes (λ rest. inr (small.2, small_remains prefix rest small.0 small.1)))
   ]
-
-  -- if the own size can't be read, the remaining bytes show the cause if they are known, or the source failed or paused
-  pub own_explained : (a b : State) (e : Error) → OwnSizeReadError number a e b → BytesOrSourceExplain a (IsInvalidOwnSize number e) b
-  own_explained a b e own = excused (λ xs. length xs < 8) a b own.consumed_bytes e own.consumes own.cause
 
   -- the same if an attribute can't be parsed
   pub attr_explained : (a b : State) (e : Error) → AttrParseError number a e b → BytesOrSourceExplain a (IsInvalidAttr number e) b

@@ -4,7 +4,7 @@ use Rattle.std.proofs.lemmas.List.{length-take-le, take-append-le, append-nil}
 use borrow.Rule.Slice.PartMut.{put_mid, post_of}
 use Rattle.std.proofs.Math.Seq.{take-append-add, take-append_seam}
 use lib.Seq.{take-take}
-use Rattle.perfdata_base.specs.Source.{State, Position, prepend, advance_by, StaysSteady, Consumed, SourceFailed, SourcePaused, EndedOrPaused, BufferFilled, PartlyRead, SkippedUpTo, AppendedUpTo, PartlyAppended, AppendsUpTo}
+use Rattle.perfdata_base.specs.Source.{State, Position, prepend, advance_by, StaysSteady, Consumed, SourceFailed, SourcePaused, EndedOrPaused, BufferFilled, PartlyRead, SkippedUpTo, PartlyAppended, AppendsUpTo}
 use Rattle.perfdata_base.specs.declared.source.append.AppendError.{AppendError}
 use Rattle.perfdata_base.specs.declared.source.append.AppendError.TheVariants.{Memory, Source}
 use Rattle.std.specs.Prelude.{Err}
@@ -13,11 +13,11 @@ moved_none : (p : Option Position) → p ≡ advance_by 0 p
 moved_none None = refl
 moved_none (Some p) = rw add-zero refl
 
-moved_more : (m n : ℕ) (p : Option Position) → advance_by n (advance_by m p) ≡ advance_by (m + n) p
+pub moved_more : (m n : ℕ) (p : Option Position) → advance_by n (advance_by m p) ≡ advance_by (m + n) p
 moved_more m n None = refl
 moved_more m n (Some p) = rw add_assoc refl
 
-prepend_none : (b : Option (List ℕ)) → b ≡ prepend [] b
+pub prepend_none : (b : Option (List ℕ)) → b ≡ prepend [] b
 prepend_none None = refl
 prepend_none (Some rest) = refl
 
@@ -51,12 +51,6 @@ pub failed_later : (a b c : State) (prefix : List ℕ) → Consumed a prefix b �
 failed_later a b c prefix x y = record {
   count_increases = λ low. let p = x.errors in let q = y.count_increases low in omega arith;
   not_steady = λ h. y.not_steady (still_steady a b prefix x h);
-}
-
-pub failed_before : (a b c : State) (prefix : List ℕ) → SourceFailed a b → Consumed b prefix c → SourceFailed a c
-failed_before a b c prefix x y = record {
-  count_increases = λ low. let p = y.errors in let lower : b.errors < 18446744073709551615 = omega arith in let q = x.count_increases lower in omega arith;
-  not_steady = x.not_steady;
 }
 
 pub paused_later : (a b c : State) (prefix : List ℕ) → Consumed a prefix b → SourcePaused b c → SourcePaused a c
@@ -100,23 +94,6 @@ pub skipped_short : (a b c : State) (prefix offset : List ℕ) (k n count : ℕ)
 skipped_short a b c prefix offset k n count long before fill short fits =
     let more = skipped_more a b c prefix offset k n long before fill in
     record { bytes = more.0; exact_len = more.1; within = fits; consumes = more.2; if_incomplete = λ _. consumed_none_later a b c prefix before (fill.if_incomplete short) }
-
--- a chunk was appended after the old content of a buffer
-pub appended_more : (a b c : State) (old buffered now prefix : List ℕ) (k n piece : ℕ) → length prefix ≡ k → buffered ≡ old ++ prefix → Consumed a prefix b → AppendedUpTo b buffered piece n now c
-    → (whole : List ℕ) × (length whole ≡ k + n) × (now ≡ old ++ whole) × Consumed a whole c
-appended_more a b c old buffered now prefix k n piece long is before step =
-    let part = step.bytes in (
-      prefix ++ part,
-      length-append prefix part ∙ ap (λ m. m + length part) long ∙ ap (λ m. k + m) step.exact_len,
-      step.buffer_content ∙ ap (λ l. l ++ part) is ∙ append_assoc old prefix part,
-      consumed_more a b c prefix part before step.consumes,
-    )
-
-pub appended_short : (a b c : State) (old buffered now prefix : List ℕ) (k n piece count : ℕ) → length prefix ≡ k → buffered ≡ old ++ prefix → Consumed a prefix b → AppendedUpTo b buffered piece n now c
-    → n < piece → k + n ≤ count → AppendedUpTo a old count (k + n) now c
-appended_short a b c old buffered now prefix k n piece count long is before step short fits =
-    let more = appended_more a b c old buffered now prefix k n piece long is before step in
-    record { bytes = more.0; exact_len = more.1; within = fits; buffer_content = more.2; consumes = more.3; if_incomplete = λ _. consumed_none_later a b c prefix before (step.if_incomplete short) }
 
 appended_part_more : (a b c : State) (old buffered prefix : List ℕ) (k piece count now : ℕ) → length prefix ≡ k → buffered ≡ old ++ prefix → Consumed a prefix b → PartlyAppended b (length buffered) piece now c
     → k + piece ≤ count → PartlyAppended a (length old) count now c

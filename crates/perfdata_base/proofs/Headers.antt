@@ -1,17 +1,13 @@
 -- The result of parsing a file header, from the results of its steps.
-use Rattle.std.proofs.Common.{◌≡◌, ℕ, ◌+◌, ◌-◌, ◌^◌, ◌<◌, ◌≤◌, ◌++◌, Bool, List, length, drop, refl, sym, ap, ◌∙◌, subst, inl, inr, arith, pos, max, add_assoc, length-append, length-drop, Option, None, Some}
+use Rattle.std.proofs.Common.{◌≡◌, ℕ, ◌+◌, ◌-◌, ◌^◌, ◌<◌, ◌≤◌, ◌++◌, Bool, List, length, drop, refl, sym, ap, ◌∙◌, subst, inl, inr, arith, pos, max, length-append, length-drop, Option, None, Some}
 use Rattle.std.specs.Prelude.{IfSome}
 use Rattle.std.specs.declared.io.Error.{Error}
 use Rattle.std.specs.declared.io.SeekFrom.TheVariants.{Current}
 use Rattle.perfdata_base.specs.Source.{State, Position, RemainsFromPosition, SizeFitsI64, advance_by, prepend, remaining_from, all_bytes_of, at_offset, Consumed, LeadsTo, SeekSucceeded, SeekOutOfRange}
-use Rattle.perfdata_base.proofs.ConsumedLemmas.{failed_later}
+use Rattle.perfdata_base.proofs.ConsumedLemmas.{failed_later, moved_more}
 use Rattle.perfdata_base.proofs.ReadErrors.{consumed-after_seek, after_seek_more}
 use Rattle.perfdata_base.specs.Header.{file_header_of, BeginsWithFileHeader, FileHeaderParsed, FileHeaderParseError, ExtraSkipped, ExtraSeekError}
 use Rattle.perfdata_base.specs.declared.header.PerfHeader.{PerfHeader}
-
-moved_more : (m n : ℕ) (p : Option Position) → advance_by n (advance_by m p) ≡ advance_by (m + n) p
-moved_more m n None = refl
-moved_more m n (Some p) = rw add_assoc refl
 
 went_on : (steady : Bool) (n at : ℕ) (p : Option Position) → ((q : Position) → p ≡ Some q → LeadsTo steady (Current (pos n)) q at) → at_offset at p ≡ advance_by n p
 went_on steady n at None goes = refl

@@ -1,7 +1,7 @@
 -- Numbers depend only on the first bytes of a list, in either byte order.
-use Rattle.std.proofs.Common.{◌≡◌, ℕ, ◌+◌, ◌^◌, ◌<◌, ◌≤◌, List, ◌++◌, length, take, drop, slice_index, sym, ap, ◌∙◌, arith, length-drop}
+use Rattle.std.proofs.Common.{◌≡◌, ℕ, ◌+◌, ◌≤◌, List, ◌++◌, length, take, drop, sym, ap, ◌∙◌, arith, length-drop}
 use Rattle.std.proofs.lemmas.List.{drop-append-le, take-append-drop, length-take-le}
-use Rattle.byteorder.specs.Numbers.{big_from-append, big_from-lt, big_from-take, little_from-append, little_from-lt, little_from-take}
+use Rattle.byteorder.specs.Numbers.{big_from-append, big_from-take, little_from-append, little_from-take}
 use Rattle.perfdata_base.specs.Endian.{number_in}
 use Rattle.perfdata_base.specs.declared.endian.Endianness.{Endianness}
 use Rattle.perfdata_base.specs.declared.endian.Endianness.TheVariants.{LittleEndian, BigEndian}
@@ -29,12 +29,6 @@ number_drop_prefix order n k xs ys h =
     let truncated = drop-append-le k xs ys (omega arith) in
     let long_enough : n ≤ length (drop k xs) = omega (arith, length-drop k xs) in
     ap (number_in order n) truncated ∙ number_prefix order n (drop k xs) ys long_enough
-
--- the number in n bytes is below 256 ^ n
-pub number_bound : (order : Endianness) (n : ℕ) (xs : List ℕ) → ((k : ℕ) → slice_index xs k < 256)
-    → number_in order n xs < 256 ^ n
-number_bound LittleEndian n xs h = little_from-lt 0 n xs h
-number_bound BigEndian n xs h = big_from-lt 0 n xs h
 
 -- both byte orders depend only on the first bytes
 pub in_reads_first : (order : Endianness) → ReadsFirst (number_in order)

@@ -1,9 +1,9 @@
 -- The result of parsing a pipe header, from the results of its steps.
-use Rattle.std.proofs.Common.{◌≡◌, ℕ, ◌-◌, ◌<◌, ◌≤◌, Bool, true, false, List, length, ap, subst, sym, ◌∙◌, arith, ◌==◌, inl, inr}
+use Rattle.std.proofs.Common.{◌≡◌, ℕ, ◌-◌, ◌<◌, ◌≤◌, Bool, List, length, ap, subst, sym, ◌∙◌, arith, ◌==◌, inl, inr}
 use Rattle.std.proofs.lemmas.Bool.{cases_eq, eq-eqb, ne_eqb}
 use Rattle.perfdata_base.specs.Source.{State, Consumed, EndedOrPaused, SkippedUpTo, PartlyRead, SourceFailed}
 use Rattle.perfdata_base.proofs.ConsumedLemmas.{consumed_more, failed_later, consumed_none_later}
-use Rattle.perfdata_base.specs.PipeHeader.{pipe_header_of, PipeHeaderParsed, PipeHeaderWithExtraParsed, IsExtraComplete, ExtraReadError}
+use Rattle.perfdata_base.specs.PipeHeader.{pipe_header_of, PipeHeaderWithExtraParsed, IsExtraComplete, ExtraReadError}
 use Rattle.perfdata_base.specs.declared.header.pipe.PerfPipeHeader.{PerfPipeHeader}
 
 -- all extra bytes were skipped, or fewer because the source ended or paused
@@ -24,27 +24,6 @@ whole_prefix a b c bytes h count n whole long is consumed counts skipped shows =
   consumes = consumed_more a b c bytes skipped.bytes consumed skipped.consumes;
   extra_complete = subst (λ w. IsExtraComplete (h.size - 16) a skipped.bytes w c) (sym shows)
       (subst (λ k. IsExtraComplete k a skipped.bytes (n == count) c) counts (complete_or_not a b c bytes skipped.bytes count n consumed skipped.exact_len skipped.within skipped.if_incomplete));
-}
-
--- a header parsed with its completeness is a parsed header
-pub counted_prefix : (a b : State) (h : PerfPipeHeader) (whole : Bool) → PipeHeaderWithExtraParsed a h whole b → PipeHeaderParsed a h b
-counted_prefix a b h true t = record {
-  bytes = t.bytes;
-  exact_len = t.exact_len;
-  matches = t.matches;
-  extra = t.extra;
-  consumes = t.consumes;
-  within = let all = t.extra_complete in omega (arith, all);
-  if_incomplete = λ is_too_few. let all = t.extra_complete in absurd (omega (arith, all, is_too_few));
-}
-counted_prefix a b h false t = record {
-  bytes = t.bytes;
-  exact_len = t.exact_len;
-  matches = t.matches;
-  extra = t.extra;
-  consumes = t.consumes;
-  within = let less = t.extra_complete.0 in omega (arith, less);
-  if_incomplete = λ is_too_few. t.extra_complete.1;
 }
 
 -- the source failed in the extra bytes

@@ -1,13 +1,11 @@
 -- Consequences of failed reads of an exact length.
-use Rattle.std.proofs.Common.{◌≡◌, ◌≢◌, ℕ, ◌+◌, ◌<◌, ◌≤◌, ◌++◌, List, [], ◌∷◌, length, refl, sym, ap, ◌∙◌, subst, inl, inr, arith, length-append, length-drop, ◌^◌, Option, None, Some, drop}
-use Rattle.std.specs.Prelude.{◌⊎◌, IfSome}
+use Rattle.std.proofs.Common.{◌≡◌, ◌≢◌, ℕ, ◌+◌, ◌≤◌, ◌++◌, List, [], ◌∷◌, length, refl, sym, ap, ◌∙◌, inl, inr, arith, length-append, Option, None, Some, drop}
+use Rattle.std.specs.Prelude.{◌⊎◌}
 use Rattle.std.proofs.lemmas.List.{append-nil, drop-drop}
 use Rattle.std.proofs.Math.Seq.{drop-append_seam}
-use Rattle.std.specs.IoError.{error_kind}
 use Rattle.std.specs.declared.io.Error.{Error}
-use Rattle.std.specs.declared.io.ErrorKind.TheVariants.{UnexpectedEof}
-use Rattle.perfdata_base.specs.Source.{State, Position, prepend, advance_by, remaining_from, all_bytes_of, RemainsFromPosition, SizeFitsI64, Consumed, EndedOrPaused, SourceFailed, SourcePaused, ReadExactError, BytesOrSourceExplain, AfterSeek}
-use Rattle.perfdata_base.proofs.ConsumedLemmas.{consumed_more, consumed_none, failed_later, paused_later, consumed_none_later}
+use Rattle.perfdata_base.specs.Source.{State, Position, prepend, advance_by, remaining_from, all_bytes_of, RemainsFromPosition, Consumed, EndedOrPaused, SourceFailed, SourcePaused, ReadExactError, AfterSeek}
+use Rattle.perfdata_base.proofs.ConsumedLemmas.{consumed_more, consumed_none, failed_later, consumed_none_later}
 
 none_or : (b : Option (List ℕ)) (P : Type 0) → (b ≢ Some [] → P) → (b ≡ Some []) ⊎ P
 none_or None P f = inr (f (λ e. cc))
@@ -35,40 +33,6 @@ truncated_later a b c prefix count whole e before truncated fits =
       ];
     }
 
--- after a truncated read the remaining bytes were too few, or the source failed or paused
-pub truncated_why : (a b : State) (count : ℕ) (e : Error) → ReadExactError a count e b → ((prefix : List ℕ) × (a.bytes ≡ Some prefix) × (length prefix < count) × (error_kind e ≡ UnexpectedEof)) ⊎ (SourceFailed a b ⊎ SourcePaused a b)
-truncated_why a b count e truncated = elim truncated.cause [
-  | inl short ↦ elim (none_or_paused a b short.1) [
-    | inl end ↦ inl (truncated.consumed_bytes, all_read a b truncated.consumed_bytes truncated.consumes end, truncated.too_few, short.0)
-    | inr paused ↦ inr (inr paused)
-  ]
-  | inr failed ↦ inr (inl failed)
-]
-
-if_some_is : (b : Option (List ℕ)) (P : List ℕ → Type 0) (xs : List ℕ) → b ≡ Some xs → P xs → IfSome b P
-if_some_is b P xs is p = subst (λ o. IfSome o P) (sym is) p
-
--- a property of all lists of fewer than count bytes explains a failed read of count bytes
-pub truncated_explained : (a b : State) (count : ℕ) (e : Error) (Stops : List ℕ → Type 0) → ReadExactError a count e b → ((xs : List ℕ) → length xs < count → error_kind e ≡ UnexpectedEof → Stops xs) → BytesOrSourceExplain a Stops b
-truncated_explained a b count e Stops truncated stops = elim (truncated_why a b count e truncated) [
-  | inl short ↦ inl (if_some_is a.bytes Stops short.0 short.1 (stops short.0 short.2 short.3))
-  | inr source ↦ inr source
-]
-
--- if the remaining bytes at a later state satisfy Q, those at an earlier state satisfy P
-excused_bytes : (a b : Option (List ℕ)) (prefix : List ℕ) (P Q : List ℕ → Type 0) → a ≡ prepend prefix b → ((rest : List ℕ) → Q rest → P (prefix ++ rest)) → IfSome b Q → IfSome a P
-excused_bytes a None prefix P Q is more h = subst (λ o. IfSome o P) (sym is) _
-excused_bytes a (Some rest) prefix P Q is more h = subst (λ o. IfSome o P) (sym is) (more rest h)
-
-pub explained_later : (a b c : State) (prefix : List ℕ) (P Q : List ℕ → Type 0) → Consumed a prefix b → BytesOrSourceExplain b Q c → ((rest : List ℕ) → Q rest → P (prefix ++ rest)) → BytesOrSourceExplain a P c
-explained_later a b c prefix P Q before reason_of more = elim reason_of [
-  | inl bytes ↦ inl (excused_bytes a.bytes b.bytes prefix P Q before.bytes more bytes)
-  | inr source ↦ inr (elim source [
-    | inl failed ↦ inl (failed_later a b c prefix before failed)
-    | inr paused ↦ inr (paused_later a b c prefix before paused)
-  ])
-]
-
 -- after a read the remaining bytes are those from the new position on
 at_position_more : (b : Option (List ℕ)) (p : Option Position) (prefix : List ℕ) → prepend prefix b ≡ remaining_from p → b ≡ remaining_from (advance_by (length prefix) p)
 at_position_more None None prefix is = refl
@@ -95,18 +59,6 @@ consumed-after_seek a b prefix at_position consumes_it = record {
   pauses = consumes_it.pauses;
   steady = consumes_it.steady;
 }
-
--- the size still fits if all bytes are the same; `sym` turns the equation around
-pub small_same : (a b : State) → all_bytes_of b.position ≡ all_bytes_of a.position → SizeFitsI64 a → SizeFitsI64 b
-small_same a b same small = subst (λ o. IfSome o (λ all. length all < 2 ^ 63)) (sym same) small
-
-remaining_small : (p : Option Position) → IfSome (all_bytes_of p) (λ all. length all < 2 ^ 63) → IfSome (remaining_from p) (λ xs. length xs < 2 ^ 63)
-remaining_small None small = _
-remaining_small (Some p) small = let all : length p.all_bytes < 2 ^ 63 = small in omega (arith, length-drop p.offset p.all_bytes)
-
--- the size of the remaining bytes fits too
-pub small_bytes : (s : State) → RemainsFromPosition s → SizeFitsI64 s → IfSome s.bytes (λ xs. length xs < 2 ^ 63)
-small_bytes s at_position small = subst (λ o. IfSome o (λ xs. length xs < 2 ^ 63)) (sym at_position) (remaining_small s.position small)
 
 pub after_seek_none : (a : State) → RemainsFromPosition a → AfterSeek a a
 after_seek_none a at_position = consumed-after_seek a a [] at_position (consumed_none a)

@@ -102,10 +102,6 @@ module _ (number : ℕ → List ℕ → ℕ) where
     pub consumes : Consumed old consumed_bytes new
     pub cause : AttrErrorCause (λ xs. length xs < 8) old consumed_bytes e new
 
-  -- the bytes have no valid own size, and the error has the matching kind
-  abbrev pub IsInvalidOwnSize : Error → List ℕ → Type 0
-  IsInvalidOwnSize e xs = ((error_kind e ≡ UnexpectedEof) × (length xs < 8)) ⊎ ((error_kind e ≡ InvalidData) × IsTooSmall xs)
-
   -- the effect of reading the first eight bytes
   abbrev pub ReadsOwnSize : State → List ℕ → Result ℕ Error → State → Type 0
   ReadsOwnSize old header (Ok own) new = OwnSizeRead old header own new

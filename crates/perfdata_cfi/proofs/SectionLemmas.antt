@@ -1,6 +1,6 @@
 -- A section has one list of CIEs and one of FDEs.
 use Rattle.std.proofs.Common.{◌≡◌, ℕ, ◌+◌, ◌-◌, ◌*◌, ◌%◌, ◌^◌, ◌<◌, ◌≤◌, List, [], ◌∷◌, length, take, drop, get_or, suc, zero, refl, sym, ap, ◌∙◌, subst, arith, Bool, true, false, Option, Some, None, inl, inr, length-drop, length-take-le}
-use Rattle.std.specs.Prelude.{◌≢◌, ◌⊎◌, ◌==◌, All, if◌then◌else◌}
+use Rattle.std.specs.Prelude.{◌⊎◌, ◌==◌, All, if◌then◌else◌}
 use Rattle.std.proofs.lemmas.Bool.{cases_lt}
 use Rattle.std.proofs.lemmas.List.{get_or_default}
 use Rattle.std.proofs.lemmas.List.Elements.{All-cons}
@@ -10,8 +10,8 @@ use Rattle.perfdata_cfi.specs.Pointers.{PointerAt, EncodedAt}
 use Rattle.perfdata_cfi.specs.Entries.{LengthAt, id_size, cie_id, cie_offset, EntryAt, AfterZero, ZeroAt, PieceAt, NoPiece}
 use Rattle.perfdata_cfi.specs.Cies.{VersionAt, CieAt}
 use Rattle.perfdata_cfi.specs.Fdes.{DataAt, FdeAt, IsFde}
-use Rattle.perfdata_cfi.specs.Tables.{Pieces, IsCieIn, CiesOf, CiesOfSection, IsFdeIn, FdesOf, AreRising, IsNearest, IsFdeAt, SortedFdesOf}
-use Rattle.perfdata_cfi.specs.Sections.{AreFew, HasEntries, FdeOfSectionAt, FindsFdeOfSection, HasOneListOfCies, HasOneListOfFdes, HasOneFdeAt, Covers, FindsEachThatCovers}
+use Rattle.perfdata_cfi.specs.Tables.{Pieces, IsCieIn, CiesOf, CiesOfSection, IsFdeIn, FdesOf, AreRising, IsNearest, SortedFdesOf}
+use Rattle.perfdata_cfi.specs.Sections.{AreFew, FindsFdeOfSection, HasOneListOfCies, HasOneListOfFdes, HasOneFdeAt, FindsEachThatCovers}
 use Rattle.perfdata_cfi.specs.declared.entry.FrameSection.{FrameSection}
 use Rattle.perfdata_cfi.specs.declared.entry.FrameSection.TheVariants as sections
 use Rattle.perfdata_cfi.specs.declared.entry.Entry.{Entry}

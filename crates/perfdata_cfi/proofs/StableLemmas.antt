@@ -1,12 +1,11 @@
 -- The FDE at an address is the same in the order of the section as in that of the first addresses.
-use Rattle.std.proofs.Common.{◌≡◌, ℕ, ◌+◌, ◌<◌, ◌≤◌, List, [], ◌∷◌, length, get_or, suc, zero, refl, sym, ap, ◌∙◌, subst, arith, Bool, true, false, cond, not, ◌&&◌, ltb}
+use Rattle.std.proofs.Common.{◌≡◌, ℕ, ◌<◌, ◌≤◌, List, [], ◌∷◌, length, get_or, suc, zero, refl, sym, ap, ◌∙◌, subst, arith, Bool, true, false, cond, not, ltb}
 use Rattle.std.specs.List.{filter}
 use Rattle.std.specs.List.Sorted.{ties, IsStableByKey}
 use Rattle.std.specs.Ordering.{nat_cmp, is_lt}
 use Rattle.std.specs.Prelude.{nat_lt, ◌==◌}
 use Rattle.std.specs.declared.cmp.Ordering.TheVariants.{Less, Equal, Greater}
 use Rattle.std.proofs.lemmas.Bool.{true≢false, le-ltb, ltb-false, and_from, and_parts}
-use Rattle.std.proofs.lemmas.List.{get_or_default}
 use Rattle.perfdata_cfi.specs.Tables.{IsNearest}
 use Rattle.perfdata_cfi.specs.declared.fde.Fde.{Fde}
 

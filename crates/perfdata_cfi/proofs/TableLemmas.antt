@@ -24,9 +24,6 @@ fde_of_piece section address bytes at rest cies None f reached piece h = absurd 
 fde_of_piece section address bytes at rest cies (Some e) f reached piece h =
     record { entry = e; is_entry = record { at = at; rest = rest; reached = reached; entry_at = piece }; is_fde = h }
 
-pub reaches_more : (section : FrameSection) (bytes at rest : List ℕ) (p : Option Entry) → Reaches section bytes at → PieceAt section (length bytes) at p rest → Reaches section bytes rest
-reaches_more section bytes at rest p reached piece = (reached.0 ++ p ∷ [], pieces_push section (length bytes) bytes at rest reached.0 p reached.1 piece)
-
 pub cies_skip : (ps : List (Option Entry)) (p : Option Entry) (cs : List Cie) → CiesOf ps cs → NoCieIn p → CiesOf (ps ++ p ∷ []) cs
 cies_skip [] p cs h none = inl (none, h)
 cies_skip (q ∷ ps) p cs (inl h) none = inl (h.0, cies_skip ps p cs h.1 none)
@@ -135,13 +132,6 @@ nearest_unique fs x i j f g a b =
     let two = a.first j b.within (omega (arith, gj, same)) in
     let index : i ≡ j = omega (arith, one, two) in
     a.fde_is ∙ get_or_default fs i f g a.within ∙ ap (λ k. get_or fs k g) index ∙ sym b.fde_is
-
--- no FDE is nearest where all are after the address
-pub none_nearest : (fs : List Fde) (x above i : ℕ) (f : Fde) → IsPartitionPoint (λ (h : Fde). leb h.start x ≡ true) (λ (h : Fde). leb h.start x ≡ false) fs above → above ≡ 0 → IsNearest fs x i f → ⊥
-none_nearest fs x above i f low none a =
-    let e : (get_or fs i f).start ≡ f.start = ap (λ (h : Fde). h.start) (sym a.fde_is) in
-    let small = a.starts in
-    not_low (get_or fs i f).start x (low.1 i f (omega (arith, none)) a.within) (omega (arith, e, small))
 
 -- an FDE that starts after the one before it, and up to the address, which is before the one after it
 pub nearest_between : (fs : List Fde) (x i : ℕ) (f : Fde) → IsNonDecreasingBy (λ (h : Fde). h.start) fs → i < length fs → f ≡ get_or fs i f → f.start ≤ x → (0 < i → (g : Fde) → (get_or fs (i - 1) g).start < f.start) → (i + 1 < length fs → (g : Fde) → x < (get_or fs (i + 1) g).start) → IsNearest fs x i f

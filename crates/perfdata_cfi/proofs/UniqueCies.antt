@@ -1,5 +1,5 @@
 -- What a CIE has is unique, and where an entry is no CIE.
-use Rattle.std.proofs.Common.{◌≡◌, ℕ, ℤ, ◌+◌, ◌-◌, ◌<◌, List, [], ◌∷◌, ◌++◌, length, take, drop, get_or, suc, subst, refl, sym, ap, ◌∙◌, arith, true, false, Option, Some, None, inl, inr, drop-cons}
+use Rattle.std.proofs.Common.{◌≡◌, ℕ, ℤ, ◌+◌, ◌-◌, ◌<◌, List, [], ◌∷◌, ◌++◌, length, take, drop, get_or, suc, subst, refl, sym, ap, ◌∙◌, arith, true, false, Option, None, inl, inr, drop-cons}
 use Rattle.std.specs.Prelude.{◌≢◌, All, ◌==◌, if◌then◌else◌}
 use Rattle.std.specs.List.{AllWithin}
 use Rattle.std.specs.Option.{MatchOption}

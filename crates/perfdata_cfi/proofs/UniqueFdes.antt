@@ -25,9 +25,6 @@ no_data true bytes is none rest at = none at.0 rest at.1
 no_data false bytes is none rest at = true≢false (sym is)
 
 module _ (address : ℕ) (e : Entry) (c : Cie) where
-  encoding : ℕ
-  encoding = c.augmentation.pointer_encoding
-
   module _ (start : ℕ) (after_start : List ℕ)
       (start_at : PointerAt c.augmentation.pointer_encoding ((address + (e.end - length e.body.now)) % 2 ^ 64) e.body.now start after_start) where
     pub no_fde_size : NoEncoded c.augmentation.pointer_encoding after_start → NoFde address e c
@@ -80,18 +77,6 @@ none_at_offset cies offset index up point other k d within is = elim (cases_lt k
 
 pub some_same : {A : Type 0} (x y : A) → Some x ≡ Some y → x ≡ y
 some_same {A} x y is = ap (λ (o : Option A). unwrap_or o x) is
-
-none_some : (n : ℕ) → None ≡ Some n → ⊥
-none_some n h = cc
-
--- an entry that is no FDE
-pub no_offset : (address : ℕ) (cies : List Cie) (e : Entry) → e.cie_offset ≡ None → (f : Fde) → IsFde address cies e f → ⊥
-no_offset address cies e none f at = none_some at.cie.offset (sym none ∙ at.offset_is)
-
-pub no_cie_there : (address : ℕ) (cies : List Cie) (e : Entry) (offset : ℕ) → e.cie_offset ≡ Some offset → All (λ (c : Cie). c.offset ≢ offset) cies → (f : Fde) → IsFde address cies e f → ⊥
-no_cie_there address cies e offset is none f at =
-    let same : at.cie.offset ≡ offset = some_same at.cie.offset offset (sym at.offset_is ∙ is) in
-    none f.cie at.cie at.within (ap (λ (c : Cie). c.offset) (sym at.cie_is) ∙ same)
 
 pub no_fde_at : (address : ℕ) (cies : List Cie) (e : Entry) (offset index : ℕ) (cie : Cie) → AreRising cies → e.cie_offset ≡ Some offset → index < length cies → cie ≡ get_or cies index cie → cie.offset ≡ offset
     → ((f : Fde) → FdeAt address e cie f → 0 < f.size → ⊥) → (f : Fde) → IsFde address cies e f → ⊥

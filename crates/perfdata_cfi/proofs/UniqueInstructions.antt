@@ -1,10 +1,10 @@
 -- The instruction that some bytes start with is unique.
-use Rattle.std.proofs.Common.{◌≡◌, ℕ, ℤ, ◌+◌, ◌-◌, ◌/◌, ◌%◌, ◌^◌, ◌<◌, ◌≤◌, List, ◌∷◌, length, drop, subst, refl, sym, ap, ◌∙◌, inl, inr, arith, Bool, true, false}
-use Rattle.std.proofs.lemmas.Bool.{cases_lt, true≢false}
-use Rattle.std.specs.Prelude.{if◌then◌else◌, ◌==◌, get_or, ◌≢◌}
+use Rattle.std.proofs.Common.{◌≡◌, ℕ, ℤ, ◌+◌, ◌-◌, ◌/◌, ◌%◌, ◌^◌, ◌<◌, ◌≤◌, List, ◌∷◌, length, drop, subst, refl, sym, ap, ◌∙◌, inl, inr, arith}
+use Rattle.std.proofs.lemmas.Bool.{cases_lt}
+use Rattle.std.specs.Prelude.{if◌then◌else◌, ◌==◌, get_or}
 use Rattle.perfdata_cfi.specs.Numbers.{FixedAt, Uleb128At, Sleb128At, NoUleb128, NoSleb128}
 use Rattle.perfdata_cfi.specs.Pointers.{PointerAt, NoPointer}
-use Rattle.perfdata_cfi.specs.Instructions.{PairAt, SignedPairAt, ExpressionAt, RegisterExpressionAt, OperandsAt, ShortAt, InstructionAt, NoPair, NoSignedPair, NoExpression, NoRegisterExpression, NoOperands, NoInstruction, is_location, is_cfa, is_rule, is_value_rule}
+use Rattle.perfdata_cfi.specs.Instructions.{PairAt, SignedPairAt, ExpressionAt, RegisterExpressionAt, OperandsAt, ShortAt, InstructionAt, NoPair, NoSignedPair, NoExpression, NoRegisterExpression, NoOperands, NoInstruction}
 use Rattle.perfdata_cfi.specs.declared.numbers.Span.{Span}
 use Rattle.perfdata_cfi.specs.declared.instruction.Machine.{Machine}
 use Rattle.perfdata_cfi.specs.declared.instruction.Machine.TheVariants as machines
@@ -235,44 +235,6 @@ no_form e bytes unknown i rest none at = at
 pub none_at : (e : Encoding) (bytes : List ℕ) (op k : ℕ) → op ≡ k → NoForm e (form_of e k) bytes → NoOperands e op bytes
 none_at e bytes op k is none i rest at =
     no_form e bytes (form_of e k) i rest none (subst (λ o. FormAt e (form_of e o) bytes i rest) is (form_at e bytes op i rest at))
-
-pub no_sign : (e : Encoding) (bytes : List ℕ) (machine : Machine) → machine ≡ machines.X86_64 → NoForm e (sign_form machine) bytes
-no_sign e bytes machines.X86_64 is = tt
-no_sign e bytes machines.AArch64 is = absurd (aarch64_is_not is)
-
-clash : (b : Bool) → b ≡ true → b ≡ false → ⊥
-clash b p q = true≢false (sym p ∙ q)
-
-pub unknown_opcode : (e : Encoding) (bytes : List ℕ) (op : ℕ) → is_location op ≡ false → is_cfa op ≡ false → is_rule op ≡ false → is_value_rule op ≡ false → op ≢ 0 → op ≢ 6 → op ≢ 10 → op ≢ 11 → op ≢ 45 → op ≢ 46 → NoOperands e op bytes
-unknown_opcode e bytes op l c r v not0 not6 not10 not11 not45 not46 instructions.Nop rest (inl h) = not0 h.0
-unknown_opcode e bytes op l c r v not0 not6 not10 not11 not45 not46 instructions.Nop rest (inr (inl h)) = not45 h.0
-unknown_opcode e bytes op l c r v not0 not6 not10 not11 not45 not46 instructions.Nop rest (inr (inr h)) = not46 h.0
-unknown_opcode e bytes op l c r v not0 not6 not10 not11 not45 not46 (instructions.Advance n) rest (inl h) = clash (is_location op) (ap (λ o. is_location o) h.0) l
-unknown_opcode e bytes op l c r v not0 not6 not10 not11 not45 not46 (instructions.Advance n) rest (inr (inl h)) = clash (is_location op) (ap (λ o. is_location o) h.0) l
-unknown_opcode e bytes op l c r v not0 not6 not10 not11 not45 not46 (instructions.Advance n) rest (inr (inr h)) = clash (is_location op) (ap (λ o. is_location o) h.0) l
-unknown_opcode e bytes op l c r v not0 not6 not10 not11 not45 not46 (instructions.SetLocation a) rest h = clash (is_location op) (ap (λ o. is_location o) h.0) l
-unknown_opcode e bytes op l c r v not0 not6 not10 not11 not45 not46 (instructions.Restore t) rest h = not6 h.0
-unknown_opcode e bytes op l c r v not0 not6 not10 not11 not45 not46 instructions.RememberState rest h = not10 h.0
-unknown_opcode e bytes op l c r v not0 not6 not10 not11 not45 not46 instructions.RestoreState rest h = not11 h.0
-unknown_opcode e bytes op l c r v not0 not6 not10 not11 not45 not46 (instructions.DefineCfa t n) rest h = clash (is_cfa op) (ap (λ o. is_cfa o) h.0) c
-unknown_opcode e bytes op l c r v not0 not6 not10 not11 not45 not46 (instructions.DefineCfaSigned t n) rest h = clash (is_cfa op) (ap (λ o. is_cfa o) h.0) c
-unknown_opcode e bytes op l c r v not0 not6 not10 not11 not45 not46 (instructions.DefineCfaRegister t) rest h = clash (is_cfa op) (ap (λ o. is_cfa o) h.0) c
-unknown_opcode e bytes op l c r v not0 not6 not10 not11 not45 not46 (instructions.DefineCfaOffset n) rest h = clash (is_cfa op) (ap (λ o. is_cfa o) h.0) c
-unknown_opcode e bytes op l c r v not0 not6 not10 not11 not45 not46 (instructions.DefineCfaOffsetSigned n) rest h = clash (is_cfa op) (ap (λ o. is_cfa o) h.0) c
-unknown_opcode e bytes op l c r v not0 not6 not10 not11 not45 not46 (instructions.DefineCfaExpression s) rest h = clash (is_cfa op) (ap (λ o. is_cfa o) h.0) c
-unknown_opcode e bytes op l c r v not0 not6 not10 not11 not45 not46 (instructions.Offset t n) rest h = clash (is_rule op) (ap (λ o. is_rule o) h.0) r
-unknown_opcode e bytes op l c r v not0 not6 not10 not11 not45 not46 (instructions.OffsetSigned t n) rest h = clash (is_rule op) (ap (λ o. is_rule o) h.0) r
-unknown_opcode e bytes op l c r v not0 not6 not10 not11 not45 not46 (instructions.OffsetNegative t n) rest h = clash (is_rule op) (ap (λ o. is_rule o) h.0) r
-unknown_opcode e bytes op l c r v not0 not6 not10 not11 not45 not46 (instructions.Undefined t) rest h = clash (is_rule op) (ap (λ o. is_rule o) h.0) r
-unknown_opcode e bytes op l c r v not0 not6 not10 not11 not45 not46 (instructions.SameValue t) rest h = clash (is_rule op) (ap (λ o. is_rule o) h.0) r
-unknown_opcode e bytes op l c r v not0 not6 not10 not11 not45 not46 (instructions.Register t u) rest h = clash (is_rule op) (ap (λ o. is_rule o) h.0) r
-unknown_opcode e bytes op l c r v not0 not6 not10 not11 not45 not46 (instructions.Expression t s) rest h = clash (is_rule op) (ap (λ o. is_rule o) h.0) r
-unknown_opcode e bytes op l c r v not0 not6 not10 not11 not45 not46 (instructions.ValueOffset t n) rest h = clash (is_value_rule op) (ap (λ o. is_value_rule o) h.0) v
-unknown_opcode e bytes op l c r v not0 not6 not10 not11 not45 not46 (instructions.ValueOffsetSigned t n) rest h = clash (is_value_rule op) (ap (λ o. is_value_rule o) h.0) v
-unknown_opcode e bytes op l c r v not0 not6 not10 not11 not45 not46 (instructions.ValueExpression t s) rest h = clash (is_value_rule op) (ap (λ o. is_value_rule o) h.0) v
-
-pub location_range : (op : ℕ) → 1 ≤ op → op ≤ 4 → is_location op ≡ true
-location_range op low high = grind (arith, low, high)
 
 pub instruction_same : (e : Encoding) (bytes : List ℕ) (i j : Instruction) (r s : List ℕ) → InstructionAt e bytes i r → InstructionAt e bytes j s → (i ≡ j) × (r ≡ s)
 instruction_same e bytes i j r s p q =

@@ -1,9 +1,9 @@
 -- What some bytes start with is unique: numbers, blocks and pointers.
-use Rattle.std.proofs.Common.{◌≡◌, ℕ, ℤ, ◌+◌, ◌-◌, ◌/◌, ◌%◌, ◌^◌, ◌<◌, ◌≤◌, List, length, take, drop, subst, refl, sym, ap, ◌∙◌, ⊎_elim, arith}
+use Rattle.std.proofs.Common.{◌≡◌, ℕ, ℤ, ◌+◌, ◌-◌, ◌/◌, ◌%◌, ◌^◌, ◌<◌, ◌≤◌, List, take, drop, subst, refl, sym, ap, ◌∙◌, ⊎_elim, arith}
 use Rattle.std.proofs.lemmas.Bool.{cases_lt}
 use Rattle.std.specs.Prelude.{if◌then◌else◌, ◌==◌}
-use Rattle.perfdata_cfi.specs.Numbers.{IsLeb128, FixedAt, Uleb128At, Sleb128At, BlockAt, NoBlock, NoSleb128, uleb128_value, sleb128_value}
-use Rattle.perfdata_cfi.specs.Pointers.{format_code, FormatAt, EncodedAt, PointerAt, sign_extended, NoFormat, NoEncoded}
+use Rattle.perfdata_cfi.specs.Numbers.{IsLeb128, FixedAt, Uleb128At, Sleb128At, BlockAt, NoSleb128, uleb128_value, sleb128_value}
+use Rattle.perfdata_cfi.specs.Pointers.{format_code, FormatAt, EncodedAt, PointerAt, sign_extended, NoFormat}
 use Rattle.perfdata_cfi.specs.declared.pointers.Format.{Format}
 use Rattle.perfdata_cfi.specs.declared.pointers.Format.TheVariants as formats
 
@@ -41,14 +41,6 @@ block_same bytes b c r s p q =
       p.block_is ∙ ap (λ k. take k p.mid) sizes ∙ ap (λ m. take q.size m) mids ∙ sym q.block_is,
       p.after ∙ ap (λ k. drop k p.mid) sizes ∙ ap (λ m. drop q.size m) mids ∙ sym q.after,
     )
-
-pub no_block_bytes : (bytes : List ℕ) (n : ℕ) (mid : List ℕ) → Uleb128At bytes n mid → length mid < n → NoBlock bytes
-no_block_bytes bytes n mid p fewer block rest q =
-    let e = uleb128_same bytes n q.size mid q.mid p q.number in
-    let sizes = e.0 in
-    let lengths = ap length e.1 in
-    let within = q.within in
-    omega (arith, sizes, lengths, within, fewer)
 
 -- formats by their codes
 of_code : ℕ → Format
@@ -105,10 +97,6 @@ pointer_same encoding address bytes m n r s p q =
     let e = encoded_same encoding bytes p.stored q.stored r s p.number q.number in
     let stored = e.0 in
     (p.value ∙ ap (λ k. (if encoding / 16 == 0 then k else (k + address) % 2 ^ 64)) stored ∙ sym q.value, e.1)
-
-pub no_encoded : (encoding : ℕ) (bytes : List ℕ) (f : Format) → format_code f ≡ encoding % 16 → NoFormat f bytes → NoEncoded encoding bytes
-no_encoded encoding bytes f code none n rest at =
-    none n rest (subst (λ (g : Format). FormatAt g bytes n rest) (format_same at.format f _ at.code code) at.number)
 
 pub no_signed_leb128 : (f : Format) (bytes : List ℕ) → f ≡ formats.Sleb128 → NoSleb128 bytes → NoFormat f bytes
 no_signed_leb128 f bytes is none n rest at =

@@ -14,9 +14,6 @@ module _ (t : EntryTable) (index address : ℕ) where
   no_row : ((found : FoundRow) → RowIn t index address found → ⊥) → NoRowIn t index address
   no_row reason found h = ∥∥₁_elim h (λ a b. absurd a) (reason found)
 
-  pub no_fde : length t.fdes.items ≤ index → NoRowIn t index address
-  no_fde high = no_row (λ found r. let w = r.index_within in omega (arith, w, high))
-
   module _ (fde : Fde) (within : index < length t.fdes.items) (fde_is : fde ≡ get_or t.fdes.items index fde) where
     same_fde : (other : Fde) → other ≡ get_or t.fdes.items index other → other ≡ fde
     same_fde other is = is ∙ get_or_default t.fdes.items index other fde within ∙ sym fde_is

@@ -1,7 +1,7 @@
 -- Numbers of eight bytes each.
 use Rattle.perfdata_events.specs.Fields.{u64_at}
-use Rattle.std.proofs.Common.{◌≡◌, ℕ, zero, suc, ◌+◌, ◌*◌, ◌/◌, List, ◌∷◌, length, take, drop, refl, sym, ap, ◌∙◌, arith, length-drop, ◌<◌, ◌≤◌, []}
-use Rattle.std.proofs.Math.Nat.{mul_assoc, mul_comm, mul-add-div, mul-div-le, mul-le-mul_left, mul-suc}
+use Rattle.std.proofs.Common.{◌≡◌, ℕ, zero, suc, ◌+◌, ◌*◌, ◌/◌, List, ◌∷◌, length, take, drop, refl, sym, ap, ◌∙◌, arith, length-drop, ◌<◌, ◌≤◌}
+use Rattle.std.proofs.Math.Nat.{mul_assoc, mul_comm, mul-add-div}
 use Rattle.std.specs.Prelude.{◌-◌, slice_index, slice_range}
 use Rattle.std.proofs.lemmas.Nat.{div-mul-add}
 use Rattle.std.proofs.lemmas.List.{drop-take, drop-drop, length-take-le}
@@ -44,21 +44,12 @@ u64s_step order xs enough =
     in
     ap (λ n. u64s_of (number_in order) n xs) one
 
-pub u64s_none : (order : Endianness) (xs : List ℕ) → length xs < 8 → u64s_of (number_in order) (length xs / 8) xs ≡ []
-u64s_none order xs too_few =
-    let long : length xs ≡ 0 * 8 + length xs = omega arith in
-    ap (λ n. u64s_of (number_in order) n xs) (ap (λ l. l / 8) long ∙ div-mul-add 0 8 (length xs) too_few)
-
 -- A number and the bytes after it are the first number and the others.
 pub split_first : (order : Endianness) (xs rest : List ℕ) (value : ℕ) → IsFixed 8 (u64_at (number_in order) 0) xs value rest
     → u64s_of (number_in order) (length xs / 8) xs ≡ value ∷ u64s_of (number_in order) (length rest / 8) rest
 split_first order xs rest value is =
     let same : value ≡ number_in order 8 xs = is.value_is ∙ number_take order 8 8 xs (omega arith) in
     u64s_step order xs is.enough ∙ (λ i. sym same i ∷ ap (λ l. u64s_of (number_in order) (length l / 8) l) (sym is.rest_is) i)
-
--- Fewer bytes are left after a number.
-pub shorter_rest : (order : Endianness) (xs rest : List ℕ) (value : ℕ) → IsFixed 8 (u64_at (number_in order) 0) xs value rest → length rest < length xs
-shorter_rest order xs rest value is = omega (arith, is.enough, ap length is.rest_is, length-drop 8 xs)
 
 -- As many numbers as are counted.
 pub u64s_length : (number : ℕ → List ℕ → ℕ) (n : ℕ) (xs : List ℕ) → length (u64s_of number n xs) ≡ n
@@ -72,14 +63,6 @@ u64_at_index number (suc n) zero xs lt = refl
 u64_at_index number (suc n) (suc i) xs lt =
     u64_at_index number n i (drop 8 xs) (omega (arith, lt)) ∙ ap (number 8) (drop-drop (8 * i) 8 xs ∙ ap (λ k. drop k xs) (omega arith))
 
--- The element of w numbers at an index is completely among n numbers.
-pub element_within : (n w i : ℕ) → i < n / w → w * i + w ≤ n
-element_within n w i lt =
-    let all : w * (n / w) ≤ n = mul-div-le n w in
-    let part : w * suc i ≤ w * (n / w) = mul-le-mul_left w (omega (arith, lt)) in
-    let split : w * suc i ≡ w * i + w = mul-suc w i in
-    omega (arith, all, part, split)
-
 -- The eight bytes of the number at an index.
 pub eight_bytes : (i : ℕ) (xs part : List ℕ) → part ≡ slice_range xs (8 * i) (8 * i + 8) → part ≡ take 8 (drop (8 * i) xs)
 eight_bytes i xs part is = let size : (8 * i + 8) - 8 * i ≡ 8 = omega arith in is ∙ ap (λ n. take n (drop (8 * i) xs)) size
@@ -90,24 +73,3 @@ pub u64_of_slice : (order : Endianness) (i : ℕ) (xs part rest : List ℕ) (val
 u64_of_slice order i xs part rest value lt is read =
     read.value_is ∙ number_take order 8 8 part (omega arith) ∙ ap (number_in order 8) (eight_bytes i xs part is)
     ∙ number_take order 8 8 (drop (8 * i) xs) (omega arith) ∙ sym (u64_at_index (number_in order) (length xs / 8) i xs lt)
-
--- The eight bytes are complete.
-pub slice_complete : (i : ℕ) (xs part : List ℕ) → i < length xs / 8 → part ≡ slice_range xs (8 * i) (8 * i + 8) → length part ≡ 8
-slice_complete i xs part lt is =
-    let within : 8 * i + 8 ≤ length xs = element_within (length xs) 8 i lt in
-    ap length (eight_bytes i xs part is) ∙ length-take-le 8 (drop (8 * i) xs) (omega (arith, within, length-drop (8 * i) xs))
-
--- So many bytes as eight times a number are whole numbers.
-pub whole_bytes : (n l : ℕ) → l ≡ n * 8 → l ≡ 8 * (l / 8)
-whole_bytes n l is =
-    let more : l ≡ n * 8 + 0 = omega arith in
-    let count : l / 8 ≡ n = ap (λ k. k / 8) more ∙ div-mul-add n 8 0 (omega arith) in
-    omega (arith, is, count)
-
--- After the first number there are whole numbers.
-pub whole_rest : (order : Endianness) (xs rest : List ℕ) (value : ℕ) → length xs ≡ 8 * (length xs / 8) → IsFixed 8 (u64_at (number_in order) 0) xs value rest
-    → length rest ≡ 8 * (length rest / 8)
-whole_rest order xs rest value whole is =
-    let fewer : length rest ≡ length xs - 8 = ap length is.rest_is ∙ length-drop 8 xs in
-    let enough : 8 ≤ length xs = is.enough in
-    whole_bytes (length xs / 8 - 1) (length rest) (omega (arith, fewer, enough, whole))

@@ -2,7 +2,7 @@
 use Rattle.std.proofs.Common.{◌≡◌, ◌≢◌, ℕ, ◌≤◌, Bool, true, false, inl, inr, List, length, refl, sym, subst, arith}
 use Rattle.std.proofs.lemmas.Bool.{and_cases}
 use Rattle.std.proofs.lemmas.Bool.Decides.{nat_tests}
-use Rattle.std.specs.Prelude.{◌==◌, ◌&&◌, not, Result, Ok, Err, IfOk, IfErr}
+use Rattle.std.specs.Prelude.{◌==◌, not, Result, Ok, Err, IfOk, IfErr}
 use Rattle.std.specs.IoError.{error_kind}
 use Rattle.std.specs.Result.{MatchResult, IsOkAnd}
 use Rattle.std.specs.declared.io.Error.{Error}
@@ -17,24 +17,9 @@ use Rattle.perfdata_events.specs.declared.sample.SampleRecord.{SampleRecord}
 use Rattle.perfdata_events.specs.declared.event.EventRecord.{EventRecord}
 use Rattle.perfdata_events.specs.declared.event.EventRecord.TheVariants.{Mmap, Lost, Comm, Exit, Throttle, Unthrottle, Fork, Read, Mmap2, Aux, ItraceStart, LostSamples, ContextSwitch, Namespaces, Ksymbol, BpfEvent, Cgroup, TextPoke, AuxOutputHwId, Sample, Raw}
 
-both_true : (a b : Bool) → (a && b) ≡ true → (a ≡ true) × (b ≡ true)
-both_true true b h = (refl, h)
-both_true false b h = absurd cc
-
-not_true : (b : Bool) → not b ≡ true → b ≡ false
-not_true true h = sym h
-not_true false h = refl
-
 not_false : (b : Bool) → not b ≡ false → b ≡ true
 not_false true h = refl
 not_false false h = sym h
-
--- A record of counter values whose offsets aren't known is a READ record, and any other READ record has known ones.
-pub unknown_values : (format : EventFormat) (kind : ℕ) → has_unknown_values format kind ≡ true → (kind ≡ 8) × (has_known_values format ≡ false)
-unknown_values format kind h =
-    let is_read : (kind == 8) ≡ true = (both_true (kind == 8) (not (has_known_values format)) h).0 in
-    let same : kind ≡ 8 = grind (arith, nat_tests) in
-    (same, not_true (has_known_values format) (both_true (kind == 8) (not (has_known_values format)) h).1)
 
 pub known_values : (format : EventFormat) (kind : ℕ) → has_unknown_values format kind ≡ false → kind ≡ 8 → has_known_values format ≡ true
 known_values format kind h same = elim (and_cases (kind == 8) (not (has_known_values format)) h) [

@@ -11,10 +11,6 @@ pub data Outcome (V : Type 0) : Type 0 where
   encodes : V → List ℕ → Outcome V
   fails : ErrorKind → Outcome V
 
--- A format relates bytes to their outcome.
-abbrev pub Format : Type 0 → Type 1
-Format V = List ℕ → Outcome V → Type 0
-
 -- The bytes start with these n bytes, followed by `rest`.
 pub record IsBlock (n : ℕ) (xs block rest : List ℕ) : Type 0 where
   pub enough : n ≤ length xs

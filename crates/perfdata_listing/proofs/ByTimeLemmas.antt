@@ -1,43 +1,24 @@
 -- A listing in order of time, record by record.
-use Rattle.std.proofs.Common.{append-nil, ◌≡◌, ℕ, ◌+◌, ◌^◌, ◌<◌, ◌≤◌, ◌++◌, List, [], ◌∷◌, length, map, refl, sym, ap, ◌∙◌, subst, arith, inl, inr, Option, Ok, Err}
+use Rattle.std.proofs.Common.{append-nil, ◌≡◌, ℕ, ◌+◌, ◌^◌, ◌<◌, ◌++◌, List, [], ◌∷◌, length, map, refl, sym, ap, ◌∙◌, subst, arith, inl, inr, Option, Ok, Err}
 use Rattle.std.specs.Prelude.{Bool, true, false}
 use Rattle.std.specs.Io.KnownBytes.{Keeps}
 use Rattle.std.proofs.lemmas.List.{length-append, length-map, map-append}
 use Rattle.std.proofs.lemmas.List.Sorted.{length_permutation}
-use Rattle.linux_perf_data.specs.InMemoryReading.{ReturnsRecordsInMemory}
 use Rattle.linux_perf_data.specs.Layout.{RecordView}
 use Rattle.linux_perf_data.specs.declared.in_memory.InMemoryRecords.{InMemoryRecords}
 use Rattle.linux_perf_data.specs.declared.perf_file.PerfFile.{PerfFile}
 use Rattle.perfdata_listing.proofs.ListingLemmas.{lines_none, lines_kept, lines_more, wrote_prefix}
+use Rattle.linux_perf_data.proofs.InMemoryReadings.{count_fits}
+use Rattle.perfdata_order.proofs.Steps.{returned_append, steps_append}
 use Rattle.perfdata_listing.specs.Listing.{WritesLines}
 use Rattle.perfdata_listing.specs.declared.list.ListCause.{ListCause}
 use Rattle.perfdata_listing.specs.declared.list.ListCause.TheVariants.{Perf, Jit, Read, Write}
 use Rattle.perfdata_order.specs.InMemoryLaws.{read_in, held_entries, ReturnsEachRecordOnce, ReadsRecordsOfInput}
 use Rattle.perfdata_order.specs.InMemoryOrder.{Entry, Step, TakesSteps, returned_in, IsNewOrder, EntryReturned}
-use Rattle.perfdata_order.specs.InMemoryOrder.Step.{reads, passes, reads_end, reads_error, sorts, reports}
-use Rattle.perfdata_order.specs.SorterLaws.Call.{inserts, ends_round, ends_all, releases, returns, keeps}
 use Rattle.perfdata_order.specs.declared.in_memory.InMemoryOrderedRecords.{InMemoryOrderedRecords}
 use Rattle.perfdata_listing.specs.ByTime.{view_of, views_in, ListsNextByTime, ListedSteps, ListedByTime, ListingByTimeFails}
 
 -- ---- consecutive steps
-
-steps_append : (ss ts : List Step) (a b c : InMemoryOrderedRecords) (f g h : PerfFile) → TakesSteps ss a f b g → TakesSteps ts b g c h → TakesSteps (ss ++ ts) a f c h
-steps_append [] ts a b c f g h (same, same_file) more = subst (λ s. TakesSteps ts s f c h) same (subst (λ q. TakesSteps ts b q c h) same_file more)
-steps_append (s ∷ ss) ts a b c f g h (next, (next_file, step, rest)) more = (next, (next_file, step, steps_append ss ts next b c next_file g h rest more))
-
-returned_append : (ss ts : List Step) → returned_in (ss ++ ts) ≡ returned_in ss ++ returned_in ts
-returned_append [] ts = refl
-returned_append (reads key place r ∷ ss) ts = returned_append ss ts
-returned_append (passes place r ∷ ss) ts = ap (λ es. (place, r) ∷ es) (returned_append ss ts)
-returned_append (reads_end ∷ ss) ts = returned_append ss ts
-returned_append (reads_error e ∷ ss) ts = returned_append ss ts
-returned_append (sorts (inserts key entry) ∷ ss) ts = returned_append ss ts
-returned_append (sorts ends_round ∷ ss) ts = returned_append ss ts
-returned_append (sorts ends_all ∷ ss) ts = returned_append ss ts
-returned_append (sorts releases ∷ ss) ts = returned_append ss ts
-returned_append (sorts (returns key entry) ∷ ss) ts = ap (λ es. entry ∷ es) (returned_append ss ts)
-returned_append (sorts keeps ∷ ss) ts = returned_append ss ts
-returned_append (reports e ∷ ss) ts = returned_append ss ts
 
 -- the steps of a call that returned a record
 abbrev StepsTo : List Entry → InMemoryOrderedRecords → PerfFile → InMemoryOrderedRecords → PerfFile → Type 0
@@ -54,28 +35,6 @@ steps_of_entry old new file file' entry returned =
     )
 
 -- ---- the count of the lines
-
-offset_after : (old now : InMemoryRecords) (file file' : PerfFile) (records : List RecordView) → ReturnsRecordsInMemory old file records now file' → old.records.offset + length records ≤ now.records.offset
-offset_after old now file file' [] (same, same_file) = (let e = ap (λ i. i.records.offset) same in omega (arith, e))
-offset_after old now file file' (h ∷ hs) (next, (next_file, (place, (r, step, is)), more)) =
-    let rest = offset_after next now next_file file' hs more in
-    let moved = step.returns.offset in
-    let start = step.returns.record_offset in
-    omega (arith, rest, moved, start)
-
-count_fits : (old now : InMemoryRecords) (file file' : PerfFile) (records : List RecordView) → ReturnsRecordsInMemory old file records now file' → length records < 2 ^ 64
-count_fits old now file file' [] returned = omega arith
-count_fits old now file file' (h ∷ []) returned = omega arith
-count_fits old now file file' (h ∷ k ∷ ks) (next, (next_file, (place, (r, step, is)), more)) =
-    let fits = last_fits next now next_file file' k ks more in
-    let rest = offset_after next now next_file file' (k ∷ ks) more in
-    let moved = step.returns.offset in
-    let start = step.returns.record_offset in
-    omega (arith, fits, rest, moved, start)
-  where
-    last_fits : (old now : InMemoryRecords) (file file' : PerfFile) (h : RecordView) (hs : List RecordView) → ReturnsRecordsInMemory old file (h ∷ hs) now file' → now.records.offset < 2 ^ 64
-    last_fits old now file file' h [] (next, (next_file, (place, (r, step, is)), (same, same_file))) = (let at = ap (λ i. i.records.offset) same in let fits = step.returns.offset_fits in omega (arith, at, fits))
-    last_fits old now file file' h (k ∷ ks) (next, (next_file, one, more)) = last_fits next now next_file file' k ks more
 
 -- fewer than 2^64 records are returned, since each is read at an offset of its own
 pub returned_fits : ReturnsEachRecordOnce → ReadsRecordsOfInput → (records : InMemoryRecords) (first last : InMemoryOrderedRecords) (file file' : PerfFile) (steps : List Step)

@@ -8,17 +8,16 @@ use Rattle.std.proofs.Math.Seq.{drop-append_seam}
 use Rattle.std.specs.Io.KnownBytes.{Appends, Keeps}
 use Rattle.std.proofs.KnownBytes.{Appends-trans, Appends-nil, Appends-kept}
 use Rattle.perfdata_base.specs.Source.{State, prepend, SourcePaused}
-use Rattle.perfdata_base.proofs.ConsumedLemmas.{consumed_none, consumed_more, consumed_none_later, failed_later, paused_later, prepend_more}
+use Rattle.perfdata_base.proofs.ConsumedLemmas.{consumed_none, consumed_more, consumed_none_later, failed_later, paused_later, prepend_more, prepend_none}
 use Rattle.perfdata_base.proofs.ReadErrors.{none_or_paused}
 use Rattle.perfdata_base.specs.declared.endian.Endianness.{Endianness}
 use Rattle.perfdata_jit.specs.JitHeader.{IsJitHeader}
 use Rattle.perfdata_jit.specs.RecordBytes.{record_header_at, record_size_at, AreRecords, HasInvalidSize, IsOneRecord, IsRecordOf, HasNoWholeRecord}
-use Rattle.perfdata_jit.specs.BufferedReader.{IsOverflowAllocError, FailsAfterSeekError}
-use Rattle.perfdata_jit.specs.JitDumpReader.{jit_unread_bytes, jit_header, jit_buffered, jit_seek_failed, jit_offset, jit_endian, jit_ring_capacity, jit_source_state, ReturnsJitRecord, HeaderNotReady, ReaderOpened, NextJitRecordError, HeaderReadError, KeepsPosition, HeaderReturned, RecordNotReady}
+use Rattle.perfdata_jit.specs.BufferedReader.{IsOverflowAllocError}
+use Rattle.perfdata_jit.specs.JitDumpReader.{jit_unread_bytes, jit_header, jit_buffered, jit_seek_failed, jit_offset, jit_endian, jit_ring_capacity, jit_source_state, ReturnsJitRecord, ReaderOpened, NextJitRecordError, KeepsPosition, RecordNotReady}
 use Rattle.perfdata_jit.specs.declared.header.JitDumpHeader.{JitDumpHeader}
 use Rattle.perfdata_jit.specs.declared.jitdump_reader.JitDumpReader.{JitDumpReader}
 use Rattle.perfdata_jit.specs.declared.record.JitDumpRawRecord.{JitDumpRawRecord}
-use Rattle.perfdata_jit.specs.declared.record.JitDumpRecordHeader.{JitDumpRecordHeader}
 use Rattle.perfdata_jit.proofs.ConsecutiveRecords.{concat-snoc, records-snoc}
 use Rattle.perfdata_jit.proofs.JitHeaders.{header_longer}
 use Rattle.std.specs.declared.io.Error.{Error}
@@ -31,7 +30,7 @@ use Rattle.perfdata_listing.proofs.NewlineCounts.{newline_count-append, newline_
 use Rattle.perfdata_listing.specs.declared.list.ListFault.{ListFault}
 use Rattle.perfdata_listing.specs.declared.list.ListCause.{ListCause}
 use Rattle.perfdata_listing.specs.declared.list.ListCause.TheVariants.{Perf, Jit, Read, Write}
-use Rattle.perfdata_listing.specs.JitListing.{CalledFlushed, CallsFlushed, raw_record_text, jit_line, jit_lines, EndsWithoutWholeRecord, WroteJitPrefix, BeginsWithJitRecords, ReturnedJitRecords, ListedJitRecordsUntilFlushError, ListedJitRecords, ReadsNothing, ListedJitRecordsUntilError, ListedJitRecordsPartOfNext, JitReadError, ListsJitRecords, ListsLiveJitRecords, ListsNextJit, JitRecordListingFails, ListsJit, ListsLiveJit, JitListingFails}
+use Rattle.perfdata_listing.specs.JitListing.{CalledFlushed, CallsFlushed, raw_record_text, jit_line, jit_lines, EndsWithoutWholeRecord, WroteJitPrefix, BeginsWithJitRecords, ReturnedJitRecords, ListedJitRecordsUntilFlushError, ListedJitRecords, ListedJitRecordsUntilError, ListedJitRecordsPartOfNext, JitReadError, ListsJitRecords, ListsLiveJitRecords, ListsNextJit, JitRecordListingFails, ListsJit, ListsLiveJit, JitListingFails}
 
 module _ (endian : Endianness) where
   -- one more line
@@ -60,10 +59,6 @@ newline_count-jit_lines endian offset (raw ∷ raw_records) =
     let one = newline_count-jit_record_text offset (record_header_at endian raw).timestamp (record_header_at endian raw).record_type.0 (record_header_at endian raw).total_size in
     newline_count-append (jit_line endian offset raw) (jit_lines endian (offset + length raw) raw_records) ∙ omega (arith, one, newline_count-jit_lines endian (offset + length raw) raw_records)
 
-prepend-nil : (b : Option (List ℕ)) → b ≡ prepend [] b
-prepend-nil None = refl
-prepend-nil (Some rest) = refl
-
 -- the bytes after a prefix
 drop-prepend : (n : ℕ) (prefix : List ℕ) (rest : Option (List ℕ)) → n ≡ length prefix → option_map (λ all. drop n all) (prepend prefix rest) ≡ rest
 drop-prepend n prefix None long = refl
@@ -81,7 +76,7 @@ module _ {R : Type 0} (state : R → State) where
   pub returned-none : (j : JitDumpReader R) → jit_seek_failed j ≡ false → ReturnedJitRecords state j [] j
   returned-none j seek_ok = record {
     elements = tt;
-    unread_bytes = prepend-nil (jit_unread_bytes state j);
+    unread_bytes = prepend_none (jit_unread_bytes state j);
     offset = omega arith;
     same_endian = refl;
     same_capacity = refl;
@@ -163,37 +158,6 @@ module _ {R : Type 0} (state : R → State) where
     is_partial = subst (λ l. prefix.count < length l) is prefix.is_partial;
     appends = subst (λ l. Appends a c (jit_lines endian offset raw_records ++ take prefix.count l)) is (Appends-trans a b c _ _ before prefix.appends);
   }
-
-  pub reads_nothing : (j : JitDumpReader R) → jit_seek_failed j ≡ false → ReadsNothing state j j
-  reads_nothing j seek_ok = record {
-    keeps_position = record {
-      unread_bytes = refl;
-      offset = refl;
-      consumed_bytes = [];
-      consumes = consumed_none (jit_source_state state j);
-      buffer_content = sym (append-nil (jit_buffered j));
-      same_setup = record { header = refl; same_endian = refl; ring_capacity = refl };
-      seek_ok_before = seek_ok;
-      seek_ok_after = seek_ok;
-    };
-    source = refl;
-    buffered = refl;
-  }
-
-  -- a buffered header is returned without a read
-  pub buffered_header_returned : (old new : JitDumpReader R) (header : JitDumpRecordHeader) → 16 ≤ length (jit_buffered old) → HeaderReturned state (λ header. header) old header new → ReadsNothing state old new
-  buffered_header_returned old new header enough returned = record { keeps_position = returned.keeps_position; source = returned.reads_only_needed.source_unchanged enough; buffered = returned.reads_only_needed.buffer_unchanged enough }
-
-  too_few : (old new : JitDumpReader R) → 16 ≤ length (jit_buffered old) → (keeps_position : KeepsPosition state old new) → length (jit_buffered new) < 16 → ⊥
-  too_few old new enough keeps_position less = (let more = ap length keeps_position.buffer_content in absurd (omega (arith, enough, less, more, length-append (jit_buffered old) keeps_position.consumed_bytes)))
-
-  -- a buffered header is always available
-  pub header_is_ready : (old new : JitDumpReader R) → 16 ≤ length (jit_buffered old) → HeaderNotReady state old new → ⊥
-  header_is_ready old new enough not_ready = too_few old new enough not_ready.keeps_position not_ready.too_few
-
-  pub no_header_error : (old new : JitDumpReader R) (e : Error) → jit_seek_failed old ≡ false → 16 ≤ length (jit_buffered old) → HeaderReadError state old e new ⊎ FailsAfterSeekError (jit_seek_failed old) old e new → ⊥
-  no_header_error old new e seek_ok enough (inl failed) = too_few old new enough failed.keeps_position failed.too_few
-  no_header_error old new e seek_ok enough (inr failed_seek) = absurd (false≢true (sym seek_ok ∙ failed_seek.seek_failed))
 
   -- the listing so far
   abbrev pub SoFar : JitDumpReader R → Option (List ℕ) → ℕ → Option (List ℕ) → JitDumpReader R → Type 0

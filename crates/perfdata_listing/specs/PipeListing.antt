@@ -81,11 +81,6 @@ module _ (IsLine : RecordView → List ℕ → Type 0) (allocates : Bool) where
   PipeListingFails old before after lines (Write e) = ListedPipePartOfNext old before after lines
   PipeListingFails old before after lines _ = ⊥
 
-  -- what reading a whole pipe does
-  abbrev pub ListsPipeWithFile : State → Option (List ℕ) → Result (ℕ × PerfFile) ListFault → Option (List ℕ) → Type 0
-  ListsPipeWithFile old before (Ok r) after = ListedPipe old before after r.0 r.1
-  ListsPipeWithFile old before (Err error) after = PipeListingFails old before after error.lines error.cause
-
   -- what a listing of a pipe does
   abbrev pub ListsPipe : State → Option (List ℕ) → Result ℕ ListFault → Option (List ℕ) → Type 0
   ListsPipe old before (Ok lines) after = (file : PerfFile) × ListedPipe old before after lines file

@@ -1,5 +1,5 @@
 -- The text of bytes with escapes, and of bytes without.
-use Rattle.std.proofs.Common.{◌≡◌, ℕ, ◌<◌, ◌&&◌, Bool, false, cond, List, [], ◌∷◌, ◌++◌, length, get_or, Some, None, Option, refl, sym, ap, ◌∙◌, inl, inr, arith, eqb, encode_utf8}
+use Rattle.std.proofs.Common.{◌≡◌, ℕ, ◌<◌, ◌&&◌, Bool, false, cond, List, [], ◌∷◌, ◌++◌, length, Some, None, Option, refl, sym, ap, ◌∙◌, inl, inr, arith, eqb, encode_utf8}
 use Rattle.std.specs.List.{All, slice_split, join_with_byte}
 use Rattle.std.specs.Option.{option_map_or}
 use Rattle.std.proofs.lemmas.List.Elements.{All-head, All-tail}
@@ -54,15 +54,3 @@ colons_plain [] none = refl
 colons_plain (b ∷ bytes) none =
     colons-cons b bytes (All-head (λ b. eqb b 46 ≡ false) b bytes none)
     ∙ ap (λ (xs : List ℕ). b ∷ xs) (colons_plain bytes (All-tail (λ b. eqb b 46 ≡ false) b bytes none))
-
--- bytes without `.`, and two of them
-pub colons_two : (plain rest : List ℕ) → All (λ b. eqb b 46 ≡ false) plain → with_colons (plain ++ 46 ∷ (46 ∷ rest)) ≡ plain ++ (58 ∷ (58 ∷ with_colons rest))
-colons_two plain rest none = colons-append plain (46 ∷ (46 ∷ rest)) none
-
-one_dot : (rest : List ℕ) → eqb (get_or rest 0 0) 46 ≡ false → with_colons (46 ∷ rest) ≡ 46 ∷ with_colons rest
-one_dot [] not = refl
-one_dot (c ∷ rest) not = ap (λ (t : Bool). cond t (58 ∷ (58 ∷ with_colons rest)) (46 ∷ with_colons (c ∷ rest))) not
-
--- bytes without `.`, and one of them
-pub colons_one : (plain rest : List ℕ) → All (λ b. eqb b 46 ≡ false) plain → eqb (get_or rest 0 0) 46 ≡ false → with_colons (plain ++ 46 ∷ rest) ≡ plain ++ 46 ∷ with_colons rest
-colons_one plain rest none not = colons-append plain (46 ∷ rest) none ∙ ap (λ (xs : List ℕ). plain ++ xs) (one_dot rest not)

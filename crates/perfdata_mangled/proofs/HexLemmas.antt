@@ -1,5 +1,5 @@
 -- Hexadecimal digits, the number that they write, and its character.
-use Rattle.std.proofs.Common.{◌≡◌, ◌⊎◌, ℕ, ◌+◌, ◌-◌, ◌*◌, ◌^◌, ◌<◌, ◌≤◌, ◌&&◌, Bool, true, false, cond, List, Option, Some, None, length, get_or, take, refl, sym, ap, ◌∙◌, subst, inl, inr, arith, lt-ltb, le-ltb}
+use Rattle.std.proofs.Common.{◌≡◌, ◌⊎◌, ℕ, ◌+◌, ◌-◌, ◌*◌, ◌^◌, ◌<◌, ◌≤◌, ◌&&◌, Bool, true, false, cond, List, Option, Some, None, length, get_or, take, refl, sym, ap, ◌∙◌, subst, inl, inr, arith}
 use Rattle.std.specs.Char.{digit_value}
 use Rattle.std.specs.List.{All, list_all}
 use Rattle.std.specs.Option.{SomeIff}
@@ -11,14 +11,6 @@ use Rattle.std.proofs.lemmas.Int.Digits.{digits_value_more}
 use Rattle.std.proofs.lemmas.List.Elements.{All-get_or, All-more}
 use Rattle.std.proofs.lemmas.Str.Parse.{digits_value-take-le}
 use Rattle.perfdata_mangled.specs.Legacy.{IsHexDigit, IsVisible, hex_character, is_hex_digit, is_visible}
-
-pub hex_value-digit : (b : ℕ) → 48 ≤ b → b ≤ 57 → digit_value b ≡ b - 48
-hex_value-digit b low high = rw (le-ltb b 48 low, lt-ltb b 58 (omega (arith, high)))
-
-pub hex_value-letter : (b : ℕ) → 97 ≤ b → b ≤ 102 → digit_value b ≡ b - 97 + 10
-hex_value-letter b low high =
-    let value : digit_value b ≡ b - 87 = rw (le-ltb b 48 (omega (arith, low)), le-ltb b 58 (omega (arith, low)), le-ltb b 65 (omega (arith, low)), le-ltb b 91 (omega (arith, low)), le-ltb b 97 low, lt-ltb b 123 (omega (arith, high))) in
-    omega (arith, value, low)
 
 pub hex_step : (ds : List ℕ) (i number next : ℕ) → i < length ds → All IsHexDigit (take i ds) → number ≡ digits_value 16 (take i ds) → IsHexDigit (get_or ds i 0) → next ≡ number * 16 + digit_value (get_or ds i 0) → All IsHexDigit (take (i + 1) ds) × (next ≡ digits_value 16 (take (i + 1) ds))
 hex_step ds i number next lt all value is next_is =

@@ -4,7 +4,6 @@ use Rattle.std.specs.Fmt.{decimal}
 use Rattle.std.specs.Int.{is_in_range}
 use Rattle.std.specs.List.{All, AllPass, flat_map, slice_index_or}
 use Rattle.std.proofs.lemmas.List.{drop_more, flat_map_more, same_from_push, drop_all}
-use Rattle.std.proofs.lemmas.List.Concat.{flat_map-append}
 use Rattle.std.proofs.lemmas.List.Elements.{All-push, All-take}
 use Rattle.std.proofs.lemmas.Option.{get_or_from_slice_get, slice_get_within}
 use Rattle.perfdata_mangled.specs.Cursor.{bytes_of, byte_at, unread, position_of}
@@ -236,7 +235,3 @@ part_written_at bytes c d old mid new same kept h appends =
 pub why_parts_at : (bytes : List ℕ) (c : Cursor) (old mid : Text) (why : Failure) (parts : List (List ℕ)) → bytes_of c ≡ bytes → HasWritten bytes (position_of c) old mid → AreParts bytes parts → length bytes < 2 ^ 64 → position_of c < length bytes → limit_of mid ≡ limit_of old → ((part after : List ℕ) → IsPart part → unread c ≡ written part ++ after → IsWhy mid (length (separator (position_of c) ++ text_of_part part)) why) → IsWhy old (length (text_of_parts parts)) why
 why_parts_at bytes c old mid why parts same h all small more limits reason =
     why_parts bytes (position_of c) old mid why parts h all small more limits (λ part after is e. reason part after is (ap (drop (position_of c)) same ∙ e))
-
-pub start_within : (name : List ℕ) (position start : ℕ) (last : List ℕ) → HasRead name position start last → start ≤ length name
-start_within name position start last h =
-    omega (arith, h.start_is, ap length h.whole, length-append (flat_map written (h.parts ++ h.tail)) (drop position name), ap length (flat_map-append written h.parts h.tail), length-append (flat_map written h.parts) (flat_map written h.tail))

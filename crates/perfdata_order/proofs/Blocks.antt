@@ -81,11 +81,6 @@ held_if_none : (held : ℕ) → (held ≡ 0) ⊎ (held ≢ 0) → bit (held == 0
 held_if_none held (inl none) vacant = let one = one_if_none held none in absurd (omega (arith, one, vacant))
 held_if_none held (inr some) vacant = omega (arith, some)
 
-held_past : (bs : List Block) (at : ℕ) → length bs ≤ at → held_by bs at ≡ 0
-held_past [] at past = refl
-held_past (b ∷ bs) zero past = absurd (omega (arith, past))
-held_past (b ∷ bs) (suc at) past = held_past bs at (omega (arith, past))
-
 vacant_or_not : (held : ℕ) → (held ≡ 0) ⊎ (held ≢ 0) → bit (held == 0) ≡ 1 → held ≡ 0
 vacant_or_not held (inl none) one = none
 vacant_or_not held (inr some) one = let none = none_if_held held (omega (arith, some)) in absurd (omega (arith, none, one))
@@ -139,23 +134,7 @@ push_other f [] x d (suc at) apart = refl
 push_other f (z ∷ xs) x d zero apart = refl
 push_other f (z ∷ xs) x d (suc at) apart = push_other f xs x d at (λ same. apart (ap suc same))
 
-push_last : {X Y : Type 0} (f : X → Y) (xs : List X) (x : X) (d : Y) → get_or (map f (xs ++ x ∷ [])) (length xs) d ≡ f x
-push_last f [] x d = refl
-push_last f (z ∷ xs) x d = push_last f xs x d
-
 module _ (bs : List Block) (b : Block) (none : b.held ≡ 0) where
-  added_at : (at : ℕ) → (at ≡ length bs) ⊎ (at ≢ length bs) → (held_by (bs ++ b ∷ []) at ≡ held_by bs at) × (0 < held_by bs at → bytes_by (bs ++ b ∷ []) at ≡ bytes_by bs at)
-  added_at at (inl same) =
-      let past : held_by bs at ≡ 0 = held_past bs at (omega (arith, same)) in
-      (ap (λ n. held_by (bs ++ b ∷ []) n) same ∙ push_last (λ x. held_in x) bs b 0 ∙ none ∙ sym past, λ some. absurd (omega (arith, some, past)))
-  added_at at (inr other) = (push_other (λ x. held_in x) bs b 0 at other, λ some. push_other (λ x. bytes_in x) bs b [] at other)
-
-  pub block_added : KeepsHeld bs (bs ++ b ∷ [])
-  block_added at = added_at at (same_or_other at (length bs))
-
-  pub held_last : held_by (bs ++ b ∷ []) (length bs) ≡ 0
-  held_last = push_last (λ x. held_in x) bs b 0 ∙ none
-
   still_spare_at : (current : ℕ) (spare : List ℕ) → AreSpare bs current spare → ((block : ℕ) → block < length bs → 0 < held_by bs block) → (at : ℕ) → (at ≡ length bs) ⊎ (at ≢ length bs)
       → times_in spare at ≡ (if at == length bs then 0 else vacancy_in (bs ++ b ∷ []) at)
   still_spare_at current spare all held at (inl same) =
@@ -386,12 +365,6 @@ current_reused old new false b b' below is now at (same, some) =
       },
       ap (λ n. vacancy_in bs' n) at ∙ vacancy_same bs bs' old.current b b' below is now ∙ none_if_held b'.held (subst (λ x. 0 < x.held) (sym same) some),
     )
-
-pub none_reused : (old new : Bodies) → length old.blocks.items ≤ old.current → new.blocks.items ≡ old.blocks.items → new.current ≡ old.current → ReusesCurrent old false new
-none_reused old new past now at = (
-  record { blocks = now; current = at },
-  ap (λ n. vacancy_in new.blocks.items n) at ∙ ap (λ bs. vacancy_in bs old.current) now ∙ vacancy_past old.blocks.items old.current past,
-)
 
 module _ (old new : Bodies) (i : ℕ) (rest : List ℕ) (r : Bool) (b b' : Block) (popped : old.spare.items ≡ rest ++ i ∷ []) (is : b ≡ get_or old.blocks.items i b) (now : new.blocks.items ≡ set old.blocks.items i b')
     (at : new.current ≡ i) (cleared : IsCleared b r b') where

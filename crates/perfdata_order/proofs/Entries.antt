@@ -212,19 +212,6 @@ module _ {K V : Type 0} where
   placed_inserted values values' key slot value es placed vacant is others at =
       placed_at values values' key slot value es at (same_or_other slot at) placed vacant is others
 
-  left_at : (values values' : ℕ → Option V) (e : K × ℕ) (es : List (K × ℕ)) (at : ℕ) → (e.1 ≡ at) ⊎ (e.1 ≢ at) → IsPlaced values (e ∷ es)
-      → ((other : ℕ) → other ≢ e.1 → values' other ≡ values other) → uses_of at es ≤ values_in (values' at)
-  left_at values values' e es at (inl same) placed others =
-      let none = subst (λ n. uses_of n es ≡ 0) same (first_apart values e es placed) in omega (arith, none)
-  left_at values values' e es at (inr other) placed others =
-      let kept = ap values_in (others at (λ same. other (sym same))) in
-      let before = placed_rest values e es placed at in
-      omega (arith, kept, before)
-
-  pub placed_removed : (values values' : ℕ → Option V) (e : K × ℕ) (es : List (K × ℕ)) → IsPlaced values (e ∷ es)
-      → ((other : ℕ) → other ≢ e.1 → values' other ≡ values other) → IsPlaced values' es
-  placed_removed values values' e es placed others at = left_at values values' e es at (same_or_other e.1 at) placed others
-
   -- ---- each value has a key
 
   have_at : (values values' : ℕ → Option V) (key : K) (slot : ℕ) (es : List (K × ℕ)) (at : ℕ) → (slot ≡ at) ⊎ (slot ≢ at) → HaveKeys values es
@@ -236,19 +223,6 @@ module _ {K V : Type 0} where
 
   pub have_inserted : (values values' : ℕ → Option V) (key : K) (slot : ℕ) (es : List (K × ℕ)) → HaveKeys values es → ((other : ℕ) → other ≢ slot → values' other ≡ values other) → HaveKeys values' (es ++ (key, slot) ∷ [])
   have_inserted values values' key slot es keys others at = have_at values values' key slot es at (same_or_other slot at) keys others
-
-  have_rest : (values values' : ℕ → Option V) (e : K × ℕ) (es : List (K × ℕ)) (at : ℕ) → (e.1 ≡ at) ⊎ (e.1 ≢ at) → HaveKeys values (e ∷ es) → values' e.1 ≡ None
-      → ((other : ℕ) → other ≢ e.1 → values' other ≡ values other) → values_in (values' at) ≤ uses_of at es
-  have_rest values values' e es at (inl same) keys vacant others = let none = ap values_in (subst (λ n. values' n ≡ None) same vacant) in omega (arith, none)
-  have_rest values values' e es at (inr other) keys vacant others =
-      let kept = ap values_in (others at (λ same. other (sym same))) in
-      let before = keys at in
-      let more = uses_more at e es in
-      let none = use_other e.1 at other in
-      omega (arith, kept, before, more, none)
-
-  pub have_removed : (values values' : ℕ → Option V) (e : K × ℕ) (es : List (K × ℕ)) → HaveKeys values (e ∷ es) → values' e.1 ≡ None → ((other : ℕ) → other ≢ e.1 → values' other ≡ values other) → HaveKeys values' es
-  have_removed values values' e es keys vacant others at = have_rest values values' e es at (same_or_other e.1 at) keys vacant others
 
   -- ---- the calls of a sorter
 

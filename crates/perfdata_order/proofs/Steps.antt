@@ -23,6 +23,20 @@ pub steps_append : (ss ts : List Step) (a b c : InMemoryOrderedRecords) (f g h :
 steps_append [] ts a b c f g h (same, same_file) more = subst (λ s. TakesSteps ts s f c h) same (subst (λ q. TakesSteps ts b q c h) same_file more)
 steps_append (s ∷ ss) ts a b c f g h (next, (next_file, step, rest)) more = (next, (next_file, step, steps_append ss ts next b c next_file g h rest more))
 
+pub returned_append : (ss ts : List Step) → returned_in (ss ++ ts) ≡ returned_in ss ++ returned_in ts
+returned_append [] ts = refl
+returned_append (reads key place r ∷ ss) ts = returned_append ss ts
+returned_append (passes place r ∷ ss) ts = ap (λ es. (place, r) ∷ es) (returned_append ss ts)
+returned_append (reads_end ∷ ss) ts = returned_append ss ts
+returned_append (reads_error e ∷ ss) ts = returned_append ss ts
+returned_append (sorts (inserts key entry) ∷ ss) ts = returned_append ss ts
+returned_append (sorts ends_round ∷ ss) ts = returned_append ss ts
+returned_append (sorts ends_all ∷ ss) ts = returned_append ss ts
+returned_append (sorts releases ∷ ss) ts = returned_append ss ts
+returned_append (sorts (returns key entry) ∷ ss) ts = ap (λ es. entry ∷ es) (returned_append ss ts)
+returned_append (sorts keeps ∷ ss) ts = returned_append ss ts
+returned_append (reports e ∷ ss) ts = returned_append ss ts
+
 pub none_append : (ss ts : List Step) → returned_in ss ≡ [] → returned_in ts ≡ [] → returned_in (ss ++ ts) ≡ []
 none_append [] ts none more = more
 none_append (reads key place r ∷ ss) ts none more = none_append ss ts none more

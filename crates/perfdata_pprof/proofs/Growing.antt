@@ -1,5 +1,5 @@
 -- Tables to which rows are appended.
-use Rattle.std.proofs.Common.{◌≡◌, ◌∙◌, inl, inr, ap, sym, ℕ, List, [], ◌∷◌, ◌++◌, append_assoc, slice_get, Option, None, Some, ℤ, Result, Ok, Err, IfOk, OnErr}
+use Rattle.std.proofs.Common.{◌≡◌, ◌∙◌, inl, inr, ap, sym, ℕ, List, [], ◌∷◌, ◌++◌, append_assoc, slice_get, Option, None, Some, ℤ, Result, Ok, Err, IfOk}
 use Rattle.std.proofs.lemmas.List.{append-nil}
 use Rattle.perfdata_pprof.specs.Labels.{IsKeyOf}
 use Rattle.perfdata_pprof.specs.Rows.{Grows, Interns}
@@ -16,11 +16,6 @@ interns_grows old new row index interns = elim interns.adds [
   | inl same ↦ grows_equal old new same
   | inr more ↦ (row ∷ [], more)
 ]
-
--- An insertion that fails appends nothing.
-pub result_grows : {A E : Type 0} → (result : Result ℕ E) (old new : List A) (row : A) → IfOk result (λ index. Interns old row index new) → OnErr result (new ≡ old) → Grows old new
-result_grows (Ok index) old new row adds same = interns_grows old new row index adds
-result_grows (Err error) old new row adds same = grows_equal old new same
 
 pub at_kept : {A : Type 0} → (old new : List A) → Grows old new → (index : ℕ) (x : A) → slice_get old index ≡ Some x → slice_get new index ≡ Some x
 at_kept old new grows index x at = ap (λ l. slice_get l index) grows.1 ∙ at_more old grows.0 index x at

@@ -34,7 +34,7 @@ use Rattle.perfdata_profile.specs.declared.sums.Thread.{Thread}
 use Rattle.perfdata_profile.specs.declared.tables.Tables.{Tables}
 use Rattle.perfdata_profile.proofs.Counting.{counted_keys, counted_map, counted_number, counted_weaker, related_push}
 use Rattle.perfdata_profile.proofs.Elements.{old_or_last}
-use Rattle.perfdata_profile.proofs.Growing.{key_kept, key_within, lists_trans, locations_kept, locations_within, none_at}
+use Rattle.perfdata_profile.proofs.Growing.{key_kept, key_within, lists_trans, locations_kept, locations_within}
 use Rattle.perfdata_profile.proofs.Looking.{cached_mapped}
 use Rattle.perfdata_profile.proofs.Valuing.{tallies_values, value_is}
 use Rattle.perfdata_spaces.specs.AddressSpaces.{Follows, mapping_values, name_effects}
@@ -56,9 +56,6 @@ more_locations lists stack more id pushed are is = λ index other at. elim (old_
   | inl was ↦ are index other was
   | inr last ↦ subst (IsLocation lists) (sym last.1) is
 ]
-
-pub no_locations : (lists : Lists) (stack : List LocationId) → stack ≡ [] → AreLocations lists stack
-no_locations lists stack is = λ index id at. absurd (none_at stack is index id at)
 
 pub locator_trans : (first second third : Locator) → LocatorGrows first second → LocatorGrows second third → LocatorGrows first third
 locator_trans first second third grows more = record {
@@ -95,9 +92,6 @@ module _ (meaning : Meaning) where
           subst (λ (x : Detail). CacheHolds meaning x (mapping_values spaces) new) grows.detail (cache holds),
           subst (λ (fs : List SampleFrame). HasStack meaning (located_lists new) first.detail before pid time fs more) (sym (take_more frames index d inside)) next,
         )
-
-  pub no_stack : (lists : Lists) (detail : Detail) (before : List Applied) (pid : ℤ) (time : Option ℕ) (stack : List LocationId) → stack ≡ [] → HasStack meaning lists detail before pid time [] stack
-  no_stack lists detail before pid time stack is = subst (HasStack meaning lists detail before pid time []) (sym is) (record { within = λ index id at. cc; are = tt })
 
   -- The id of a name of a thread.
   pub has_thread : (lists : Lists) (ids : ThreadIds) (before : List Applied) (task : Task) (thread : Thread) (comm : Option (List ℕ)) → IsName task.tid (name_effects before) comm → IsIdOf (meaning.names_thread (record { task = task; comm = comm })) lists.names thread.name → thread.pid ≡ pid_of ids task → thread.tid ≡ tid_of ids task → HasThread meaning lists ids before task thread

@@ -55,9 +55,6 @@ within_kept old new grows n within =
     let size = ap length grows.1 ∙ length-append old grows.0 in
     omega (arith, within, size)
 
-pub lists_same : (lists : Lists) → ListsGrow lists lists
-lists_same lists = record { names = grows_same lists.names; ranges = grows_same lists.ranges; locations = grows_same lists.locations; stacks = grows_same lists.stacks }
-
 pub lists_trans : (first second third : Lists) → ListsGrow first second → ListsGrow second third → ListsGrow first third
 lists_trans first second third grows more = record {
   names = grows_trans first.names second.names third.names grows.names more.names;

@@ -3,8 +3,8 @@ mod Building
 mod Caching
 mod Counting
 mod Deciding
-mod Elements
-mod Growing
+pub mod Elements
+pub mod Growing
 mod Looking
 mod Resolving
 mod Searching

@@ -1,5 +1,5 @@
 -- Locations as they are looked up.
-use Rattle.std.proofs.Common.{◌≡◌, ◌∙◌, ◌≤◌, ◌<◌, ◌⊎◌, ◌&&◌, inl, inr, ap, refl, sym, subst, arith, nat_le, nat_lt, ℕ, Bool, true, false, List, [], length, slice_get, Option, None, Some}
+use Rattle.std.proofs.Common.{◌≡◌, ◌∙◌, ◌≤◌, ◌<◌, ◌&&◌, inl, inr, ap, refl, sym, subst, arith, nat_le, nat_lt, ℕ, Bool, true, List, [], length, slice_get, Option, Some}
 use Rattle.std.proofs.lemmas.Bool.Decides.{nat_tests}
 use Rattle.std.proofs.lemmas.Option.{get_or_from_slice_get, slice_get_within}
 use Rattle.std.specs.Option.{option_map}
@@ -32,10 +32,6 @@ use Rattle.perfdata_stacks.specs.Frames.{lookup_address}
 in_range : (start end address : ℕ) → start ≤ address → address < end → (nat_le start address && nat_lt address end) ≡ true
 in_range start end address first last = grind (arith, nat_tests)
 
-pub out_of_range : (start end address : ℕ) → (address < start) ⊎ (end ≤ address) → (nat_le start address && nat_lt address end) ≡ false
-out_of_range start end address (inl below) = grind (arith, nat_tests)
-out_of_range start end address (inr above) = grind (arith, nat_tests)
-
 module _ (meaning : Meaning) where
   -- The range of a mapping that contains the address.
   pub found_range : (lists : Lists) (mapping : MappingValue) (address : ℕ) (range : MappedRange) (id : MappingId) (file : FileNames) → slice_get lists.ranges (mapping_number id) ≡ Some range → range.start ≡ mapping.start → range.end ≡ end_of mapping → range.page_offset ≡ mapping.page_offset → range.path ≡ file.path → range.build_id ≡ file.build_id → AreFileIds (meaning.names_file mapping) lists.names file → range.start ≤ address → address < range.end → IsFoundRange meaning lists mapping address (Some id)
@@ -59,9 +55,6 @@ module _ (meaning : Meaning) where
             );
         is = (inside, subst (IsRange meaning mapping) (sym value) is_range);
       }
-
-  pub no_found_range : (lists : Lists) (mapping : MappingValue) (address : ℕ) → is_in_range mapping address ≡ false → IsFoundRange meaning lists mapping address None
-  no_found_range lists mapping address outside = record { placed = λ id is. cc; is = outside }
 
   -- The id of a name of a frame stays one as names are added.
   pub function_kept : (frame : FrameValue) (old new : List (List ℕ)) → Grows old new → (function : FunctionName) → IsFunctionId meaning.names_frame frame old function → IsFunctionId meaning.names_frame frame new function

@@ -91,25 +91,12 @@ once_more {A} items item once new = λ first second x at also. elim (old_or_last
 
 -- A table of values, in which an equality decides which are the same.
 module _ {A : Type 0} (eq : A → A → Bool) (same : (a b : A) → Decides (eq a b) (a ≡ b)) where
-  pub inserted_adds : (old new : List A) (item : A) → new ≡ insert_key eq old item → (new ≡ old) ⊎ (new ≡ old ++ item ∷ [])
-  inserted_adds old new item is = by (list_any (eq item) old) is
-    where
-      by : (b : Bool) → new ≡ cond b old (old ++ item ∷ []) → (new ≡ old) ⊎ (new ≡ old ++ item ∷ [])
-      by true same_as = inl same_as
-      by false longer = inr longer
-
   pub inserted_once : (old new : List A) (item : A) → IsOnce old → new ≡ insert_key eq old item → IsOnce new
   inserted_once old new item once is = by (list_any (eq item) old) refl is
     where
       by : (b : Bool) → list_any (eq item) old ≡ b → new ≡ cond b old (old ++ item ∷ []) → IsOnce new
       by true found same_as = subst IsOnce (sym same_as) once
       by false none longer = subst IsOnce (sym longer) (once_more old item once (λ index at. true≢false (sym ((same item item).1 refl) ∙ none_any (eq item) old index item none at)))
-
-  pub interned : (old new : List A) (item : A) (id : ℕ) (k : A) → slice_get new id ≡ Some k → eq item k ≡ true → new ≡ insert_key eq old item → Interns old item id new
-  interned old new item id k at is adds = record {
-    is_at = at ∙ ap (λ (a : A). Some a) (sym ((same item k).0 is));
-    adds = inserted_adds old new item adds;
-  }
 
   pub insertion_once : {R E : Type 0} → (result : Result R E) (old new : List A) (item : A) → IsOnce old → IfOk result (λ r. new ≡ insert_key eq old item) → OnErr result (new ≡ old) → IsOnce new
   insertion_once (Ok r) old new item once adds same_as = inserted_once old new item once adds

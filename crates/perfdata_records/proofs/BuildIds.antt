@@ -9,18 +9,18 @@ use Rattle.std.proofs.Math.Seq.{take-append_seam}
 use Rattle.std.specs.declared.io.Error.{Error}
 use Rattle.perfdata_base.specs.Endian.{number_in}
 use Rattle.perfdata_base.specs.RecordHeader.{record_header_of, PeeksRecordHeader}
-use Rattle.perfdata_base.specs.Source.{State, Consumed, ReadExactError, IsIoErrorOf}
+use Rattle.perfdata_base.specs.Source.{State, Consumed, IsIoErrorOf}
 use Rattle.perfdata_base.proofs.ConsumedLemmas.{consumed_more}
 use Rattle.perfdata_base.proofs.Numbers.{ReadsFirst, first_drop_prefix}
 use Rattle.perfdata_base.specs.declared.event.record_header.PerfEventHeader.{PerfEventHeader}
 use Rattle.perfdata_base.specs.declared.endian.Endianness.{Endianness}
 use Rattle.perfdata_base.specs.declared.source.append.AppendError.{AppendError}
 use Rattle.perfdata_base.specs.declared.source.append.AppendError.TheVariants.{Memory, Source}
-use Rattle.perfdata_sections.specs.ParsedPart.{PartRead, PartPartlyRead, PartReadError, ReadsBytes}
+use Rattle.perfdata_sections.specs.ParsedPart.{PartRead, PartReadError, ReadsBytes}
 use Rattle.perfdata_sections.specs.HeaderString.{before_nul}
-use Rattle.perfdata_records.specs.BuildIdEvent.{zero_group, zero_groups, IsBuildIdIn, IsBuildIdEvent, IsTruncatedBuildIdEntry, IsPrefixOfBuildIdEntry, ReadsBuildIdEvent, ParsesBuildIdEvent}
+use Rattle.perfdata_records.specs.BuildIdEvent.{zero_group, zero_groups, IsBuildIdIn, IsBuildIdEvent, IsTruncatedBuildIdEntry, ReadsBuildIdEvent, ParsesBuildIdEvent}
 use Rattle.perfdata_records.specs.declared.build_id_event.BuildIdEvent.{BuildIdEvent}
-use Rattle.perfdata_sections.proofs.PartLemmas.{drop_prefix, stopped_after, stopped_at_once}
+use Rattle.perfdata_sections.proofs.PartLemmas.{drop_prefix, stopped_after}
 
 -- one more group of zeros is removed from the end
 pub group_split : (xs rest : List ℕ) (n : ℕ) → xs ≡ rest ++ zero_groups n → ends_with nat_eq rest zero_group ≡ true → xs ≡ take (length rest - 4) rest ++ zero_groups (suc n)
@@ -51,13 +51,6 @@ module _ (number : ℕ → List ℕ → ℕ) where
   entry_io_error old new (Source cause) e read_error is = inr (subst (λ x. PartReadError (IsTruncatedBuildIdEntry number) old x new) (sym is) read_error)
 
 module _ (number : ℕ → List ℕ → ℕ) (first : ReadsFirst number) where
-  pub entry_header_truncated : (a b : State) (e : Error) → ReadExactError a 36 e b → PartReadError (IsTruncatedBuildIdEntry number) a e b
-  entry_header_truncated a b e read_error = stopped_at_once (IsTruncatedBuildIdEntry number) a b 36 e read_error (λ part fewer enough. absurd (omega arith))
-
-  -- the build id can't be allocated
-  pub entry_header_some : (a b : State) (fixed : List ℕ) → length fixed ≡ 36 → Consumed a fixed b → PartPartlyRead (IsPrefixOfBuildIdEntry number) a b
-  entry_header_some a b fixed long consumed = record { bytes = fixed; is_truncated = (omega (arith, long), omega (arith, long)); consumes = consumed }
-
   -- the size is in the first 36 bytes
   size_in : (fixed body : List ℕ) → length fixed ≡ 36 → number 2 (drop 6 (fixed ++ body)) ≡ number 2 (drop 6 fixed)
   size_in fixed body long = first_drop_prefix number first 2 6 fixed body (omega (arith, long))

@@ -1,8 +1,6 @@
 -- A list of 8-byte numbers, and an attribute with its ids.
-use Rattle.std.proofs.Common.{◌≡◌, ℕ, suc, ◌+◌, ◌*◌, ◌/◌, ◌<◌, ◌≤◌, ◌++◌, List, [], ◌∷◌, length, drop, refl, sym, ap, ◌∙◌, subst, arith, length-drop, append_assoc, inl, inr, Some}
-use Rattle.std.proofs.lemmas.Nat.{div-mul-add}
+use Rattle.std.proofs.Common.{◌≡◌, ℕ, suc, ◌+◌, ◌*◌, ◌/◌, ◌≤◌, ◌++◌, List, [], ◌∷◌, length, drop, refl, sym, ap, ◌∙◌, subst, arith, length-drop, append_assoc, inl, inr, Some}
 use Rattle.std.proofs.Math.Nat.{mul-add-div}
-use Rattle.std.proofs.lemmas.List.{append-nil}
 use Rattle.std.proofs.Math.Seq.{drop-append_seam}
 use Rattle.std.specs.Prelude.{◌-◌, ◌%◌}
 use Rattle.std.specs.declared.io.Error.{Error}
@@ -22,11 +20,6 @@ module _ (number : ℕ → List ℕ → ℕ) where
       in
       ap (λ n. u64s_of number n xs) one
 
-  numbers_none : (xs : List ℕ) → length xs < 8 → u64s_of number (length xs / 8) xs ≡ []
-  numbers_none xs too_few =
-      let long : length xs ≡ 0 * 8 + length xs = omega arith in
-      ap (λ n. u64s_of number n xs) (ap (λ n. n / 8) long ∙ div-mul-add 0 8 (length xs) too_few)
-
   -- the loop invariant: the ids so far and the numbers in the rest are all numbers
   abbrev pub AreSoFar : List ℕ → List ℕ → List ℕ → Type 0
   AreSoFar bytes ids rest = u64s_of number (length bytes / 8) bytes ≡ ids ++ u64s_of number (length rest / 8) rest
@@ -36,9 +29,6 @@ module _ (number : ℕ → List ℕ → ℕ) where
       far ∙ ap (λ l. ids ++ l) (numbers_step rest enough)
       ∙ sym (append_assoc ids (number 8 rest ∷ []) (u64s_of number (length (drop 8 rest) / 8) (drop 8 rest)))
       ∙ (λ i. (sym pushed i) ++ u64s_of number (length (sym rest_is i) / 8) (sym rest_is i))
-
-  pub ids_whole : (bytes ids rest : List ℕ) → AreSoFar bytes ids rest → length rest < 8 → ids ≡ u64s_of number (length bytes / 8) bytes
-  ids_whole bytes ids rest far too_few = sym (far ∙ ap (λ l. ids ++ l) (numbers_none rest too_few) ∙ append-nil ids)
 
   module _ (first : ReadsFirst number) where
     some_is : (xs ys : List ℕ) → Some xs ≡ Some ys → xs ≡ ys

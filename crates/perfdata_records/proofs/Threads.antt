@@ -1,5 +1,5 @@
 -- The bytes before a NUL, and the threads of a map.
-use Rattle.std.proofs.Common.{◌≡◌, ◌≢◌, ℕ, zero, suc, ◌+◌, ◌*◌, ◌/◌, ◌<◌, ◌≤◌, ◌==◌, ◌++◌, true, not, cond, List, [], ◌∷◌, length, take, drop, refl, sym, ap, ◌∙◌, arith, length-drop}
+use Rattle.std.proofs.Common.{◌≡◌, ◌≢◌, ℕ, zero, suc, ◌+◌, ◌*◌, ◌/◌, ◌≤◌, ◌==◌, ◌++◌, true, not, cond, List, [], ◌∷◌, length, take, drop, refl, sym, ap, ◌∙◌, arith, length-drop}
 use Rattle.std.proofs.lemmas.Nat.{div-mul-add}
 use Rattle.std.proofs.Math.Nat.{mul-add-div}
 use Rattle.std.proofs.lemmas.List.{take-append-drop, take-append-le, drop-append-le, length-take-le}
@@ -50,12 +50,6 @@ module _ (number : ℕ → List ℕ → ℕ) where
       ap (λ n. n / 24) long ∙ mul-add-div {m = 24} (omega arith) 1 (length (drop 24 xs)) ∙ omega arith
       in
       ap (λ n. threads_in number n xs) one
-
-  -- a truncated entry contains no thread
-  pub threads_none : (xs : List ℕ) → length xs < 24 → threads_in number (length xs / 24) xs ≡ []
-  threads_none xs too_few =
-      let long : length xs ≡ 0 * 24 + length xs = omega arith in
-      ap (λ n. threads_in number n xs) (ap (λ n. n / 24) long ∙ div-mul-add 0 24 (length xs) too_few)
 
   module _ (first : ReadsFirst number) where
     -- bytes after the entries don't change the threads

@@ -19,7 +19,7 @@ use Rattle.perfdata_sections.specs.AttributeDescription.{attr_in, name_in, ids_i
 use Rattle.perfdata_sections.specs.AttrFrames.{IsAttrInFrame, ConsumesFrameError, IsFrameReadError, IsAttributesSourceError}
 use Rattle.perfdata_sections.specs.Error.{IsUnexpectedEof}
 use Rattle.perfdata_sections.specs.EventIds.{AreIds, BeginsWithIds, ReadsIds}
-use Rattle.perfdata_sections.specs.EventTypes.{HoldsSectionEntry, IsEventTypeEntry, IsEventTypeEntryError, EventTypeEntryReadError, ReadsEventTypeEntries, AreSectionIds, IsSectionIdsError, SectionIdsReadError, ids_end, position_after_ids, IsAfterIds, IsEntryDescription, AreEntryDescriptions, ErrorAtSectionIds, DescribesEntries, IsOutOfRange, DescribesByEntries, IsEntriesError, EntriesRead, EntriesReadError, ReadsDescriptions}
+use Rattle.perfdata_sections.specs.EventTypes.{HoldsSectionEntry, IsEventTypeEntry, IsEventTypeEntryError, EventTypeEntryReadError, AreSectionIds, IsSectionIdsError, SectionIdsReadError, ids_end, position_after_ids, IsAfterIds, IsEntryDescription, AreEntryDescriptions, ErrorAtSectionIds, DescribesEntries, IsOutOfRange, DescribesByEntries, IsEntriesError, EntriesRead, EntriesReadError, ReadsDescriptions}
 use Rattle.perfdata_sections.specs.ParsedPart.{PartRead, file_error_of}
 use Rattle.perfdata_sections.specs.Items.{SomeBytes, NextReadError, ReadOrSeekErrorAt, IsTruncationOf, IsReadErrorOf, IsShorterThan, ItemRead, ItemsAt, AreItems, ItemsRead}
 use Rattle.perfdata_sections.proofs.ItemRuns.{if_some_more, if_some_both, error_there, error_later, seek_then_consumed, read_error_carries, truncated_next, read_there}
@@ -275,11 +275,6 @@ module _ (number : ℕ → List ℕ → ℕ) (attr_size : ℕ) (names : ℕ → 
         → ItemsRead (IsEventTypeEntry number attr_size) (attr_size + 16) a s.offset s.size entries b → DescribesEntries number names b l r c → ReadsDescriptions number attr_size names s a r c
     described_result a b c entries l (Ok v) same stands low end_fits fits entries_read described = described_read a b c entries v low end_fits fits entries_read (subst (λ l. DescribesEntries number names b l (Ok v) c) same described)
     described_result a b c entries l (Err e) same stands low end_fits fits entries_read described = inr (described_error a b c entries e stands low end_fits fits entries_read (subst (λ l. DescribesEntries number names b l (Err e) c) same described))
-
-  -- reading an entry failed
-  pub entries_error : (a b : State) (e : Error) → attr_size ≤ 2 ^ 64 - 1 - 16 → s.offset ≤ 2 ^ 64 - 1 - s.size → s.size < 2 ^ 64 → ReadsEventTypeEntries number attr_size a s (Err e) b
-      → (¬ IsOutOfRange number attr_size names s) × (AfterSeek a b × (e ≢ Memory → EntriesReadError number attr_size names s a e b))
-  entries_error a b e low end_fits fits read_error = (is_in_range low end_fits fits, (read_error.0, λ ne. inl (read_error.1 ne)))
 
   -- ---- facts on all bytes of the source
 

@@ -17,11 +17,11 @@ use Rattle.perfdata_sections.specs.AttributeDescription.{DescribedEvent, event_i
 use Rattle.perfdata_sections.specs.AttrFrames.{IsAttrInFrame, ConsumesFrameError, FrameRead, IsAttributesSourceError}
 use Rattle.perfdata_sections.specs.EventIds.{AreIds, ReadsIds}
 use Rattle.perfdata_sections.specs.EventDesc.{IsNameAndIds, IsTruncatedNameAndIds, ReadsNameAndIds, IsEvent, AreEvents, IsEventError, PaddedFrameRead, FrameEndSeekError, FrameReadError, ReadsPaddedFrame, EventReadError, EventNeedsMemory, EventsNeedMemory, EventDescNeedsMemory, ReadsEvents, EventsRead, EventsReadError, IsEventDesc, DescribesByEventDesc, IsEventDescError, EventDescReadError, ReadsEventDesc, event_count_of, frame_size_of}
-use Rattle.perfdata_sections.specs.ParsedPart.{PartRead, PartReadError, file_error_of}
+use Rattle.perfdata_sections.specs.ParsedPart.{PartRead, file_error_of}
 use Rattle.perfdata_sections.specs.Items.{SomeBytes, IsTruncationOf, IsShorterThan}
 use Rattle.perfdata_sections.specs.HeaderString.{IsHeaderStringOf, IsTruncatedString, ReadsHeaderString}
 use Rattle.perfdata_sections.proofs.Frames.{frame_remains, frame_prefix, frame_filled}
-use Rattle.perfdata_sections.proofs.PartLemmas.{drop_prefix, stopped_at_once}
+use Rattle.perfdata_sections.proofs.PartLemmas.{drop_prefix}
 use Rattle.perfdata_sections.proofs.Pmus.{read_error_after}
 use Rattle.perfdata_sections.proofs.ItemRuns.{if_some_more, if_some_both, is_visible, truncated_next, read_error_next}
 use Rattle.perfdata_sections.specs.declared.feature_sections.AttributeDescription.{AttributeDescription}
@@ -59,10 +59,6 @@ more_than : (xs name_and_ids rest : List ℕ) (n : ℕ) → drop n xs ≡ name_a
 more_than xs name_and_ids rest n is some =
     let long : length (drop n xs) ≡ length name_and_ids + length rest = ap length is ∙ length-append name_and_ids rest in
     omega (arith, length-drop n xs)
-
-if_some_known : (o : Option (List ℕ)) (P : List ℕ → Type 0) → ((xs : List ℕ) → o ≡ Some xs → P xs) → IfSome o P
-if_some_known None P f = tt
-if_some_known (Some xs) P f = f xs refl
 
 -- if bytes were read after an advance by `n`, at least `n` bytes remained before the advance
 bytes_before_advance : (n : ℕ) (old : Option (List ℕ)) (new : Option (List ℕ)) (name_and_ids : List ℕ) → dropped n old ≡ prepend name_and_ids new → 0 < length name_and_ids → IfSome old (λ xs. n ≤ length xs)
@@ -102,9 +98,6 @@ io_not_memory error is = absurd cc
 
 module _ (number : ℕ → List ℕ → ℕ) (first : ReadsFirst number) where
   -- ---- the bytes after a frame
-
-  pub name_and_ids_header_truncated : (a b : State) (e : SourceError) → ReadExactError a 4 e b → PartReadError (IsTruncatedNameAndIds number) a e b
-  name_and_ids_header_truncated a b e truncated = stopped_at_once (IsTruncatedNameAndIds number) a b 4 e truncated (λ part too_few. inl too_few)
 
   pub name_and_ids_name_error : (a b c : State) (header : List ℕ) (error : AppendError) → length header ≡ 4 → Consumed a header b → ReadsHeaderString number b (Err error) c → ReadsNameAndIds number a (Err error) c
   name_and_ids_name_error a b c header NoMemory long before some = record {
@@ -384,9 +377,6 @@ module _ (number : ℕ → List ℕ → ℕ) (first : ReadsFirst number) where
   -- the bytes of the source contain what was read
   pub event_desc_described : (old : State) (ds : List AttributeDescription) (new : State) → PartRead (λ xs ds. IsEventDesc number xs (events_in ds)) old ds new → IfSome old.bytes (λ xs. DescribesByEventDesc number xs ds)
   event_desc_described old ds new was_read = is_visible old.bytes new.bytes was_read.bytes (λ xs. DescribesByEventDesc number xs ds) was_read.consumes.bytes (λ rest. (was_read.bytes, rest, refl, was_read.matches))
-
-  pub event_desc_after_seek : (old : State) (ds : List AttributeDescription) (new : State) → RemainsFromPosition old → PartRead (λ xs ds. IsEventDesc number xs (events_in ds)) old ds new → AfterSeek old new
-  event_desc_after_seek old ds new from_position was_read = consumed-after_seek old new was_read.bytes from_position was_read.consumes
 
   visible_before : (a b : Option (List ℕ)) (prefix : List ℕ) (P Q : List ℕ → Type 0) → a ≡ prepend prefix b → ((rest : List ℕ) → Q rest → P (prefix ++ rest)) → IfSome b Q → IfSome a P
   visible_before a None prefix P Q is more h = subst (λ o. IfSome o P) (sym is) tt

@@ -6,7 +6,7 @@ use Rattle.std.proofs.lemmas.Nat.{div-mul-add}
 use Rattle.std.specs.Prelude.{Err}
 use Rattle.perfdata_base.specs.Source.{State}
 use Rattle.perfdata_base.proofs.ReadErrors.{truncated_later}
-use Rattle.perfdata_base.proofs.ConsumedLemmas.{consumed_more, consumed_none}
+use Rattle.perfdata_base.proofs.ConsumedLemmas.{consumed_more}
 use Rattle.perfdata_base.proofs.Numbers.{ReadsFirst}
 use Rattle.perfdata_base.specs.declared.source.append.AppendError.{AppendError}
 use Rattle.perfdata_base.specs.declared.source.append.AppendError.TheVariants.{Memory, Source}
@@ -44,9 +44,6 @@ module _ (number : ℕ → List ℕ → ℕ) (first : ReadsFirst number) where
       ap (λ m. m ∷ u64s_of number n (drop 8 (xs ++ rest))) (first 8 xs rest long_enough)
       ∙ ap (λ l. number 8 xs ∷ u64s_of number n l) (drop-append-le 8 xs rest long_enough)
       ∙ ap (λ l. number 8 xs ∷ l) (numbers_prefix n (drop 8 xs) rest remaining)
-
-  pub ids_none : (a : State) (ids : List ℕ) → ids ≡ [] → PartRead (AreIds number 0) a ids a
-  ids_none a ids empty = record { bytes = []; consumes = consumed_none a; matches = (refl, empty) }
 
   numbers_step : (xs : List ℕ) → 8 ≤ length xs → u64s_of number (length xs / 8) xs ≡ number 8 xs ∷ u64s_of number (length (drop 8 xs) / 8) (drop 8 xs)
   numbers_step xs enough =

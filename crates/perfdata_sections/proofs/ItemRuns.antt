@@ -1,12 +1,12 @@
 -- From items that were read at offsets to a list of them, or to the error.
-use Rattle.std.proofs.Common.{◌≡◌, ◌≢◌, ℕ, ◌+◌, ◌-◌, ◌*◌, ◌/◌, ◌^◌, ◌<◌, ◌≤◌, ◌++◌, List, [], ◌∷◌, length, take, drop, All, refl, sym, ap, ◌∙◌, subst, inl, inr, arith, length-append, Option, None, Some, suc}
+use Rattle.std.proofs.Common.{◌≡◌, ◌≢◌, ℕ, ◌+◌, ◌-◌, ◌*◌, ◌/◌, ◌<◌, ◌≤◌, ◌++◌, List, [], ◌∷◌, length, take, drop, All, refl, sym, ap, ◌∙◌, subst, inl, inr, arith, length-append, Option, None, Some, suc}
 use Rattle.std.specs.Prelude.{◌⊎◌, IfSome}
 use Rattle.std.proofs.lemmas.Nat.{div-mul-add, le-div}
 use Rattle.std.proofs.Math.Seq.{take-append_seam}
 use Rattle.std.proofs.lemmas.List.Elements.{All-push}
 use Rattle.std.specs.declared.io.Error.{Error as SourceError}
 use Rattle.std.specs.declared.io.SeekFrom.TheVariants.{Start}
-use Rattle.perfdata_base.specs.Source.{State, Position, prepend, advance_by, remaining_from, at_offset, all_bytes_of, Consumed, EndedOrPaused, EndedOrFailed, ReadExactError, SourceFailed, SourcePaused, AfterSeek, SeekSucceeded, SeekOutOfRange}
+use Rattle.perfdata_base.specs.Source.{State, Position, prepend, advance_by, remaining_from, at_offset, all_bytes_of, Consumed, EndedOrPaused, EndedOrFailed, ReadExactError, SourceFailed, SourcePaused, AfterSeek, SeekSucceeded}
 use Rattle.perfdata_base.proofs.ReadErrors.{none_or_paused, all_read, consumed-after_seek, after_seek_more, failed_after_seek, paused_after_seek}
 use Rattle.perfdata_sections.specs.ParsedPart.{PartReadError}
 use Rattle.perfdata_sections.specs.Items.{SomeBytes, ReadErrorCause, NextReadError, ReadOrSeekErrorAt, IsTruncationOf, IsReadErrorOf, IsShorterThan, ItemRead, ItemsAt, AreItems, ItemsRead, SomeItemsRead, ItemsReadErrorBy}
@@ -65,9 +65,6 @@ at_offset_in n (Some p) = refl
 pub at_offset_same : (n : ℕ) (position position' : Option Position) → all_bytes_of position ≡ all_bytes_of position' → at_offset n position ≡ at_offset n position'
 at_offset_same n position position' same = at_offset_in n position ∙ ap (offset_in n) same ∙ sym (at_offset_in n position')
 
-start_in_range : (a : State) (at : ℕ) → at < 2 ^ 64 → SeekOutOfRange a (Start at) → ⊥
-start_in_range a at low none = let so_far : 2 ^ 64 ≤ at = none.out_of_range in omega arith
-
 -- an I/O error in a read from a later state is also one from the earlier state
 abbrev pub Carries : (Error → List ℕ → State → State → Type 0) → Type 0
 Carries IsOfRead = (a b c : State) (e : Error) (prefix : List ℕ) → AfterSeek a b → IsOfRead e prefix b c → IsOfRead e prefix a c
@@ -101,16 +98,6 @@ module _ (IsNot : Error → List ℕ → List ℕ → Type 0) (IsOfRead : Error 
         | inr source ↦ inr (carries a b c e read_error.consumed_bytes seek.after_seek source)
       ];
     }),
-  )
-
-  -- a seek failed
-  pub seek_error : (a b : State) (at : ℕ) (e : SourceError) → at < 2 ^ 64 → AfterSeek a b × (SourceFailed a b ⊎ SeekOutOfRange a (Start at)) → AfterSeek a b × (IoError e ≢ Memory → ReadOrSeekErrorAt IsNot IsOfRead a at (IoError e) b)
-  seek_error a b at e low seek = (
-    seek.0,
-    λ _. elim seek.1 [
-      | inl failed ↦ inr (tt, failed)
-      | inr none ↦ absurd (start_in_range a at low none)
-    ],
   )
 
   -- an error from a later state is also one from the earlier state

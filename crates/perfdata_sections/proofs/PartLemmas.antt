@@ -31,15 +31,7 @@ stopped_after IsTruncated a b c prefix count e before read_error too_few = recor
   ];
 }
 
--- the bytes are truncated from the start
-pub stopped_at_once : (IsTruncated : List ℕ → Type 0) (a b : State) (count : ℕ) (e : Error) → ReadExactError a count e b
-    → ((part : List ℕ) → length part < count → IsTruncated part) → PartReadError IsTruncated a e b
-stopped_at_once IsTruncated a b count e read_error too_few = record { bytes = read_error.consumed_bytes; is_truncated = too_few read_error.consumed_bytes read_error.too_few; consumes = read_error.consumes; cause = read_error.cause }
-
 module _ (number : ℕ → List ℕ → ℕ) (first : ReadsFirst number) where
-  pub clock_header_truncated : (a b : State) (e : Error) → ReadExactError a 4 e b → PartReadError (IsTruncatedClock number) a e b
-  clock_header_truncated a b e read_error = stopped_at_once (IsTruncatedClock number) a b 4 e read_error (λ part too_few. (omega arith, λ enough. absurd (omega arith)))
-
   pub clock_rest_truncated : (a b c : State) (version : List ℕ) (count : ℕ) (e : Error) → length version ≡ 4 → number 4 version ≡ 1 → count ≡ 20 → Consumed a version b → ReadExactError b count e c
       → PartReadError (IsTruncatedClock number) a e c
   clock_rest_truncated a b c version count e long one all before read_error =

@@ -21,7 +21,7 @@ use Rattle.std.proofs.lemmas.Map.Keys.{IsStrictlyIncreasing-from_sorted, sorted_
 use Rattle.indexmap.specs.IndexMap.{IndexMap, keys, insert_entry}
 use Rattle.indexmap.proofs.CallerLemmas.{insert_entry-new}
 use Rattle.perfdata_sections.specs.declared.feature_sections.pmu_mappings.PmuMappings.{PmuMappings}
-use Rattle.perfdata_base.specs.Source.{State, Consumed, ReadExactError}
+use Rattle.perfdata_base.specs.Source.{State, Consumed}
 use Rattle.perfdata_base.specs.declared.source.append.AppendError.{AppendError}
 use Rattle.perfdata_base.specs.declared.source.append.AppendError.TheVariants.{Memory, Source}
 use Rattle.perfdata_base.proofs.ConsumedLemmas.{consumed_more, consumed_none, consumed_none_later, failed_later}
@@ -29,7 +29,7 @@ use Rattle.perfdata_base.proofs.Numbers.{ReadsFirst}
 use Rattle.perfdata_sections.specs.ParsedPart.{PartRead, PartPartlyRead, PartReadError}
 use Rattle.perfdata_sections.specs.HeaderString.{IsHeaderStringOf, IsTruncatedString, IsTruncatedText, ReadsHeaderString}
 use Rattle.perfdata_sections.specs.PmuMappings.{PmuUnit, named_units, last_name, collected_name, SortsUnits, IsPmuUnit, IsTruncatedUnit, IsTruncatedName, ArePmuUnits, TruncatedUnits, UnitsOutOfMemory, IsPmuSection, IsPmuSectionOf, IsTruncatedPmuSection, IsPrefixOfPmuSection, ReadsPmuUnit, PmuUnitsRead, ReadsPmuUnits, ReadsPmus}
-use Rattle.perfdata_sections.proofs.PartLemmas.{drop_prefix, stopped_at_once}
+use Rattle.perfdata_sections.proofs.PartLemmas.{drop_prefix}
 
 -- ---- the names in ascending order of their numbers
 
@@ -131,9 +131,6 @@ names_push old new us k name before updates q =
 module _ (number : ℕ → List ℕ → ℕ) (first : ReadsFirst number) where
   -- ---- a unit
 
-  pub unit_header_truncated : (a b : State) (e : Error) → ReadExactError a 4 e b → PartReadError (IsTruncatedUnit number) a e b
-  unit_header_truncated a b e truncated = stopped_at_once (IsTruncatedUnit number) a b 4 e truncated (λ part too_few enough. absurd (omega arith))
-
   unit_truncated : (header part : List ℕ) → length header ≡ 4 → IsTruncatedString number part → IsTruncatedUnit number (header ++ part)
   unit_truncated header part long truncated = λ _. subst (IsTruncatedString number) (sym (drop_prefix 4 header part long)) truncated
 
@@ -212,9 +209,6 @@ module _ (number : ℕ → List ℕ → ℕ) (first : ReadsFirst number) where
       }
 
   -- ---- the section
-
-  pub section_header_truncated : (a b : State) (e : Error) → ReadExactError a 4 e b → PartReadError (IsTruncatedPmuSection number) a e b
-  section_header_truncated a b e truncated = stopped_at_once (IsTruncatedPmuSection number) a b 4 e truncated (λ part too_few enough. absurd (omega arith))
 
   pub section_error : (a b c : State) (header : List ℕ) (count : ℕ) (error : AppendError) → length header ≡ 4 → count ≡ number 4 header → Consumed a header b
       → ReadsPmuUnits number count b (Err error) c → ReadsPmus number a (Err error) c

@@ -16,7 +16,7 @@ use Rattle.perfdata_base.specs.declared.source.append.AppendError.{AppendError}
 use Rattle.perfdata_base.specs.declared.source.append.AppendError.TheVariants.{Memory, Source}
 use Rattle.perfdata_sections.specs.ParsedPart.{PartRead, PartPartlyRead, PartReadError, ReadsBytes}
 use Rattle.perfdata_sections.specs.HeaderString.{before_nul, utf8_text, IsTruncatedString, IsTruncatedText, IsHeaderStringOf, ReadsHeaderString}
-use Rattle.perfdata_sections.proofs.PartLemmas.{drop_prefix, stopped_after, stopped_at_once}
+use Rattle.perfdata_sections.proofs.PartLemmas.{drop_prefix, stopped_after}
 
 -- the text ends at the first NUL
 pub text_ends_at_nul : (xs : List ℕ) (nul_index : ℕ) → nul_index < length xs → Nowhere (Passes (is_byte 0) xs) 0 nul_index → Passes (is_byte 0) xs nul_index → take nul_index xs ≡ before_nul xs
@@ -48,9 +48,6 @@ module _ (number : ℕ → List ℕ → ℕ) (first : ReadsFirst number) where
   -- the bytes after the length are too too_few
   string_too_short : (header part : List ℕ) → length header ≡ 4 → length part < number 4 header → IsTruncatedString number (header ++ part)
   string_too_short header part long too_few = λ _. let same = first 4 header part (omega arith) in omega (arith, length-append header part)
-
-  pub string_header_truncated : (a b : State) (e : Error) → ReadExactError a 4 e b → PartReadError (IsTruncatedString number) a e b
-  string_header_truncated a b e read_error = stopped_at_once (IsTruncatedString number) a b 4 e read_error (λ part too_few enough. absurd (omega arith))
 
   pub string_body_truncated : (a b c : State) (header : List ℕ) (count : ℕ) (e : Error) → length header ≡ 4 → count ≡ number 4 header → Consumed a header b → ReadExactError b count e c
       → PartReadError (IsTruncatedString number) a e c

@@ -1,5 +1,5 @@
 -- From the items of a split to the fields of a line, and from the lines to the events of a text.
-use Rattle.std.proofs.Common.{◌≡◌, ℕ, List, [], ◌∷◌, ◌++◌, Bor, refl, sym, ap, ◌∙◌, subst, append_assoc, length, length-append, arith, ◌+◌, ◌<◌, Some, None}
+use Rattle.std.proofs.Common.{◌≡◌, ℕ, List, [], ◌∷◌, ◌++◌, Bor, refl, sym, ap, ◌∙◌, subst, append_assoc, length, length-append, arith, ◌+◌, Some, None}
 use Rattle.std.specs.Prelude.{Option, map}
 use Rattle.std.specs.Iterator.{AlwaysYields}
 use Rattle.std.proofs.lemmas.Iterator.{YieldsList}

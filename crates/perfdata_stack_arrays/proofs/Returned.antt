@@ -1,20 +1,18 @@
 -- The number of the records that are returned.
-use Rattle.std.proofs.Common.{◌≡◌, ◌∙◌, ap, refl, sym, subst, arith, ◌+◌, ◌^◌, ◌<◌, ◌≤◌, true, false, List, [], ◌∷◌, ◌++◌, length, length-append, map, Some, Ok}
+use Rattle.std.proofs.Common.{◌≡◌, ◌∙◌, ap, refl, sym, subst, arith, ◌+◌, ◌^◌, ◌<◌, true, false, List, [], ◌∷◌, ◌++◌, length, length-append, map, Some, Ok}
 use Rattle.std.proofs.lemmas.List.{length-map, map_push}
 use Rattle.std.proofs.lemmas.List.Sorted.{length_permutation}
 use Rattle.std.specs.List.Sorted.{IsPermutation}
-use Rattle.linux_perf_data.proofs.InMemoryReadings.{one_call_more}
+use Rattle.linux_perf_data.proofs.InMemoryReadings.{one_call_more, count_fits}
 use Rattle.linux_perf_data.specs.InMemoryReading.{ReturnsRecordsInMemory}
 use Rattle.linux_perf_data.specs.Layout.{RecordView}
 use Rattle.linux_perf_data.specs.RecordViews.{record_view_of}
 use Rattle.linux_perf_data.specs.declared.in_memory.InMemoryRecords.{InMemoryRecords}
 use Rattle.linux_perf_data.specs.declared.perf_file.PerfFile.{PerfFile}
 use Rattle.perfdata_order.proofs.InMemorySteps.{reads_records_of_input, returns_each_record_once}
-use Rattle.perfdata_order.proofs.Steps.{steps_append}
+use Rattle.perfdata_order.proofs.Steps.{steps_append, returned_append}
 use Rattle.perfdata_order.specs.InMemoryLaws.{held_entries, read_in}
 use Rattle.perfdata_order.specs.InMemoryOrder.{Entry, EntryReturned, IsNewOrder, Step, TakesSteps, returned_in}
-use Rattle.perfdata_order.specs.InMemoryOrder.Step.{passes, reads, reads_end, reads_error, reports, sorts}
-use Rattle.perfdata_order.specs.SorterLaws.Call.{ends_all, ends_round, inserts, keeps, releases, returns}
 use Rattle.perfdata_order.specs.declared.in_memory.InMemoryOrderedRecords.{InMemoryOrderedRecords}
 use Rattle.perfdata_stack_arrays.specs.Laws.{AreReadOnce, ReturnsRecordsOnce}
 use Rattle.perfdata_stack_arrays.specs.Reading.{ReadsEvents, event_returned, no_calls, other_returned}
@@ -27,20 +25,6 @@ abbrev pub view_of : Entry → RecordView
 view_of entry = record_view_of entry.0 entry.1
 
 -- ---- in order of time
-
-returned_append : (ss ts : List Step) → returned_in (ss ++ ts) ≡ returned_in ss ++ returned_in ts
-returned_append [] ts = refl
-returned_append (reads key place r ∷ ss) ts = returned_append ss ts
-returned_append (passes place r ∷ ss) ts = ap (λ es. (place, r) ∷ es) (returned_append ss ts)
-returned_append (reads_end ∷ ss) ts = returned_append ss ts
-returned_append (reads_error e ∷ ss) ts = returned_append ss ts
-returned_append (sorts (inserts key entry) ∷ ss) ts = returned_append ss ts
-returned_append (sorts ends_round ∷ ss) ts = returned_append ss ts
-returned_append (sorts ends_all ∷ ss) ts = returned_append ss ts
-returned_append (sorts releases ∷ ss) ts = returned_append ss ts
-returned_append (sorts (returns key entry) ∷ ss) ts = ap (λ es. entry ∷ es) (returned_append ss ts)
-returned_append (sorts keeps ∷ ss) ts = returned_append ss ts
-returned_append (reports e ∷ ss) ts = returned_append ss ts
 
 -- Steps that returned these records.
 abbrev pub StepsTo : List Entry → InMemoryOrderedRecords → PerfFile → InMemoryOrderedRecords → PerfFile → Type 0
@@ -86,29 +70,7 @@ records_in_order first file entries events now now_file (no_calls) = (refl, refl
 records_in_order first file entries events now now_file (other_returned es vs last new last_file new_file entry read step is) = one_in_order first file es last new last_file new_file entry (records_in_order first file es vs last last_file read) step
 records_in_order first file entries events now now_file (event_returned es vs last new last_file new_file entry event read step is) = one_in_order first file es last new last_file new_file entry (records_in_order first file es vs last last_file read) step
 
--- ---- each record has an offset of its own
-
-offset_after : (old now : InMemoryRecords) (file file' : PerfFile) (records : List RecordView) → ReturnsRecordsInMemory old file records now file' → old.records.offset + length records ≤ now.records.offset
-offset_after old now file file' [] (same, same_file) = (let e = ap (λ i. i.records.offset) same in omega (arith, e))
-offset_after old now file file' (h ∷ hs) (next, (next_file, (place, (r, step, is)), more)) =
-    let rest = offset_after next now next_file file' hs more in
-    let moved = step.returns.offset in
-    let start = step.returns.record_offset in
-    omega (arith, rest, moved, start)
-
-count_fits : (old now : InMemoryRecords) (file file' : PerfFile) (records : List RecordView) → ReturnsRecordsInMemory old file records now file' → length records < 2 ^ 64
-count_fits old now file file' [] returned = omega arith
-count_fits old now file file' (h ∷ []) returned = omega arith
-count_fits old now file file' (h ∷ k ∷ ks) (next, (next_file, (place, (r, step, is)), more)) =
-    let fits = last_fits next now next_file file' k ks more in
-    let rest = offset_after next now next_file file' (k ∷ ks) more in
-    let moved = step.returns.offset in
-    let start = step.returns.record_offset in
-    omega (arith, fits, rest, moved, start)
-  where
-    last_fits : (old now : InMemoryRecords) (file file' : PerfFile) (h : RecordView) (hs : List RecordView) → ReturnsRecordsInMemory old file (h ∷ hs) now file' → now.records.offset < 2 ^ 64
-    last_fits old now file file' h [] (next, (next_file, (place, (r, step, is)), (same, same_file))) = (let at = ap (λ i. i.records.offset) same in let fits = step.returns.offset_fits in omega (arith, at, fits))
-    last_fits old now file file' h (k ∷ ks) (next, (next_file, one, more)) = last_fits next now next_file file' k ks more
+-- ---- fewer than 2^64 records are returned
 
 steps_fit : (records : InMemoryRecords) (first : InMemoryOrderedRecords) (file : PerfFile) (entries : List Entry) (last : Records) (last_file : PerfFile) → IsNewOrder records first → StepsByTime first file entries last last_file → length entries < 2 ^ 64
 steps_fit records first file entries (ByTime last) last_file is_new (steps, (taken, are)) =
@@ -123,7 +85,6 @@ order_fits : (first : InMemoryRecords) (file : PerfFile) (entries : List Entry) 
 order_fits first file entries (InInputOrder last) last_file records = (let fits = count_fits first last file last_file (map view_of entries) records in omega (arith, fits, length-map entries view_of))
 order_fits first file entries (ByTime last) last_file records = absurd records
 
--- Fewer than 2^64 records are returned.
 pub entries_fit : (start : Records) (file : PerfFile) (entries : List Entry) (events : List Event) (now : Records) (now_file : PerfFile) → IsStart start → ReadsEvents start file entries events now now_file → length entries < 2 ^ 64
 entries_fit (ByTime first) file entries events now now_file (true, (records, is_new)) read = steps_fit records first file entries now now_file is_new (steps_by_time first file entries events now now_file read)
 entries_fit (ByTime first) file entries events now now_file (false, (records, starts)) read = absurd starts

@@ -2,7 +2,7 @@
 use Rattle.std.proofs.Common.{◌≡◌, ◌∙◌, ap, refl, ℕ, Bool, true, false, cond, List, [], ◌∷◌, map}
 use Rattle.perfdata_events.specs.CallChain.{is_context_change, context_of, frames_of}
 use Rattle.perfdata_events.specs.declared.fields.call_chain.CallContext.{CallContext}
-use Rattle.perfdata_stacks.specs.Frames.{chain_frames, frame_of, frames_or}
+use Rattle.perfdata_stacks.specs.Frames.{chain_frames, frame_of}
 use Rattle.perfdata_stacks.specs.declared.frames.SampleFrame.{SampleFrame}
 
 pub no_frames : (context : CallContext) (after_frame : Bool) (values : List ℕ) → values ≡ [] → chain_frames context after_frame values ≡ []
@@ -20,10 +20,6 @@ pub first_frame : (context : CallContext) (after_frame : Bool) (values others : 
     → chain_frames context after_frame values ≡ frame_of context after_frame value ∷ chain_frames context true others
 unfolding chain_frames
 first_frame context after_frame values others value split change = ap (chain_frames context after_frame) split ∙ rw change refl
-
-pub frames_or_none : (frames : List SampleFrame) → frames_or frames [] ≡ frames
-frames_or_none [] = refl
-frames_or_none (frame ∷ frames) = refl
 
 pub are_chain_frames : (context : CallContext) (after_frame : Bool) (values : List ℕ) → map (λ (f : SampleFrame). f.frame) (chain_frames context after_frame values) ≡ frames_of context values
 unfolding chain_frames frames_of

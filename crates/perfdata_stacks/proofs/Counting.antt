@@ -83,12 +83,6 @@ module _ (old new : StackCounts) (line : List ℕ) (weight : ℕ) (added : List 
     sum = counted.sum ∙ ap (λ n. n + weight) counts.sum ∙ sym (sum_by_push (λ a. a.weight) added (record { line = line; weight = weight }));
   }
 
-pub counts_same : (old new : StackCounts) (added : List Added) → counted_lines new ≡ counted_lines old → Counts added old → Counts added new
-counts_same old new added same counts = record {
-  lines = λ line. ap (lookup (λ (counted : Vec ℕ Global). is_line line counted.items)) same ∙ counts.lines line;
-  sum = ap (λ entries. sum_by (λ count. count) (values_of entries)) same ∙ counts.sum;
-}
-
 pub lists_lines : (counts : StackCounts) (added : List Added) → IsAscending counts → Counts added counts → ListsLines added (counted_lines counts)
 lists_lines counts added ascending is = record {
   each = λ index line count at. sym (is.lines line.items) ∙ btree_map_get_place (on_total (λ (v : Vec ℕ Global). v.items) nat_list_cmp_total) counts.counts index line count ascending at;

@@ -1,16 +1,13 @@
 -- Symbols of entries that are appended.
-use Rattle.std.proofs.Common.{◌≡◌, ℕ, ◌+◌, ◌*◌, ◌≤◌, List, [], ◌∷◌, ◌++◌, length, sym, subst, ap, ◌∙◌, arith, append-nil, append_assoc}
+use Rattle.std.proofs.Common.{◌≡◌, ℕ, ◌+◌, ◌*◌, ◌≤◌, List, [], ◌∷◌, ◌++◌, length, subst, ap, ◌∙◌, arith, append_assoc}
 use Rattle.std.specs.Prelude.{slice_range}
-use Rattle.std.proofs.lemmas.List.Elements.{All-nil, All-push}
+use Rattle.std.proofs.lemmas.List.Elements.{All-push}
 use Rattle.perfdata_symbols.specs.declared.elf.symbols.ElfSymbol.{ElfSymbol}
 use Rattle.perfdata_symbols.specs.declared.elf.symbols.SymbolContext.{SymbolContext}
 use Rattle.perfdata_symbols.specs.declared.ranked.RankedSymbol.{RankedSymbol}
 use Rattle.perfdata_symbols.specs.Elf.{AddsEntries, IsOfEntry, IsRanked, elf_symbol_in}
 
 module _ (c : SymbolContext) (entries : List ℕ) (size : ℕ) where
-  pub adds_none : (old : List RankedSymbol) → AddsEntries c entries size old old
-  adds_none old = record { added = []; appended = sym (append-nil old); each = All-nil (IsOfEntry c entries size) }
-
   -- one more symbol
   pub adds_more : (old new : List RankedSymbol) (r : RankedSymbol) → AddsEntries c entries size old new → IsOfEntry c entries size r → AddsEntries c entries size old (new ++ r ∷ [])
   adds_more old new r adds is = record {

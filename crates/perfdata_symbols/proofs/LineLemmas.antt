@@ -3,7 +3,7 @@ use Rattle.std.proofs.Common.{◌≡◌, ℕ, ◌+◌, ◌-◌, ◌<◌, ◌≤�
 use Rattle.std.specs.Prelude.{All, Contains, slice_range}
 use Rattle.std.proofs.lemmas.Bool.{cases_lt}
 use Rattle.std.proofs.lemmas.List.{get_or_append_left, get_or_push, length_push, length-drop, length-take-le}
-use Rattle.std.proofs.lemmas.List.Elements.{All-nil, All-push, All-weaker, Contains-append_left, Contains-push}
+use Rattle.std.proofs.lemmas.List.Elements.{All-push, All-weaker, Contains-append_left, Contains-push}
 use Rattle.perfdata_symbols.specs.declared.symbol.Symbol.{Symbol}
 use Rattle.perfdata_symbols.specs.Lines.{AreSymbolsOfLines, IsInTextOrder, IsLine, IsSymbolOfLine}
 
@@ -66,16 +66,6 @@ module _ (IsSymbol : List ℕ → ℕ → Symbol → Type 0) (text : List ℕ) w
     pub before : All (λ s. s.name_start < at) symbols
     pub in_order : IsInTextOrder symbols
     pub every : (from to : ℕ) (s : Symbol) → IsLine text from to → from < at → IsSymbol (slice_range text from to) from s → Contains symbols s
-
-  pub lists_none : Lists 0 []
-  lists_none = record {
-    within = omega arith;
-    starts = λ some within. absurd (omega (arith, some));
-    each = All-nil (IsSymbolOfLine IsSymbol text);
-    before = All-nil (λ s. s.name_start < 0);
-    in_order = λ i j d lt within. absurd (omega (arith, within));
-    every = λ from to s line lt is. absurd (omega (arith, lt));
-  }
 
   -- a line that starts before the end of the next one is that line, or before it
   before_or_next : (at end from to : ℕ) → IsLine text at end → IsLine text from to → from < end + 1 → (from < at) ⊎ (from ≡ at)

@@ -1,43 +1,12 @@
 -- The symbol of cuts at an address: of one symbol, and by a search.
-use Rattle.std.proofs.Common.{◌≡◌, ℕ, ◌+◌, ◌-◌, ◌<◌, ◌≤◌, inl, inr, suc, zero, List, length, take, get_or, refl, sym, ap, ◌∙◌, arith, leb, Bool, true, false, Some, None}
-use Rattle.std.specs.Prelude.{if◌then◌else◌, nat_le, nat_lt, ◌&&◌}
+use Rattle.std.proofs.Common.{◌≡◌, ℕ, ◌+◌, ◌-◌, ◌<◌, ◌≤◌, suc, zero, List, length, take, get_or, sym, ap, ◌∙◌, arith, leb, true, false, None}
+use Rattle.std.specs.Prelude.{nat_le}
 use Rattle.std.specs.List.Sorted.{IsPartitionPoint}
-use Rattle.std.proofs.lemmas.Bool.{cases_lt, le-leb, lt-leb, lt-ltb, le-ltb, leb-true, ltb-true, and_parts, cond-true, cond-false, true≢false, false≢true, false_from_ne_true}
+use Rattle.std.proofs.lemmas.Bool.{cond-true, cond-false}
 use Rattle.std.proofs.lemmas.List.{take_all, get_or_default}
-use Rattle.perfdata_symbols.specs.Cuts.{covers, symbol_from}
+use Rattle.perfdata_symbols.specs.Cuts.{symbol_from}
 use Rattle.perfdata_symbols.specs.declared.cuts.Cut.{Cut}
 use Rattle.perfdata_symbols.proofs.OverlayLemmas.{symbol-more}
-
-inside : (a b c : Bool) (i : ℕ) → b ≡ false → c ≡ true → (if b then None else (if a then Some i else None)) ≡ (if a && c then Some i else None)
-inside a true c i h k = absurd (true≢false h)
-inside a false false i h k = absurd (false≢true k)
-inside true false true i h k = refl
-inside false false true i h k = refl
-
-outside : (a b c : Bool) (i : ℕ) → b ≡ true → c ≡ false → (if b then None else (if a then Some i else None)) ≡ (if a && c then Some i else None)
-outside a false c i h k = absurd (false≢true h)
-outside a true true i h k = absurd (true≢false k)
-outside true true false i h k = refl
-outside false true false i h k = refl
-
--- a cut at the start of a symbol and one at its end
-pub two_cuts : (start size i x : ℕ) → (if nat_le (start + size) x then None else (if nat_le start x then Some i else None)) ≡ (if covers start size x then Some i else None)
-two_cuts start size i x = elim (cases_lt x (start + size)) [
-  | inl before ↦ inside (nat_le start x) (nat_le (start + size) x) (nat_lt x (start + size)) i (lt-leb (start + size) x before) (lt-ltb x (start + size) before)
-  | inr after ↦ outside (nat_le start x) (nat_le (start + size) x) (nat_lt x (start + size)) i (le-leb (start + size) x after) (le-ltb x (start + size) after)
-]
-
--- a cut at the start of a symbol whose end is after the address
-pub one_cut : (start size i x : ℕ) → x < start + size → (if nat_le start x then Some i else None) ≡ (if covers start size x then Some i else None)
-one_cut start size i x before = inside (nat_le start x) false (nat_lt x (start + size)) i refl (lt-ltb x (start + size) before)
-
--- no cut for a symbol of size 0
-pub no_cut : (start i x : ℕ) → None ≡ (if covers start 0 x then Some i else None)
-no_cut start i x = sym (cond-false (covers start 0 x) (Some i) None (false_from_ne_true (covers start 0 x) (λ h.
-    let parts = and_parts (nat_le start x) (nat_lt x (start + 0)) h in
-    let low = leb-true start x parts.0 in
-    let high = ltb-true x (start + 0) parts.1 in
-    omega (arith, low, high))))
 
 none_cut : Cut
 none_cut = record { start = 0; symbol = None }

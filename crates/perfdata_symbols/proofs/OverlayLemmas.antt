@@ -3,9 +3,9 @@ use Rattle.std.proofs.Common.{◌≡◌, ℕ, ◌+◌, ◌-◌, ◌<◌, ◌≤�
 use Rattle.std.specs.Prelude.{if◌then◌else◌, nat_le, All}
 use Rattle.std.specs.List.Sorted.{IsNonDecreasingBy}
 use Rattle.std.proofs.lemmas.Bool.{leb-true, le-leb, cond-true}
-use Rattle.std.proofs.lemmas.List.{take_more, take_all, get_or_default}
-use Rattle.std.proofs.lemmas.List.Elements.{All-push, All-nil}
-use Rattle.std.proofs.lemmas.List.Sorted.{IsNonDecreasingBy-push, IsNonDecreasingBy-short}
+use Rattle.std.proofs.lemmas.List.{take_more, get_or_default}
+use Rattle.std.proofs.lemmas.List.Elements.{All-push}
+use Rattle.std.proofs.lemmas.List.Sorted.{IsNonDecreasingBy-push}
 use Rattle.perfdata_symbols.specs.Cuts.{later_of, symbol_from}
 use Rattle.perfdata_symbols.specs.Overlay.{TakesLower, TakesUpper}
 use Rattle.perfdata_symbols.specs.declared.cuts.Cut.{Cut}
@@ -43,20 +43,6 @@ chosen_upper : (b : Bool) (s out low up below out' up' : Option ℕ) → out' �
     → out ≡ later_of low up → (b ≡ true → low ≡ below) → out' ≡ later_of low up'
 chosen_upper true s out low up below out' up' e1 e2 e3 h = e1 ∙ sym (ap (λ l. later_of l s) (h refl)) ∙ sym (ap (λ u. later_of low u) e2)
 chosen_upper false s out low up below out' up' e1 e2 e3 h = e1 ∙ e3 ∙ sym (ap (λ u. later_of low u) e2)
-
--- nothing so far
-pub overlays_none : (lower upper : List Cut) → Overlays lower upper (record { lower_count = 0; upper_count = 0; start = 0; below = None; above = None }) []
-overlays_none lower upper = record {
-  in_lower = omega arith;
-  in_upper = omega arith;
-  next_lower = λ j d le lt. omega arith;
-  next_upper = λ j d le lt. omega arith;
-  below_is = λ x le. refl;
-  above_is = λ x le. refl;
-  sorted = IsNonDecreasingBy-short (λ c. c.start) [] (omega arith);
-  bounded = All-nil (λ c. c.start ≤ 0);
-  same = λ x. refl;
-}
 
 module _ (lower upper : List Cut) (f : Front) (out : List Cut) (up_lower : IsNonDecreasingBy (λ c. c.start) lower) (up_upper : IsNonDecreasingBy (λ c. c.start) upper) (o : Overlays lower upper f out) where
   -- one more cut of the lower list
@@ -117,11 +103,3 @@ module _ (lower upper : List Cut) (f : Front) (out : List Cut) (up_lower : IsNon
   pub overlays_upper : (new : Front) → TakesUpper lower upper f new → Overlays lower upper new (out ++ record { start = new.start; symbol = later_of new.below new.above } ∷ [])
   overlays_upper new t =
       subst (λ g. Overlays lower upper g (out ++ record { start = g.start; symbol = later_of g.below g.above } ∷ [])) (sym t.front) (upper_at t.cut t.some t.is_cut t.least)
-
--- all cuts
-pub overlays_all : (lower upper : List Cut) (f : Front) (out : List Cut) → Overlays lower upper f out → length lower ≤ f.lower_count → length upper ≤ f.upper_count
-    → (x : ℕ) → symbol_from None out x ≡ later_of (symbol_from None lower x) (symbol_from None upper x)
-overlays_all lower upper f out o no_lower no_upper x =
-    o.same x
-    ∙ ap (λ l. later_of (symbol_from None l x) (symbol_from None (take f.upper_count upper) x)) (take_all f.lower_count lower no_lower)
-    ∙ ap (λ u. later_of (symbol_from None lower x) (symbol_from None u x)) (take_all f.upper_count upper no_upper)

@@ -1,18 +1,13 @@
 -- Symbols of the entries of a procedure linkage table that are appended.
-use Rattle.std.proofs.Common.{◌≡◌, ℕ, ◌+◌, ◌%◌, ◌^◌, ◌<◌, List, [], ◌∷◌, ◌++◌, length, get_or, sym, ap, ◌∙◌, add-one, append-nil, append_assoc}
+use Rattle.std.proofs.Common.{◌≡◌, ℕ, ◌+◌, ◌%◌, ◌^◌, ◌<◌, List, [], ◌∷◌, ◌++◌, length, get_or, sym, ap, ◌∙◌, append-nil, append_assoc}
 use Rattle.std.proofs.lemmas.List.Elements.{All-nil, All-push}
 use Rattle.std.proofs.lemmas.Option.{slice_get-get_or}
 use Rattle.perfdata_symbols.specs.declared.elf.header.Section.{Section}
 use Rattle.perfdata_symbols.specs.declared.elf.plt.PltEntry.{PltEntry}
-use Rattle.perfdata_symbols.specs.declared.elf.plt.PltLayout.{PltLayout}
 use Rattle.perfdata_symbols.specs.declared.elf.plt.Relocation.{Relocation}
 use Rattle.perfdata_symbols.specs.declared.ranked.RankedSymbol.{RankedSymbol}
 use Rattle.perfdata_symbols.specs.declared.ranked.RankedSymbols.{RankedSymbols}
-use Rattle.perfdata_symbols.specs.Plt.{AddsPlt, IsMade, IsOfPlt, fixed_entries, fixed_entry}
-
--- one more entry of a layout
-pub fixed_more : (layout : PltLayout) (n : ℕ) (xs : List PltEntry) → xs ≡ fixed_entries layout n → xs ++ fixed_entry layout n ∷ [] ≡ fixed_entries layout (n + 1)
-fixed_more layout n xs h = rw add-one (ap (λ ys. ys ++ fixed_entry layout n ∷ []) h)
+use Rattle.perfdata_symbols.specs.Plt.{AddsPlt, IsMade, IsOfPlt}
 
 module _ (section : Section) (entries : List PltEntry) (relocations : List Relocation) (old : RankedSymbols) where
   pub plt_none : AddsPlt section entries relocations old old

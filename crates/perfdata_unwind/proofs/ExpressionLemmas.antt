@@ -1,32 +1,19 @@
 -- Where LEB128 numbers end, and how runs end.
-use Rattle.std.proofs.Common.{◌≡◌, ℕ, ◌-◌, ◌<◌, ◌≤◌, List, [], ◌∷◌, length, take, drop, length-drop, subst, Result, Ok, Err, refl, sym, ap, ◌∙◌, inl, ⊎_elim, arith}
-use Rattle.std.proofs.lemmas.Bool.{cases_lt}
+use Rattle.std.proofs.Common.{◌≡◌, ℕ, ◌-◌, ◌<◌, List, [], ◌∷◌, length, take, drop, length-drop, subst, Result, Ok, Err, refl, sym, ap, ◌∙◌, inl, arith}
 use Rattle.std.proofs.lemmas.List.{take_all}
-use Rattle.std.specs.Prelude.{slice_index, IfOk, IfErr}
-use Rattle.perfdata_cfi.specs.Numbers.{IsLeb128, Uleb128At}
+use Rattle.std.specs.Prelude.{IfOk, IfErr}
+use Rattle.perfdata_cfi.specs.Numbers.{Uleb128At}
 use Rattle.perfdata_unwind.specs.Expressions.{Context, Moment, NextAt, EndsWith, Spends}
 use Rattle.perfdata_unwind.specs.Operations.{OperationAt}
 use Rattle.perfdata_unwind.specs.Values.{Leaves}
 use Rattle.perfdata_unwind.specs.declared.expression.ExpressionError.{ExpressionError}
 use Rattle.perfdata_unwind.specs.declared.expression.ExpressionError.TheVariants as errors
 use Rattle.perfdata_unwind.specs.declared.operation.Operation.{Operation}
-
-leb128_end : (bytes : List ℕ) (s t : ℕ) → IsLeb128 s bytes → IsLeb128 t bytes → s < t → ⊥
-leb128_end bytes s t p q less =
-    let some = p.some in
-    let ends = p.ends in
-    let more = q.continues (s - 1) (omega (arith, less, some)) in
-    omega (arith, more, ends)
-
-pub leb128_size : (bytes : List ℕ) (s t : ℕ) → IsLeb128 s bytes → IsLeb128 t bytes → s ≡ t
-leb128_size bytes s t p q =
-    let low : t ≤ s = ⊎_elim (λ less. absurd (leb128_end bytes s t p q less)) (λ le. le) (cases_lt s t) in
-    let high : s ≤ t = ⊎_elim (λ less. absurd (leb128_end bytes t s q p less)) (λ le. le) (cases_lt t s) in
-    omega (arith, low, high)
+use Rattle.perfdata_cfi.proofs.UniqueNumbers.{leb128_size_same}
 
 pub uleb128_rest : (bytes : List ℕ) (m n : ℕ) (left right : List ℕ) → Uleb128At bytes m left → Uleb128At bytes n right → left ≡ right
 uleb128_rest bytes m n left right p q =
-    p.after ∙ ap (λ k. drop k bytes) (leb128_size bytes p.size q.size p.encoded q.encoded) ∙ sym q.after
+    p.after ∙ ap (λ k. drop k bytes) (leb128_size_same bytes p.size q.size p.encoded q.encoded) ∙ sym q.after
 
 -- the bytes from an offset on
 pub bytes_from : (bytes : List ℕ) (k : ℕ) → take (length bytes - k) (drop k bytes) ≡ drop k bytes

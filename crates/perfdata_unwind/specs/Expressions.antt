@@ -1,5 +1,5 @@
 -- The run of an expression (DWARF 5, section 2.5.1).
-use Rattle.std.specs.Prelude.{◌≡◌, ◌⊎◌, ℕ, ◌+◌, ◌%◌, ◌^◌, ◌<◌, ◌≤◌, List, [], ◌∷◌, length, drop, Option, Some, None, Result, Ok, Err}
+use Rattle.std.specs.Prelude.{◌≡◌, ◌⊎◌, ℕ, ◌+◌, ◌%◌, ◌^◌, ◌<◌, ◌≤◌, List, [], ◌∷◌, length, drop, Option, Result, Ok, Err}
 use Rattle.perfdata_unwind.specs.Operations.{OperationAt, NoOperation}
 use Rattle.perfdata_unwind.specs.Values.{stack_of, first_values, effect, distance_of}
 use Rattle.perfdata_unwind.specs.declared.registers.Registers.{Registers}

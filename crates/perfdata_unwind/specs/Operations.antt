@@ -1,5 +1,5 @@
 -- The operations of expressions, as they are in bytes (DWARF 5, sections 2.5.1 and 7.7.1).
-use Rattle.std.specs.Prelude.{◌≡◌, ◌⊎◌, ℕ, ◌+◌, ◌-◌, ◌/◌, ◌%◌, ◌^◌, ◌<◌, ◌≤◌, ◌==◌, ◌&&◌, List, ◌∷◌, ℤ, Option, Some, None, if◌then◌else◌, nat_lt, nat_le, FitsSigned}
+use Rattle.std.specs.Prelude.{◌≡◌, ℕ, ◌+◌, ◌-◌, ◌/◌, ◌%◌, ◌^◌, ◌<◌, ◌==◌, ◌&&◌, List, ◌∷◌, ℤ, Option, Some, None, if◌then◌else◌, nat_lt, nat_le, FitsSigned}
 use Rattle.std.specs.Option.{option_or, option_map}
 use Rattle.std.specs.Int.{cast_unsigned, w64}
 use Rattle.perfdata_cfi.specs.Numbers.{FixedAt, Uleb128At, Sleb128At}

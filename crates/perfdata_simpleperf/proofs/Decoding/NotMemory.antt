@@ -9,18 +9,10 @@ use Rattle.perfdata_simpleperf.specs.declared.protobuf.field.FieldType.{FieldTyp
 use Rattle.perfdata_simpleperf.specs.declared.protobuf.field.FieldType.TheVariants as field_types
 use Rattle.perfdata_simpleperf.specs.declared.protobuf.wire.WireType.{WireType}
 use Rattle.perfdata_simpleperf.specs.declared.protobuf.wire.WireType.TheVariants as wires
-use Rattle.perfdata_simpleperf.specs.Protobuf.WireFormat.{Contents, number, bytes, skipped, ValueError}
+use Rattle.perfdata_simpleperf.specs.Protobuf.WireFormat.{Contents, bytes}
 use Rattle.perfdata_simpleperf.specs.Protobuf.Groups.{SkipItemError, GroupError}
 use Rattle.perfdata_simpleperf.specs.Protobuf.Fields.{ContentsReadError, AfterKeyError, FieldError}
 use Rattle.perfdata_simpleperf.specs.Protobuf.Messages.{NoNestedMessageError, IsInvalidContents, LeafError, FileMessageError, FileNeedsMemory}
-
-value_error : (wire : WireType) (bs : List ℕ) → ValueError wire bs errors.Memory → ⊥
-value_error wires.Varint bs e = e
-value_error wires.Fixed64 bs e = e
-value_error wires.Fixed32 bs e = e
-value_error wires.LengthDelimited bs e = e
-value_error wires.StartGroup bs e = e
-value_error wires.EndGroup bs e = e
 
 skip_error : (wire : WireType) (n : ℕ) (open_groups bs : List ℕ) → SkipItemError wire n open_groups bs errors.Memory → ⊥
 skip_error wires.Varint n open_groups bs e = e

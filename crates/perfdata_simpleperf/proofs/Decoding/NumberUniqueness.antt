@@ -1,5 +1,5 @@
 -- A number, a key and a value at the start of bytes can be decoded in at most one way.
-use Rattle.std.proofs.Common.{◌≡◌, ℕ, suc, ◌+◌, ◌*◌, ◌^◌, ◌<◌, ◌≤◌, ◌⊎◌, inl, inr, List, [], ◌∷◌, ◌++◌, length, refl, ap, sym, ◌∙◌, subst, arith, length-append}
+use Rattle.std.proofs.Common.{◌≡◌, ℕ, suc, ◌+◌, ◌*◌, ◌^◌, ◌<◌, ◌≤◌, List, [], ◌∷◌, ◌++◌, length, refl, ap, sym, ◌∙◌, subst, arith, length-append}
 use Rattle.std.specs.List.{AllByRecursion}
 use Rattle.std.proofs.lemmas.Nat.{pow-add}
 use Rattle.perfdata_sections.specs.declared.decode_error.DecodeError.{DecodeError}
@@ -81,43 +81,3 @@ number_error bs _ _ p q = absurd p
 
 pub number_is_unique : (bs : List ℕ) → IsUnique ℕ (NumberAt bs) (NumberError bs)
 number_is_unique bs = record { value = number_same bs; not_both = number_not_both bs; error = number_error bs }
-
--- ---- consecutive parts
-
-pub record Both (X Y : Type 0) (A : X → List ℕ → Type 0) (B : X → List ℕ → Y → List ℕ → Type 0) (y : Y) (rest : List ℕ) : Type 0 where
-  pub first : X
-  pub mid : List ℕ
-  pub at : A first mid
-  pub second : B first mid y rest
-
-pub record SecondError (X : Type 0) (A : X → List ℕ → Type 0) (F : X → List ℕ → DecodeError → Type 0) (e : DecodeError) : Type 0 where
-  pub first : X
-  pub mid : List ℕ
-  pub at : A first mid
-  pub second : F first mid e
-
-module _ (X Y : Type 0) (A : X → List ℕ → Type 0) (FA : DecodeError → Type 0) (B : X → List ℕ → Y → List ℕ → Type 0) (FB : X → List ℕ → DecodeError → Type 0) (one : IsUnique X A FA) (ones : (x : X) (mid : List ℕ) → IsUnique Y (B x mid) (FB x mid)) where
-  both_value : (x y : Y) (r s : List ℕ) → Both X Y A B x r → Both X Y A B y s → (x ≡ y) × (r ≡ s)
-  both_value x y r s p q =
-      let e = one.value p.first q.first p.mid q.mid p.at q.at in
-      let moved : B q.first q.mid x r = subst (λ (m : List ℕ). B q.first m x r) e.1 (subst (λ (z : X). B z p.mid x r) e.0 p.second) in
-      (ones q.first q.mid).value x y r s moved q.second
-
-  both_not_both : (x : Y) (r : List ℕ) (e : DecodeError) → Both X Y A B x r → FA e ⊎ SecondError X A FB e → ⊥
-  both_not_both x r e p (inl f) = one.not_both p.first p.mid e p.at f
-  both_not_both x r e p (inr q) =
-      let s = one.value p.first q.first p.mid q.mid p.at q.at in
-      let moved : B q.first q.mid x r = subst (λ (m : List ℕ). B q.first m x r) s.1 (subst (λ (z : X). B z p.mid x r) s.0 p.second) in
-      (ones q.first q.mid).not_both x r e moved q.second
-
-  both_error : (e f : DecodeError) → FA e ⊎ SecondError X A FB e → FA f ⊎ SecondError X A FB f → e ≡ f
-  both_error e f (inl p) (inl q) = one.error e f p q
-  both_error e f (inl p) (inr q) = absurd (one.not_both q.first q.mid e q.at p)
-  both_error e f (inr p) (inl q) = absurd (one.not_both p.first p.mid f p.at q)
-  both_error e f (inr p) (inr q) =
-      let s = one.value p.first q.first p.mid q.mid p.at q.at in
-      let moved : FB q.first q.mid e = subst (λ (m : List ℕ). FB q.first m e) s.1 (subst (λ (z : X). FB z p.mid e) s.0 p.second) in
-      (ones q.first q.mid).error e f moved q.second
-
-  pub both_is_unique : IsUnique Y (Both X Y A B) (λ e. FA e ⊎ SecondError X A FB e)
-  both_is_unique = record { value = both_value; not_both = both_not_both; error = both_error }

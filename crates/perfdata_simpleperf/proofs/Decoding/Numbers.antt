@@ -6,7 +6,7 @@ use Rattle.std.proofs.lemmas.Nat.{pow-add}
 use Rattle.std.proofs.Math.Nat.{pow-le-pow_right, one-le-pow}
 use Rattle.perfdata_sections.specs.declared.decode_error.DecodeError.{DecodeError}
 use Rattle.perfdata_sections.specs.declared.decode_error.DecodeError.TheVariants as errors
-use Rattle.perfdata_simpleperf.specs.Protobuf.WireFormat.{IsVarint, VarintAt, VarintError, OverlongVarint}
+use Rattle.perfdata_simpleperf.specs.Protobuf.WireFormat.{IsVarint, VarintAt, VarintError}
 
 -- the pattern [byte, rest @ ..]
 pub first_and_rest : (bytes : List ℕ) → 1 ≤ length bytes → bytes ≡ get_or bytes 0 0 ∷ take (length bytes - 1) (drop 1 bytes)
@@ -68,9 +68,6 @@ pub read_error : (most : ℕ) (bytes : List ℕ) (e : DecodeError) → 2 ≤ mos
 read_error most bytes e le long continues f =
     let is = first_and_rest bytes long in
     subst (λ (x : List ℕ). VarintError most x e) (sym is) (varint_error_more most (get_or bytes 0 0) (take (length bytes - 1) (drop 1 bytes)) e le continues f)
-
-pub read_long : (bytes : List ℕ) (most : ℕ) → most ≡ 1 → 1 ≤ length bytes → 1 < get_or bytes 0 0 → OverlongVarint most bytes
-read_long bytes most one long high = record { prefix = []; last = get_or bytes 0 0; rest = take (length bytes - 1) (drop 1 bytes); all_continue = tt; at_limit = omega (arith, one); exceeds_one = high; split = first_and_rest bytes long }
 
 -- the value fits into 64 bits, hence the sums do
 pub high_fits : (most high : ℕ) → 2 ≤ most → most ≤ 10 → high < 2 * 128 ^ (most - 1 - 1) → 128 * high + 128 ≤ 2 ^ 64

@@ -4,8 +4,9 @@ use Rattle.linux_perf_data.specs.InMemoryReading.{first_record_offset_of}
 use Rattle.linux_perf_data.specs.RecordEntries.{record_entries_at, record_entry_at}
 use Rattle.linux_perf_data.specs.RecordViews.{record_view_of}
 use Rattle.perfdata_arrays.specs.Overwrites.{with_prefix_from}
-use Rattle.perfdata_arrays.proofs.WalkLemmas.{count-fits, offset-after, read_more, read_next, read_none}
+use Rattle.perfdata_arrays.proofs.WalkLemmas.{count-fits, read_more, read_next, read_none}
 use Rattle.perfdata_arrays.proofs.records.walk.Goals as goal
+use Rattle.linux_perf_data.proofs.InMemoryReadings.{offset_after}
 
 pub records-init : goal.records-init
 records-init c = record { so_far = read_none c.args.input.now c.args.perf_file.now c.args.start c.args.entries.now }
@@ -54,7 +55,7 @@ overflow_add-count c =
     let middle = c.read_more_entries-count.new.input in
     let file = c.records.perf_file in
     let below = c.records.invariant.so_far.count_below_offset in
-    let past = offset-after c.records.input middle file file more.records (more.returned file) in
+    let past = offset_after c.records.input middle file file more.records (more.returned file) in
     let added = more.more_is in
     let fits = count-fits c.records.input middle file file more.records c.records.count (more.returned file) (omega arith) (omega (arith, below, past)) in
     omega (arith, fits, added)
@@ -71,7 +72,7 @@ overflow_add-count-in-Ok-Some c =
 pub records-smaller : goal.records-smaller
 records-smaller c =
     let more = c.read_more_entries-count.ensures in
-    let past = offset-after c.records.input c.read_more_entries-count.new.input c.records.perf_file c.records.perf_file more.records (more.returned c.records.perf_file) in
+    let past = offset_after c.records.input c.read_more_entries-count.new.input c.records.perf_file c.records.perf_file more.records (more.returned c.records.perf_file) in
     let step = rw (c.in-Ok-Some.is ∙ ap Ok c.in-Ok-Some.field-0-is) at c.next_record.ensures.returns_next in
     let moved = step.returns.offset in
     let at = step.returns.record_offset in

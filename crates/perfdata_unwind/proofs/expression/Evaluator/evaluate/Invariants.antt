@@ -1,5 +1,5 @@
 use Rattle.std.proofs.Common.{ℕ, ◌-◌, ◌≤◌, length, Result}
-use Rattle.perfdata_unwind.specs.Expressions.{Context, moment_at, remaining_of, RunsFrom, Evaluates}
+use Rattle.perfdata_unwind.specs.Expressions.{moment_at, remaining_of, RunsFrom, Evaluates}
 use Rattle.perfdata_unwind.specs.declared.expression.ExpressionError.{ExpressionError}
 use Rattle.perfdata_unwind.proofs.expression.Evaluator.evaluate.Given as goal
 

@@ -1,6 +1,6 @@
 use Rattle.perfdata_profile.specs.Names.{names_of, number_of}
-use Rattle.perffold.proofs.Elements.{at_kept}
 use Rattle.perffold.proofs.resolver.FrameResolverResolver.file.Goals as goal
+use Rattle.perfdata_profile.proofs.Growing.{at_kept}
 
 pub returns-clause-named : goal.returns-clause-named
 returns-clause-named c =
