@@ -1,6 +1,6 @@
 -- The registers of a caller by the rules of a row (DWARF 5, section 6.4.1). Each part says how many operations of expressions are left
 -- before and after it.
-use Rattle.std.specs.Prelude.{◌≡◌, ◌⊎◌, ℕ, zero, suc, ◌+◌, ◌%◌, ◌^◌, ◌<◌, ◌==◌, ◌||◌, List, length, Bool, true, false, Option, Some, None, Result, Ok, Err, if◌then◌else◌, nat_lt, nat_le, slice_range}
+use Rattle.std.specs.Prelude.{◌≡◌, ◌⊎◌, ℕ, zero, suc, ◌+◌, ◌%◌, ◌^◌, ◌<◌, ◌==◌, ◌&&◌, ◌||◌, List, length, Bool, true, false, Option, Some, None, Result, Ok, Err, if◌then◌else◌, nat_lt, nat_le, slice_range}
 use Rattle.perfdata_cfi.specs.FrameTables.{bytes_of}
 use Rattle.perfdata_cfi.specs.Rows.{rule_at}
 use Rattle.perfdata_cfi.specs.declared.numbers.Span.{Span}
@@ -56,10 +56,18 @@ CfaIs f cfas.Undefined k result n = (result ≡ Err ends.BadCfi) × (n ≡ k)
 CfaIs f (cfas.Register register offset) k result n = (result ≡ plus_offset (register_of f.registers.now register) offset) × (n ≡ k)
 CfaIs f (cfas.Expression span) k result n = ExpressionIs f span None k result n
 
--- the word that a register is stored in. Below the stack pointer it is popped already, or not stored yet: the register has its own value
+-- below the stack pointer a stored word is popped already, or not stored yet
 abbrev pub is_popped : Option ℕ → ℕ → Bool
 is_popped None address = false
 is_popped (Some top) address = nat_lt address top
+
+-- whether a register has its own value where the word that it is stored in is popped. The return address and the stack pointer don't, since they
+-- would be the frame's own again; x30 of AArch64 does in a frame that was interrupted, since an epilogue loads it before it returns
+abbrev pub keeps_popped : Machine → Bool → ℕ → Bool → Bool
+keeps_popped m is_exact register false = true
+keeps_popped machines.X86_64 is_exact register true = false
+keeps_popped machines.AArch64 false register true = false
+keeps_popped machines.AArch64 true register true = register == 30
 
 -- without the return address and the stack pointer there is no caller
 abbrev pub found_word : Bool → Option ℕ → Result (Option ℕ) ChainEnd
@@ -67,9 +75,11 @@ found_word needed (Some word) = Ok (Some word)
 found_word true None = Err ends.Truncated
 found_word false None = Ok None
 
+-- the value of a register that is stored at an address
 abbrev pub stored_value : Callee → ℕ → Bool → ℕ → Result (Option ℕ) ChainEnd
 stored_value f register needed address =
-    (if is_popped (register_of f.registers.now (stack_pointer f.machine)) address then Ok (register_of f.registers.now register)
+    (if is_popped (register_of f.registers.now (stack_pointer f.machine)) address && keeps_popped f.machine f.is_exact register needed
+    then Ok (register_of f.registers.now register)
     else found_word needed (word_of f.copy address 8))
 
 abbrev pub stored_value_at : Callee → ℕ → Bool → Result ℕ ChainEnd → Result (Option ℕ) ChainEnd

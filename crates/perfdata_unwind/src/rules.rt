@@ -11,6 +11,7 @@ ghost use Rattle.perfdata_unwind.specs.Rules.{is_needed as needed};
 ghost use Rattle.perfdata_unwind.specs.Rules.{RegisterIs, SetsRegister, rule_of as rule_in};
 ghost use Rattle.perfdata_unwind.specs.Rules.{return_address_of as return_address};
 ghost use Rattle.perfdata_unwind.specs.Rules.{link_register as link, is_popped as popped};
+ghost use Rattle.perfdata_unwind.specs.Rules.{keeps_popped as keeps};
 ghost use Rattle.perfdata_unwind.specs.Stacks.{register_of};
 
 use crate::copy::StackCopy;
@@ -115,8 +116,23 @@ fn is_popped(callee: &Callee<'_>, address: u64) -> bool
     }
 }
 
+// Whether a register has its own value where the word that it is stored in is popped. The return address and
+// the stack pointer don't, since they would be the frame's own again. x30 of AArch64 does in a frame that was
+// interrupted: an epilogue loads it before it returns.
+fn keeps_popped(callee: &Callee<'_>, register: u64, is_needed: bool) -> bool
+    ensures { result ≡ keeps callee.now.machine callee.now.is_exact register is_needed }
+{
+    if !is_needed {
+        return true;
+    }
+    match callee.machine {
+        Machine::X86_64 => false,
+        Machine::AArch64 => callee.is_exact && register == LINK_REGISTER,
+    }
+}
+
 // The value of a register that is stored at an address. A word below the stack pointer is popped already, or
-// not stored yet: the register has its value. `is_needed` says that the chain ends without the value.
+// not stored yet. `is_needed` says that the chain ends without the value.
 fn stored_value(
     callee: &Callee<'_>,
     register: u64,
@@ -125,7 +141,7 @@ fn stored_value(
 ) -> Result<Option<u64>, ChainEnd>
     ensures { result ≡ stored callee.now register is_needed address }
 {
-    if is_popped(callee, address) {
+    if is_popped(callee, address) && keeps_popped(callee, register, is_needed) {
         return Ok(callee.registers.get(register));
     }
     match callee.copy.word(address, 8) {
