@@ -22,7 +22,7 @@ mod source_steps;
 mod text;
 mod values;
 
-pub use case::{Case, number_of, size_of, split_argument, split_count, u32_of};
+pub use case::{Case, parse_number, parse_size, split_argument, split_count, to_u32};
 pub use case_error::{CaseError, CaseResult};
 pub use outcome::Call;
 pub use runner::run;

@@ -2,11 +2,11 @@
 ghost use Rattle.std.specs.Prelude.{◌≡◌, ◌<◌, length};
 ghost use Rattle.linux_perf_data.specs.RecordEntries.{with_prefix};
 ghost use Rattle.perfdata_arrays.specs.declared.status.Status.TheVariants.{Success};
-ghost use Rattle.perfdata_demangle.specs.Prefix.{IsMangled};
+ghost use Rattle.demangle.specs.Prefix.{IsMangled};
 ghost use Rattle.dewikura.specs.Demangling.{Demangles};
 
+use demangle::{Demangler, Style};
 use perfdata_arrays::status::Status;
-use perfdata_demangle::{Demangler, Style};
 use std::alloc::Global;
 
 // The size of the text of a name and the status of the call.

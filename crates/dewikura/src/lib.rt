@@ -1,4 +1,4 @@
-//! C exports of the calls of `perfdata_arrays`, `perfdata_stack_arrays` and `perfdata_demangle`;
+//! C exports of the calls of `perfdata_arrays`, `perfdata_stack_arrays` and `demangle`;
 //! `include/dewikura.h` declares them.
 //!
 //! The names end in `_raw` where a call takes pointers: no pointer may be NULL. The functions of the header
@@ -30,13 +30,14 @@ ghost use Rattle.perfdata_arrays.specs.Status.{IsCodeOf, code_text};
 ghost use Rattle.perfdata_arrays.specs.Strings.{ReadsString};
 ghost use Rattle.perfdata_arrays.specs.SymbolTables.{ReadsSymbolTables};
 ghost use Rattle.perfdata_arrays.specs.Tasks.{ReadsPipeTasks, ReadsTaskPage};
-ghost use Rattle.perfdata_demangle.specs.Prefix.{IsMangled};
+ghost use Rattle.demangle.specs.Prefix.{IsMangled};
 ghost use Rattle.perfdata_stack_arrays.specs.Reading.{ReadsFileStacks, ReadsPipeStacks};
 ghost use Rattle.dewikura.specs.Demangling.{Demangles};
 ghost use Rattle.dewikura.specs.Numbers.{endian_from, number_of_bool, IsNumberOfKind};
 
 mod demangling;
 
+use demangle::Style;
 use linux_perf_data::Endianness;
 use linux_perf_data::in_memory::entries::RecordEntry;
 use linux_perf_data::in_memory::position::RecordPosition;
@@ -61,7 +62,6 @@ use perfdata_arrays::{
     attrs, build_ids, byte_order, counters, feature_set, features, jit, jit_bodies, jit_debug,
     mappings, meta_info, records, samples, sort, status, strings, symbol_tables, tasks,
 };
-use perfdata_demangle::Style;
 use perfdata_stack_arrays::frame::StackFrame;
 use perfdata_stack_arrays::mapping::StackMapping;
 use perfdata_stack_arrays::stack::Stack;
@@ -74,7 +74,7 @@ use std::alloc::Global;
 const VERSION: u32 = 100;
 
 // The byte order is little-endian for 0 and big-endian for all other values.
-fn endian_of(is_big_endian: u32) -> Endianness
+fn endian_from_flag(is_big_endian: u32) -> Endianness
     ensures { result ≡ endian_from is_big_endian }
 {
     if is_big_endian == 0 {
@@ -85,7 +85,7 @@ fn endian_of(is_big_endian: u32) -> Endianness
 }
 
 // The style of texts is that of names for 0, and that of signatures for all other values.
-fn style_of(style: u32) -> Style {
+fn style_from_number(style: u32) -> Style {
     if style == 0 {
         Style::Name
     } else {
@@ -219,7 +219,7 @@ pub extern "C" fn dewikura_read_sample_details_raw(
     ensures { IsCodeOf result (λ s. ReadsDetails (format_of_attr (endian_from is_big_endian) attr.now)
         body.now details.old s details.new) }
 {
-    details::read_details(endian_of(is_big_endian), attr, body, details).code()
+    details::read_details(endian_from_flag(is_big_endian), attr, body, details).code()
 }
 
 /// Reads the records on tasks of a perf.data file from a cursor on, as `tasks::file_tasks` does.
@@ -476,7 +476,7 @@ pub extern "C" fn dewikura_read_pipe_feature_raw(
     outcome.status.code()
 }
 
-/// Reads an entry of a BUILD_ID section, as `build_ids::build_id_at` does.
+/// Reads an entry of a BUILD_ID section, as `build_ids::read_build_id` does.
 #[unsafe(no_mangle)]
 pub extern "C" fn dewikura_read_build_id_raw(
     alloc: Global,
@@ -488,10 +488,17 @@ pub extern "C" fn dewikura_read_build_id_raw(
     ensures { IsCodeOf result (λ s. ReadsBuildId
         (endian_from is_big_endian) section.now offset entry.old s entry.new) }
 {
-    build_ids::build_id_at(alloc, endian_of(is_big_endian), section, offset, entry).code()
+    build_ids::read_build_id(
+        alloc,
+        endian_from_flag(is_big_endian),
+        section,
+        offset,
+        entry,
+    )
+    .code()
 }
 
-/// Reads a string of a feature section, as `strings::string_at` does.
+/// Reads a string of a feature section, as `strings::find_string` does.
 #[unsafe(no_mangle)]
 pub extern "C" fn dewikura_read_string_raw(
     section: &[u8],
@@ -502,7 +509,7 @@ pub extern "C" fn dewikura_read_string_raw(
     ensures { IsCodeOf result (λ s. ReadsString
         (endian_from is_big_endian) section.now offset entry.old s entry.new) }
 {
-    strings::string_at(endian_of(is_big_endian), section, offset, entry).code()
+    strings::find_string(endian_from_flag(is_big_endian), section, offset, entry).code()
 }
 
 /// Reads the pairs of simpleperf's meta info, as `meta_info::meta_info` does.
@@ -538,7 +545,7 @@ pub extern "C" fn dewikura_read_symbol_tables_raw(
         (record { totals = totals.new; status = s })
         (record { files = files.new; symbols = symbols.new; names = names.new; offsets = offsets.new })) }
 {
-    let endian = endian_of(is_big_endian);
+    let endian = endian_from_flag(is_big_endian);
     let outcome = symbol_tables::symbol_tables(
         alloc, feature, endian, section, files, symbols, names, offsets,
     );
@@ -633,7 +640,7 @@ pub extern "C" fn dewikura_demangle_raw(
     ensures mangled { (¬ IsMangled name.now) → (size.new ≡ 0) × (result ≡ 0) }
     ensures long { 16384 < length name.now → (size.new ≡ 0) × (result ≡ 0) }
 {
-    let outcome = demangling::demangle(alloc, name, style_of(style), text);
+    let outcome = demangling::demangle(alloc, name, style_from_number(style), text);
     *size = outcome.size;
     outcome.status.code()
 }

@@ -1,7 +1,7 @@
 //! Writes the text of each mangled name in standard input, one a line. Other lines stay as they are.
 #![tactic(auto)]
 
-use perfdata_demangle::{Demangler, Style};
+use demangle::{Demangler, Style};
 use std::alloc::Global;
 use std::env;
 use std::io::{BufWriter, Read, Write};

@@ -19,7 +19,7 @@ pub fn offset_in_file(
         spaces.apply(*misc, record)?;
     }
     let mapping = spaces.find(pid, address, CallContext::User);
-    Ok(mapping.map(|mapping| mapping.offset_of(address)))
+    Ok(mapping.map(|mapping| mapping.file_offset(address)))
 }
 
 /// A record of process 7, which maps a page of code.

@@ -1,7 +1,7 @@
 //! A table with one symbol.
 
-use perfdata_symbols::symbol::Symbol;
-use perfdata_symbols::table::SymbolTable;
+use code_symbols::symbol::Symbol;
+use code_symbols::table::SymbolTable;
 use std::alloc::{AllocError, Global};
 
 /// Returns whether an address is in a function `main` of 32 bytes at 0x1000.

@@ -8,7 +8,7 @@
 //! Lines that begin with `#` are comments. Numbers are hexadecimal, but for those of registers and counts.
 #![tactic(auto)]
 
-use perfdata_unwind::{Evaluator, Registers, StackCopy};
+use code_unwind::{Evaluator, FrameRegisters, StackCopy};
 use std::alloc::Global;
 use std::io;
 use std::str::SplitWhitespace;
@@ -16,7 +16,7 @@ use std::str::SplitWhitespace;
 // What the lines say so far.
 #[derive(Drop)]
 struct State {
-    registers: Registers,
+    registers: FrameRegisters,
     address: u64,
     stack: Vec<u8>,
     evaluator: Evaluator,
@@ -28,8 +28,8 @@ fn number_of(word: &str) -> u64 {
 }
 
 // The registers that words say.
-fn registers_of(words: SplitWhitespace<'_>) -> Registers {
-    let mut registers = Registers::new();
+fn registers_of(words: SplitWhitespace<'_>) -> FrameRegisters {
+    let mut registers = FrameRegisters::new();
     for word in words {
         if let Some((number, value)) = word.split_once("=") {
             registers.set(number.parse::<u64>().unwrap_or(0), Some(number_of(value)));
@@ -107,7 +107,7 @@ fn run_line(rt: &HostRuntime, state: &mut State, line: &str) -> anyhow::Result<(
 fn main(rt: HostRuntime) -> anyhow::Result<()> {
     let text = io::read_to_string(rt.alloc(), rt.stdin())?;
     let mut state = State {
-        registers: Registers::new(),
+        registers: FrameRegisters::new(),
         address: 0,
         stack: Vec::new(rt.alloc()),
         evaluator: Evaluator::new(),

@@ -6,7 +6,7 @@
 //! `debug_frame` is the other section, `aarch64` the other machine. Numbers are hexadecimal.
 #![tactic(auto)]
 
-use perfdata_cfi::{Cfa, FoundRow, FrameSection, FrameTable, Machine, REGISTER_COUNT, Rule};
+use code_cfi::{Cfa, FrameSection, FrameTable, Machine, REGISTER_COUNT, RowAtAddress, Rule};
 use std::alloc::Global;
 use std::io;
 
@@ -64,7 +64,7 @@ fn cfa_text(alloc: Global, table: &FrameTable, cfa: Cfa) -> anyhow::Result<Strin
         Cfa::Expression(span) => {
             format!(in alloc;
                 "exp({})",
-                hex_text(alloc, table.bytes_at(span).unwrap_or(&[]))?
+                hex_text(alloc, table.byte_slice(span).unwrap_or(&[]))?
             )?
         }
     })
@@ -81,13 +81,13 @@ fn rule_text(alloc: Global, table: &FrameTable, rule: Rule) -> anyhow::Result<St
         Rule::Expression(span) => {
             format!(in alloc;
                 "exp({})",
-                hex_text(alloc, table.bytes_at(span).unwrap_or(&[]))?
+                hex_text(alloc, table.byte_slice(span).unwrap_or(&[]))?
             )?
         }
         Rule::ValueExpression(span) => {
             format!(in alloc;
                 "vexp({})",
-                hex_text(alloc, table.bytes_at(span).unwrap_or(&[]))?
+                hex_text(alloc, table.byte_slice(span).unwrap_or(&[]))?
             )?
         }
     })
@@ -97,7 +97,7 @@ fn print_row(
     rt: &HostRuntime,
     table: &FrameTable,
     address: u64,
-    found: &FoundRow,
+    found: &RowAtAddress,
 ) -> anyhow::Result<()> {
     let cfa = cfa_text(rt.alloc(), table, found.row.cfa())?;
     print!(rt; "{:x}: cfa={}", address, cfa)?;

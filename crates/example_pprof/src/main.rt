@@ -3,8 +3,8 @@
 #![tactic(auto)]
 
 use indexmap::IndexSet;
-use perfdata_pprof::encode::encode;
-use perfdata_pprof::profile::{Function, Location, Profile, Sample, ValueType};
+use pprof::encode::encode;
+use pprof::profile::{Function, Location, Profile, Sample, ValueType};
 use std::alloc::{AllocError, Global};
 use std::io::{BufWriter, Read, Write};
 

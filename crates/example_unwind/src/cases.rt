@@ -1,8 +1,8 @@
 //! Cases: what is mapped, and a copy of a stack.
 
 use crate::map::{FileMap, Mapping, Range};
-use perfdata_cfi::{FrameSection, FrameTable};
-use perfdata_unwind::{FileTables, FrameOrigin, Machine, Registers, StackCopy, Unwinder};
+use code_cfi::{FrameSection, FrameTable};
+use code_unwind::{FileTables, FrameOrigin, FrameRegisters, Machine, StackCopy, Unwinder};
 use std::alloc::{AllocError, Global};
 
 // Bytes at an address.
@@ -68,8 +68,8 @@ fn push_zeros(bytes: &mut Vec<u8>, count: u64) -> Result<(), AllocError> {
 }
 
 // The registers that a line lists.
-fn registers_of(line: &str) -> Registers {
-    let mut registers = Registers::new();
+fn registers_of(line: &str) -> FrameRegisters {
+    let mut registers = FrameRegisters::new();
     for word in line.split_whitespace() {
         if let Some((number, value)) = word.split_once('=') {
             registers.set(number.parse::<u64>().unwrap_or(99), Some(number_of(value)));

@@ -17,7 +17,7 @@ mod cases;
 mod map;
 
 use cases::Case;
-use perfdata_unwind::Unwinder;
+use code_unwind::Unwinder;
 use std::io;
 
 fn main(rt: HostRuntime) -> anyhow::Result<()> {

@@ -1,6 +1,6 @@
 //! A process that has a single file mapped.
 
-use perfdata_unwind::{CodeMap, CodePlace, FileTables, Plt};
+use code_unwind::{CodeMap, FileTables, MappedCode, Plt};
 use std::alloc::AllocError;
 
 // A range of addresses.
@@ -76,11 +76,11 @@ impl CodeMap for FileMap {
         Ok(())
     }
 
-    fn place(&self, address: u64) -> CodePlace<'_> {
+    fn place(&self, address: u64) -> MappedCode<'_> {
         for mapping in &self.mappings {
             if let Some(offset) = mapping.range.offset(address) {
                 let in_file = mapping.address.wrapping_add(offset);
-                return CodePlace::File {
+                return MappedCode::File {
                     tables: &self.tables,
                     address: in_file,
                     plt: self.plt_at(in_file),
@@ -88,6 +88,6 @@ impl CodeMap for FileMap {
                 };
             }
         }
-        CodePlace::Nothing
+        MappedCode::Nothing
     }
 }

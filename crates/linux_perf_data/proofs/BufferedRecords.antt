@@ -6,9 +6,9 @@ use Rattle.std.specs.List.{concat}
 use Rattle.std.specs.Prelude.{◌↔◌, Bool, true, false, IsTrue, IfSome}
 use Rattle.perfdata_base.specs.Source.{State, prepend}
 use Rattle.std.specs.Io.{StartsWith}
-use Rattle.linux_perf_data.specs.Input.{HasNoPendingHeader, section_size_in, input_source_state}
-use Rattle.linux_perf_data.specs.declared.records.input.Input.{Input}
-use Rattle.linux_perf_data.specs.declared.records.input.Input.TheVariants.{Section, Pipe}
+use Rattle.linux_perf_data.specs.RecordInput.{HasNoPendingHeader, section_size_in, input_source_state}
+use Rattle.linux_perf_data.specs.declared.records.input.RecordInput.{RecordInput}
+use Rattle.linux_perf_data.specs.declared.records.input.RecordInput.TheVariants.{Section, Pipe}
 use Rattle.perfdata_base.specs.Buffered.{IsPrefixOfRemaining}
 use Rattle.perfdata_base.specs.declared.endian.Endianness.{Endianness}
 use Rattle.std.proofs.lemmas.Bool.{false≢true}
@@ -161,7 +161,7 @@ rest_none None P p = _
 rest_none (Some bytes) P p = p
 
 -- the source's buffered bytes are a prefix of the iterator's remaining bytes
-pub visible_in : (order : Endianness) (input : Input) (offset : ℕ) (s : State) (hand : List ℕ) → HasNoPendingHeader input → IsPrefixOfRemaining s hand → ContainsNextRecord order (section_size_in input) offset hand → IfSome (input_source_state input s).bytes (ContainsNextRecord order (section_size_in input) offset)
+pub visible_in : (order : Endianness) (input : RecordInput) (offset : ℕ) (s : State) (hand : List ℕ) → HasNoPendingHeader input → IsPrefixOfRemaining s hand → ContainsNextRecord order (section_size_in input) offset hand → IfSome (input_source_state input s).bytes (ContainsNextRecord order (section_size_in input) offset)
 visible_in order (Section size) offset s hand none first_part shows = visible_where order (Some size) offset s.bytes hand first_part shows
 visible_in order (Pipe None) offset s hand none first_part shows = rest_none s.bytes (ContainsNextRecord order None offset) (visible_where order None offset s.bytes hand first_part shows)
 visible_in order (Pipe (Some header)) offset s hand none first_part shows = absurd cc

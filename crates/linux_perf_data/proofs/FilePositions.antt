@@ -12,7 +12,7 @@ use Rattle.linux_perf_data.specs.declared.in_memory.InMemoryReader.{InMemoryRead
 use Rattle.linux_perf_data.specs.declared.in_memory.position.RecordPosition.{RecordPosition}
 use Rattle.linux_perf_data.specs.AttributeLookup.{Represents}
 use Rattle.linux_perf_data.specs.InMemory.{memory_state, MemoryIter}
-use Rattle.linux_perf_data.specs.Input.{input_source_state, section_size_in}
+use Rattle.linux_perf_data.specs.RecordInput.{input_source_state, section_size_in}
 use Rattle.linux_perf_data.specs.InMemoryPositions.{FileParsedAt, round_at}
 use Rattle.linux_perf_data.specs.InMemoryReading.{ParsesFileInMemory, first_record_offset_of, input_of}
 use Rattle.linux_perf_data.specs.Iter.{iter_source_state}

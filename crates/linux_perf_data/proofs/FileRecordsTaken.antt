@@ -11,12 +11,12 @@ use Rattle.perfdata_base.specs.declared.event.record_header.PerfEventHeader.{Per
 use Rattle.perfdata_base.specs.declared.endian.Endianness.{Endianness}
 use Rattle.perfdata_sections.specs.RecordTypes.{finished_round}
 use Rattle.linux_perf_data.specs.declared.perf_file.PerfFile.{PerfFile}
-use Rattle.linux_perf_data.specs.declared.records.input.Input.TheVariants.{Section}
+use Rattle.linux_perf_data.specs.declared.records.input.RecordInput.TheVariants.{Section}
 use Rattle.linux_perf_data.specs.declared.records.iter.IdentifiedRecord.{IdentifiedRecord}
 use Rattle.linux_perf_data.specs.declared.records.iter.Stage.TheVariants.{Running}
 use Rattle.linux_perf_data.specs.AttributeLookup.{KeepsAttributes, Represents}
 use Rattle.linux_perf_data.specs.BufferedRecord.{WholeRecordLength}
-use Rattle.linux_perf_data.specs.Input.{HasNoPendingHeader, section_size_in}
+use Rattle.linux_perf_data.specs.RecordInput.{HasNoPendingHeader, section_size_in}
 use Rattle.linux_perf_data.specs.InMemory.{IsInPlace, MemoryIter, RecordTaken, memory_state, with_buffer}
 use Rattle.linux_perf_data.specs.Iter.{iter_source_state, section_size_of}
 use Rattle.linux_perf_data.specs.IterSteps.{RawRecordRead, RecordProcessed, SameButLookup}

@@ -8,7 +8,7 @@ use Rattle.linux_perf_data.specs.declared.file.opening.FileOpening.{FileOpening}
 use Rattle.linux_perf_data.specs.declared.file_reader.PerfFileReader.{PerfFileReader}
 use Rattle.linux_perf_data.specs.Attribute.{Attribute, AreConsistent}
 use Rattle.linux_perf_data.specs.Descriptions.{described_attributes}
-use Rattle.linux_perf_data.specs.Input.{section_size_in, input_source_state}
+use Rattle.linux_perf_data.specs.RecordInput.{section_size_in, input_source_state}
 use Rattle.linux_perf_data.specs.Layout.{SectionSize, RecordView, LayoutEnd, RemainingRecords}
 use Rattle.linux_perf_data.specs.Iter.{iter_source_state}
 use Rattle.linux_perf_data.specs.PerfFile.{endian_of_file, attributes_of_file}

@@ -8,7 +8,7 @@ use Rattle.linux_perf_data.specs.declared.in_memory.file_walk.FileWalk.{FileWalk
 use Rattle.linux_perf_data.specs.BufferedRecord.{WholeRecordLength}
 use Rattle.linux_perf_data.specs.declared.in_memory.InMemoryRecords.{InMemoryRecords}
 use Rattle.linux_perf_data.specs.FileWalk.{IsWalkOf, WalkStartsWithMarkerAtMost}
-use Rattle.linux_perf_data.specs.Input.{section_size_in}
+use Rattle.linux_perf_data.specs.RecordInput.{section_size_in}
 use Rattle.linux_perf_data.specs.Layout.{StartsWithRecord, record_type_of}
 use Rattle.linux_perf_data.specs.RecordEntries.{StartsWithMarkerAtMost}
 use Rattle.linux_perf_data.proofs.BufferedRecords.{says}

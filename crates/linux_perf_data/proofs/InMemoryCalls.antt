@@ -15,7 +15,7 @@ use Rattle.linux_perf_data.specs.declared.perf_file.PerfFile.{PerfFile}
 use Rattle.linux_perf_data.specs.declared.attributes.lookup.AttributeLookup.{AttributeLookup}
 use Rattle.linux_perf_data.specs.declared.records.iter.IdentifiedRecord.{IdentifiedRecord}
 use Rattle.linux_perf_data.specs.AttributeLookup.{KeepsAttributes}
-use Rattle.linux_perf_data.specs.Input.{HasNoPendingHeader}
+use Rattle.linux_perf_data.specs.RecordInput.{HasNoPendingHeader}
 use Rattle.linux_perf_data.specs.Layout.{MayStartAt}
 use Rattle.linux_perf_data.specs.LateMetadata.{IsMetadataType, MetadataApplied, MetadataRejected}
 use Rattle.linux_perf_data.specs.RecordFraming.{RecordTruncatedAt, RecordErrorAt}

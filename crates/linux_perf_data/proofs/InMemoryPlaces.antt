@@ -8,11 +8,11 @@ use Rattle.std.specs.List.{concat}
 use Rattle.perfdata_sections.specs.declared.error.Error.{Error}
 use Rattle.std.specs.Io.Cursor.{cursor_inner, cursor_position}
 use Rattle.perfdata_base.specs.Source.{State, Position, memory_source_at, prepend, all_bytes_of, Consumed}
-use Rattle.linux_perf_data.specs.declared.records.input.Input.{Input}
-use Rattle.linux_perf_data.specs.declared.records.input.Input.TheVariants.{Section, Pipe}
+use Rattle.linux_perf_data.specs.declared.records.input.RecordInput.{RecordInput}
+use Rattle.linux_perf_data.specs.declared.records.input.RecordInput.TheVariants.{Section, Pipe}
 use Rattle.linux_perf_data.specs.declared.records.iter.IdentifiedRecord.{IdentifiedRecord}
 use Rattle.linux_perf_data.specs.declared.perf_file.PerfFile.{PerfFile}
-use Rattle.linux_perf_data.specs.Input.{section_size_in, input_source_state}
+use Rattle.linux_perf_data.specs.RecordInput.{section_size_in, input_source_state}
 use Rattle.linux_perf_data.specs.Layout.{RecordView}
 use Rattle.linux_perf_data.specs.OpenedFile.{FileParsed}
 use Rattle.linux_perf_data.specs.OpenedPipe.{PipeParsed}
@@ -80,7 +80,7 @@ consumed_in_place old new file file' (Ok None) input first placed ended = λ run
 consumed_in_place old new file file' (Err e) input first placed failed = λ runs. let stage = failed.0.stage_failed in absurd cc
 
 -- in a section, the iterator reads the source itself
-pub section_view : (i : Input) (size : ℕ) (s : State) → section_size_in i ≡ Some size → input_source_state i s ≡ s
+pub section_view : (i : RecordInput) (size : ℕ) (s : State) → section_size_in i ≡ Some size → input_source_state i s ≡ s
 section_view (Section n) size s is = refl
 section_view (Pipe kept) size s is = absurd cc
 

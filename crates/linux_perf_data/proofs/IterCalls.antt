@@ -12,8 +12,8 @@ use Rattle.perfdata_base.specs.declared.endian.Endianness.{Endianness}
 use Rattle.perfdata_base.specs.declared.event.record_header.PerfEventHeader.{PerfEventHeader}
 use Rattle.perfdata_sections.specs.declared.error.Error.{Error}
 use Rattle.perfdata_sections.specs.declared.error.Error.TheVariants as error
-use Rattle.linux_perf_data.specs.declared.records.input.Input.{Input}
-use Rattle.linux_perf_data.specs.declared.records.input.Input.TheVariants.{Section, Pipe}
+use Rattle.linux_perf_data.specs.declared.records.input.RecordInput.{RecordInput}
+use Rattle.linux_perf_data.specs.declared.records.input.RecordInput.TheVariants.{Section, Pipe}
 use Rattle.linux_perf_data.specs.declared.records.iter.PerfRecordIter.{PerfRecordIter}
 use Rattle.linux_perf_data.specs.declared.records.iter.IdentifiedRecord.{IdentifiedRecord}
 use Rattle.linux_perf_data.specs.declared.records.iter.Stage.{Stage}
@@ -22,7 +22,7 @@ use Rattle.linux_perf_data.specs.declared.perf_file.PerfFile.{PerfFile}
 use Rattle.linux_perf_data.specs.declared.attributes.lookup.AttributeLookup.{AttributeLookup}
 use Rattle.linux_perf_data.specs.Attribute.{Attribute, AreConsistent}
 use Rattle.linux_perf_data.specs.AttributeLookup.{Represents}
-use Rattle.linux_perf_data.specs.Input.{HasNoPendingHeader, section_size_in, input_source_state}
+use Rattle.linux_perf_data.specs.RecordInput.{HasNoPendingHeader, section_size_in, input_source_state}
 use Rattle.linux_perf_data.specs.LateMetadata.{IsMetadataType, UpdatesPerfFile, HasValidMetadata, PassesEarlierChecks, SameAttributeCount, SamePerfFile, RejectsMetadata}
 use Rattle.linux_perf_data.specs.PerfFile.{endian_of_file, descriptions_of_file, features_of_file, feature_data_in_file}
 use Rattle.linux_perf_data.specs.Layout.{SectionSize, MayStartAt, IsEnd, IsTruncated, IsRecord, AreMarkerRecords, ConsistsOfMarkers, IsValidRecord, record_type_of, misc_of, RecordView, LayoutEnd, ends_complete, ends_with_error, LayoutError, ConcernsMetadata, ErrorAt, RemainingRecords, record_view, record_view_in, attributes_in_record, attributes_in_views}
@@ -97,7 +97,7 @@ none_left (Some []) = inl refl
 none_left (Some (x ∷ xs)) = inr (λ e. absurd cc)
 
 -- a section has no pending header
-section_keeps_none : (i : Input) → section_size_in i ≢ None → HasNoPendingHeader i
+section_keeps_none : (i : RecordInput) → section_size_in i ≢ None → HasNoPendingHeader i
 section_keeps_none (Section size) file = _
 section_keeps_none (Pipe kept) file = absurd (file refl)
 

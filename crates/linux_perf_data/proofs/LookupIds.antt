@@ -4,7 +4,7 @@ use Rattle.std.specs.Prelude.{if◌then◌else◌, slice_get, Option, None, Some
 use Rattle.std.specs.Option.{unwrap_or, option_map}
 use Rattle.std.proofs.lemmas.Bool.{cases_eq, cond-true, lt-ltb}
 use Rattle.perfdata_base.specs.ParseInfo.{id_parse_info_of, parse_info_of}
-use Rattle.perfdata_base.specs.RecordFields.{identifier_of, time_of}
+use Rattle.perfdata_base.specs.RecordFields.{read_identifier, read_time}
 use Rattle.perfdata_base.specs.IdCache.{cached_index}
 use Rattle.perfdata_base.specs.declared.place.id_cache.IdCache.{IdCache}
 use Rattle.perfdata_base.specs.declared.place.parse_info.RecordParseInfo.{RecordParseInfo}
@@ -64,7 +64,7 @@ event_there order attrs record_type body i d kernel at inside =
     cond-true (nat_lt record_type 64) (option_map {U = EventRef} (λ a. record { index = attr_index_of order attrs record_type body; parse_info = parse_info_of a.attr order }) (slice_get attrs (attr_index_of order attrs record_type body))) None (lt-ltb record_type 64 kernel)
     ∙ ap (λ n. option_map {U = EventRef} (λ a. record { index = n; parse_info = parse_info_of a.attr order }) (slice_get attrs n)) at ∙ parse_info_there order attrs i i d inside
 
-index_several : (order : Endianness) (first : Attribute) (more : List Attribute) (record_type : ℕ) (body : List ℕ) (id : ℕ) → length (first ∷ more) ≢ 1 → identifier_of order (id_parse_info_of first.attr) record_type body ≡ Some id
+index_several : (order : Endianness) (first : Attribute) (more : List Attribute) (record_type : ℕ) (body : List ℕ) (id : ℕ) → length (first ∷ more) ≢ 1 → read_identifier order (id_parse_info_of first.attr) record_type body ≡ Some id
     → attr_index_of order (first ∷ more) record_type body ≡ last_index_listing id 0 0 (first ∷ more)
 index_several order first [] record_type body id several is = absurd (several refl)
 index_several order first (b ∷ rest) record_type body id several is = ap (λ o. attr_index_of_id o (first ∷ b ∷ rest)) is
@@ -73,7 +73,7 @@ index_one : (order : Endianness) (first : Attribute) (more : List Attribute) (re
 index_one order first [] record_type body one = refl
 index_one order first (b ∷ rest) record_type body one = absurd (omega (arith, one))
 
-index_without : (order : Endianness) (first : Attribute) (more : List Attribute) (record_type : ℕ) (body : List ℕ) → identifier_of order (id_parse_info_of first.attr) record_type body ≡ None → attr_index_of order (first ∷ more) record_type body ≡ 0
+index_without : (order : Endianness) (first : Attribute) (more : List Attribute) (record_type : ℕ) (body : List ℕ) → read_identifier order (id_parse_info_of first.attr) record_type body ≡ None → attr_index_of order (first ∷ more) record_type body ≡ 0
 index_without order first [] record_type body is = refl
 index_without order first (b ∷ rest) record_type body is = ap (λ o. attr_index_of_id o (first ∷ b ∷ rest)) is
 
@@ -96,18 +96,18 @@ resolves_one order k attrs record_type body knows kernel one =
     event_resolved order k attrs record_type body 0 knows kernel at (parse_infos_nonempty order k attrs knows)
 
 -- without an identifier the attribute is the first one
-pub resolves_first : (order : Endianness) (k : AttributeLookup) (attrs : List Attribute) (record_type : ℕ) (body : List ℕ) → Represents order k attrs → record_type < 64 → identifier_of k.first_parse_info.endian k.first_parse_info.id_parse_info record_type body ≡ None → event_of order attrs record_type body ≡ Some (event_at k 0)
+pub resolves_first : (order : Endianness) (k : AttributeLookup) (attrs : List Attribute) (record_type : ℕ) (body : List ℕ) → Represents order k attrs → record_type < 64 → read_identifier k.first_parse_info.endian k.first_parse_info.id_parse_info record_type body ≡ None → event_of order attrs record_type body ≡ Some (event_at k 0)
 resolves_first order k attrs record_type body knows kernel is =
-    let none : identifier_of order (id_parse_info_of knows.first_attribute.attr) record_type body ≡ None = ap (λ p. identifier_of p.endian p.id_parse_info record_type body) (sym knows.first_parse_info) ∙ is in
+    let none : read_identifier order (id_parse_info_of knows.first_attribute.attr) record_type body ≡ None = ap (λ p. read_identifier p.endian p.id_parse_info record_type body) (sym knows.first_parse_info) ∙ is in
     let at : attr_index_of order attrs record_type body ≡ 0 = ap (λ l. attr_index_of order l record_type body) knows.elements ∙ index_without order knows.first_attribute knows.other_attributes record_type body none in
     event_resolved order k attrs record_type body 0 knows kernel at (parse_infos_nonempty order k attrs knows)
 
 -- among several attributes the identifier determines the one
 pub resolves_event : (order : Endianness) (k : AttributeLookup) (attrs : List Attribute) (record_type : ℕ) (body : List ℕ) (id i : ℕ) → Represents order k attrs → record_type < 64 → length k.parse_infos.items ≢ 1
-    → identifier_of k.first_parse_info.endian k.first_parse_info.id_parse_info record_type body ≡ Some id → i ≡ last_index_listing id 0 0 attrs → i < length k.parse_infos.items → event_of order attrs record_type body ≡ Some (event_at k i)
+    → read_identifier k.first_parse_info.endian k.first_parse_info.id_parse_info record_type body ≡ Some id → i ≡ last_index_listing id 0 0 attrs → i < length k.parse_infos.items → event_of order attrs record_type body ≡ Some (event_at k i)
 resolves_event order k attrs record_type body id i knows kernel several is answer inside =
     let count : length k.parse_infos.items ≡ length attrs = ap length knows.parse_infos ∙ all_counted order attrs in
-    let id_is : identifier_of order (id_parse_info_of knows.first_attribute.attr) record_type body ≡ Some id = ap (λ p. identifier_of p.endian p.id_parse_info record_type body) (sym knows.first_parse_info) ∙ is in
+    let id_is : read_identifier order (id_parse_info_of knows.first_attribute.attr) record_type body ≡ Some id = ap (λ p. read_identifier p.endian p.id_parse_info record_type body) (sym knows.first_parse_info) ∙ is in
     let at : attr_index_of order (knows.first_attribute ∷ knows.other_attributes) record_type body ≡ i =
     index_several order knows.first_attribute knows.other_attributes record_type body id (λ one. several (count ∙ ap length knows.elements ∙ one)) id_is ∙ ap (last_index_listing id 0 0) (sym knows.elements) ∙ sym answer in
     event_resolved order k attrs record_type body i knows kernel (ap (λ l. attr_index_of order l record_type body) knows.elements ∙ at) inside
@@ -159,7 +159,7 @@ event_order : (order : Endianness) (attrs : List Attribute) (record_type : ℕ) 
 event_order order attrs record_type body e is = event_endian order (nat_lt record_type 64) (slice_get attrs (attr_index_of order attrs record_type body)) (attr_index_of order attrs record_type body) e is
 
 -- a kernel record in the code is the one in the layout
-pub kernel_found : (order : Endianness) (attrs : List Attribute) (offset round record_type misc : ℕ) (body : List ℕ) (e : EventRef) (time : Option ℕ) → event_of order attrs record_type body ≡ Some e → time ≡ time_of e.parse_info record_type body
+pub kernel_found : (order : Endianness) (attrs : List Attribute) (offset round record_type misc : ℕ) (body : List ℕ) (e : EventRef) (time : Option ℕ) → event_of order attrs record_type body ≡ Some e → time ≡ read_time e.parse_info record_type body
     → record { offset = offset; round = round; record_type = record_type; misc = misc; endian = e.parse_info.endian; body = body; event = Some e; timestamp = time } ≡ record_view order offset round attrs record_type misc body
 kernel_found order attrs offset round record_type misc body e time resolves at =
     let with' : Endianness → Option EventRef → Option ℕ → RecordView = λ o ev t. record { offset = offset; round = round; record_type = record_type; misc = misc; endian = o; body = body; event = ev; timestamp = t } in

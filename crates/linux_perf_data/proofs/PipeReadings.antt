@@ -9,13 +9,13 @@ use Rattle.perfdata_base.specs.declared.endian.Endianness.{Endianness}
 use Rattle.perfdata_base.proofs.ReadErrors.{none_or_paused}
 use Rattle.perfdata_base.proofs.ConsumedLemmas.{failed_later, paused_later}
 use Rattle.perfdata_sections.specs.declared.error.Error.{Error}
-use Rattle.linux_perf_data.specs.declared.records.input.Input.{Input}
-use Rattle.linux_perf_data.specs.declared.records.input.Input.TheVariants.{Section, Pipe}
+use Rattle.linux_perf_data.specs.declared.records.input.RecordInput.{RecordInput}
+use Rattle.linux_perf_data.specs.declared.records.input.RecordInput.TheVariants.{Section, Pipe}
 use Rattle.linux_perf_data.specs.declared.records.iter.PerfRecordIter.{PerfRecordIter}
 use Rattle.linux_perf_data.specs.declared.records.iter.Stage.TheVariants.{Running}
 use Rattle.linux_perf_data.specs.declared.perf_file.PerfFile.{PerfFile}
 use Rattle.linux_perf_data.specs.Attribute.{Attribute, AreConsistent}
-use Rattle.linux_perf_data.specs.Input.{HasNoPendingHeader, section_size_in, input_source_state}
+use Rattle.linux_perf_data.specs.RecordInput.{HasNoPendingHeader, section_size_in, input_source_state}
 use Rattle.linux_perf_data.specs.AttributeLookup.{Represents}
 use Rattle.linux_perf_data.specs.LateMetadata.{AccumulatesMetadata, IsMetadataType, SomeProvideFeature, features_in_views}
 use Rattle.linux_perf_data.specs.Layout.{RecordView, LayoutEnd, ends_complete, ends_with_error, LayoutError, RemainingRecords, attributes_in_records, attributes_in_views, record_views, record_type_of, record_size_of}
@@ -246,7 +246,7 @@ module _ {R : Type 0} (state : R → State) (old : State) (file : PerfFile) (it 
         )
 
 -- without a pending header the view of a pipe's source is the source itself
-pipe_bytes : (i : Input) (s : State) → section_size_in i ≡ None → HasNoPendingHeader i → s.bytes ≡ (input_source_state i s).bytes
+pipe_bytes : (i : RecordInput) (s : State) → section_size_in i ≡ None → HasNoPendingHeader i → s.bytes ≡ (input_source_state i s).bytes
 pipe_bytes (Section size) s pipe none = absurd cc
 pipe_bytes (Pipe None) s pipe none = sym (prepend_none s.bytes)
   where

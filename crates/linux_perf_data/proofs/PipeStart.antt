@@ -8,9 +8,9 @@ use Rattle.perfdata_base.specs.Features.{HasFeature}
 use Rattle.perfdata_sections.specs.declared.error.Error.{Error}
 use Rattle.linux_perf_data.specs.declared.file_reader.PerfFileReader.{PerfFileReader}
 use Rattle.linux_perf_data.specs.declared.pipe.opening.PipeOpening.{PipeOpening}
-use Rattle.linux_perf_data.specs.declared.records.input.Input.TheVariants.{Pipe}
+use Rattle.linux_perf_data.specs.declared.records.input.RecordInput.TheVariants.{Pipe}
 use Rattle.linux_perf_data.specs.Descriptions.{described_attributes}
-use Rattle.linux_perf_data.specs.Input.{section_size_in, input_source_state, with_leading_bytes}
+use Rattle.linux_perf_data.specs.RecordInput.{section_size_in, input_source_state, with_leading_bytes}
 use Rattle.linux_perf_data.specs.AttributeLookup.{Represents}
 use Rattle.linux_perf_data.specs.Layout.{record_type_of, record_size_of}
 use Rattle.linux_perf_data.specs.LateMetadata.{IsMetadataType}

@@ -8,9 +8,9 @@ use Rattle.perfdata_base.specs.declared.endian.Endianness.{Endianness}
 use Rattle.perfdata_base.specs.declared.event.record_header.PerfEventHeader.{PerfEventHeader}
 use Rattle.perfdata_sections.specs.declared.error.Error.{Error}
 use Rattle.perfdata_sections.specs.declared.error.Error.TheVariants.{Memory}
-use Rattle.linux_perf_data.specs.declared.records.input.Input.{Input}
-use Rattle.linux_perf_data.specs.declared.records.input.Input.TheVariants.{Section, Pipe}
-use Rattle.linux_perf_data.specs.Input.{HasNoPendingHeader, with_leading_bytes, input_source_state, AnswersTruncation, section_size_in}
+use Rattle.linux_perf_data.specs.declared.records.input.RecordInput.{RecordInput}
+use Rattle.linux_perf_data.specs.declared.records.input.RecordInput.TheVariants.{Section, Pipe}
+use Rattle.linux_perf_data.specs.RecordInput.{HasNoPendingHeader, with_leading_bytes, input_source_state, AnswersTruncation, section_size_in}
 use Rattle.linux_perf_data.specs.RecordFraming.{ReadsRecordHeader, SkipsBody, AppendsBody, ReadsRecordBody, EndedWithin, FailedWithin, BodyPartlyRead, BodyRead, BodyEnded, BodyErrorCause, BodyExceedsCapacity}
 use Rattle.linux_perf_data.proofs.RecordReads.{EndChecked}
 
@@ -31,22 +31,22 @@ consumed_plain a b x g = record {
 paused_plain : (a b : State) → SourcePaused a b → SourcePaused (with_leading_bytes [] a) (with_leading_bytes [] b)
 paused_plain a b p = record { count_increases = p.count_increases; not_steady = p.not_steady }
 
-pub consumed_in : (i : Input) → HasNoPendingHeader i → (a b : State) (x : List ℕ) → Consumed a x b → Consumed (input_source_state i a) x (input_source_state i b)
+pub consumed_in : (i : RecordInput) → HasNoPendingHeader i → (a b : State) (x : List ℕ) → Consumed a x b → Consumed (input_source_state i a) x (input_source_state i b)
 consumed_in (Section size) none a b x g = g
 consumed_in (Pipe None) none a b x g = consumed_plain a b x g
 consumed_in (Pipe (Some header)) none a b x g = absurd cc
 
-pub failed_in : (i : Input) → HasNoPendingHeader i → (a b : State) → SourceFailed a b → SourceFailed (input_source_state i a) (input_source_state i b)
+pub failed_in : (i : RecordInput) → HasNoPendingHeader i → (a b : State) → SourceFailed a b → SourceFailed (input_source_state i a) (input_source_state i b)
 failed_in (Section size) none a b f = f
 failed_in (Pipe None) none a b f = record { count_increases = f.count_increases; not_steady = f.not_steady }
 failed_in (Pipe (Some header)) none a b f = absurd cc
 
-pub consumed_none_in : (i : Input) → HasNoPendingHeader i → (a b : State) → EndedOrPaused a b → EndedOrPaused (input_source_state i a) (input_source_state i b)
+pub consumed_none_in : (i : RecordInput) → HasNoPendingHeader i → (a b : State) → EndedOrPaused a b → EndedOrPaused (input_source_state i a) (input_source_state i b)
 consumed_none_in (Section size) none a b g = g
 consumed_none_in (Pipe None) none a b g = λ more. paused_plain a b (g (λ e. more (ap (prepend []) e)))
 consumed_none_in (Pipe (Some header)) none a b g = absurd cc
 
-module _ (i : Input) (none : HasNoPendingHeader i) (a b : State) where
+module _ (i : RecordInput) (none : HasNoPendingHeader i) (a b : State) where
   pub skipped_in : (count : ℕ) → SkippedExactly a count b → SkippedExactly (input_source_state i a) count (input_source_state i b)
   skipped_in count t = record { bytes = t.bytes; exact_len = t.exact_len; consumes = consumed_in i none a b t.bytes t.consumes }
 
@@ -84,7 +84,7 @@ module _ (i : Input) (none : HasNoPendingHeader i) (a b : State) where
   exceeds_in order capacity header x = record { consumed_bytes = x.consumed_bytes; consumes = consumed_in i none a b x.consumed_bytes x.consumes; exceeds = x.exceeds }
 
 -- a truncated record gives the end in a pipe and the error in a file
-pub truncated_by : (i : Input) (e : Error) (r : Result (Option PerfEventHeader) Error) (P : Result (Option PerfEventHeader) Error → Type 0) → AnswersTruncation i e r → (section_size_in i ≡ None → P (Ok None)) → (section_size_in i ≢ None → P (Err e)) → P r
+pub truncated_by : (i : RecordInput) (e : Error) (r : Result (Option PerfEventHeader) Error) (P : Result (Option PerfEventHeader) Error → Type 0) → AnswersTruncation i e r → (section_size_in i ≡ None → P (Ok None)) → (section_size_in i ≢ None → P (Err e)) → P r
 truncated_by i e (Ok None) P answers pipe file = pipe answers
 truncated_by i e (Ok (Some header)) P answers pipe file = absurd answers
 truncated_by i e (Err e') P answers pipe file = subst (λ x. P (Err x)) (sym answers.1) (file answers.0)
@@ -112,7 +112,7 @@ pub content_none : (order : Endianness) (a b : State) (header : PerfEventHeader)
 content_none order a b header end now r is reads = subst (λ o. ReadsRecordBody order a header end (Ok o) now b) is reads
 
 -- a truncated record isn't out of memory
-pub truncation_memory : (i : Input) (e : Error) (r : Result (Option PerfEventHeader) Error) (P : Type 0) → AnswersTruncation i e r → e ≢ Memory → IfErr r (λ e'. e' ≡ Memory → P)
+pub truncation_memory : (i : RecordInput) (e : Error) (r : Result (Option PerfEventHeader) Error) (P : Type 0) → AnswersTruncation i e r → e ≢ Memory → IfErr r (λ e'. e' ≡ Memory → P)
 truncation_memory i e (Ok None) P answers other = tt
 truncation_memory i e (Ok (Some header)) P answers other = absurd answers
 truncation_memory i e (Err e') P answers other = λ is. absurd (other (sym answers.1 ∙ is))

@@ -5,7 +5,7 @@ use Rattle.perfdata_base.specs.Source.{State}
 use Rattle.perfdata_base.specs.declared.event.record_header.PerfEventHeader.{PerfEventHeader}
 use Rattle.perfdata_sections.specs.declared.error.Error.{Error}
 use Rattle.linux_perf_data.specs.declared.records.iter.PerfRecordIter.{PerfRecordIter}
-use Rattle.linux_perf_data.specs.Input.{AnswersTruncation, HasNoPendingHeader}
+use Rattle.linux_perf_data.specs.RecordInput.{AnswersTruncation, HasNoPendingHeader}
 use Rattle.linux_perf_data.specs.RecordFraming.{RecordTruncatedAt, RecordErrorAt}
 use Rattle.linux_perf_data.specs.Iter.{iter_source_state, section_size_of, SameInput}
 use Rattle.linux_perf_data.specs.IterSteps.{RawRecordRead, RawRecordTruncated, ReadsRawRecord}

@@ -16,13 +16,13 @@ use Rattle.linux_perf_data.specs.declared.in_memory.InMemoryRecords.{InMemoryRec
 use Rattle.linux_perf_data.specs.declared.in_memory.file_walk.FileWalk.{FileWalk}
 use Rattle.linux_perf_data.specs.declared.in_memory.file_walk.WholeRecord.{WholeRecord}
 use Rattle.linux_perf_data.specs.declared.perf_file.PerfFile.{PerfFile}
-use Rattle.linux_perf_data.specs.declared.records.input.Input.TheVariants.{Section}
+use Rattle.linux_perf_data.specs.declared.records.input.RecordInput.TheVariants.{Section}
 use Rattle.linux_perf_data.specs.declared.records.iter.IdentifiedRecord.{IdentifiedRecord}
 use Rattle.linux_perf_data.specs.AttributeLookup.{HasOnly, KeepsAttributes}
 use Rattle.linux_perf_data.specs.BufferedRecord.{WholeRecordLength}
 use Rattle.linux_perf_data.specs.FileWalk.{IsNextRecord, IsWalkAhead, IsWalkOf, MovesPast, iter_at, position_of_walk, records_at_walk, remaining_in, with_lookup}
 use Rattle.linux_perf_data.specs.InMemory.{IsInPlace, MemoryIter, RecordTaken, memory_state}
-use Rattle.linux_perf_data.specs.Input.{HasNoPendingHeader}
+use Rattle.linux_perf_data.specs.RecordInput.{HasNoPendingHeader}
 use Rattle.linux_perf_data.specs.RecordViews.{IdentifiesRecord}
 use Rattle.linux_perf_data.proofs.FileRecordsTaken.{file_record_consumed, moved_in_place}
 use Rattle.linux_perf_data.proofs.WholeRecordsTaken.{first_consumed}

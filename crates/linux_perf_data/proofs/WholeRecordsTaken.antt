@@ -10,7 +10,7 @@ use Rattle.perfdata_base.specs.RecordHeader.{record_header_of}
 use Rattle.perfdata_base.specs.declared.event.record_header.PerfEventHeader.{PerfEventHeader}
 use Rattle.perfdata_sections.specs.RecordTypes.{finished_round}
 use Rattle.linux_perf_data.specs.BufferedRecord.{WholeRecordLength}
-use Rattle.linux_perf_data.specs.Input.{HasNoPendingHeader, input_source_state, section_size_in}
+use Rattle.linux_perf_data.specs.RecordInput.{HasNoPendingHeader, input_source_state, section_size_in}
 use Rattle.linux_perf_data.specs.InMemory.{memory_state, MemoryIter}
 use Rattle.linux_perf_data.specs.IterSteps.{RawRecordRead}
 use Rattle.linux_perf_data.specs.Layout.{misc_of}

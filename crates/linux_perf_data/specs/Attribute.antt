@@ -2,7 +2,7 @@
 use Rattle.std.specs.Prelude.{◌≡◌, ◌≢◌, ℕ, ◌+◌, ◌==◌, nat_lt, Bool, true, false, List, [], ◌∷◌, ◌++◌, length, slice_get, All, if◌then◌else◌, Option, None, Some}
 use Rattle.std.specs.Option.{option_map}
 use Rattle.perfdata_base.specs.ParseInfo.{is_set, id_parse_info_of, parse_info_of}
-use Rattle.perfdata_base.specs.RecordFields.{identifier_of, time_of}
+use Rattle.perfdata_base.specs.RecordFields.{read_identifier, read_time}
 use Rattle.perfdata_base.specs.declared.endian.Endianness.{Endianness}
 use Rattle.perfdata_base.specs.declared.place.parse_info.RecordParseInfo.{RecordParseInfo}
 pub use Rattle.perfdata_records.specs.HeaderAttr.{Attribute, HoldsAttribute, attribute_in, u64s_of}
@@ -66,7 +66,7 @@ attr_index_of_id (Some id) attrs = last_index_listing id 0 0 attrs
 abbrev pub attr_index_of : Endianness → List Attribute → ℕ → List ℕ → ℕ
 attr_index_of order [] record_type body = 0
 attr_index_of order (a ∷ []) record_type body = 0
-attr_index_of order (a ∷ b ∷ more) record_type body = attr_index_of_id (identifier_of order (id_parse_info_of a.attr) record_type body) (a ∷ b ∷ more)
+attr_index_of order (a ∷ b ∷ more) record_type body = attr_index_of_id (read_identifier order (id_parse_info_of a.attr) record_type body) (a ∷ b ∷ more)
 
 -- The attribute index of a record, and the parse info of that attribute's records.
 pub record EventRef : Type 0 where
@@ -81,4 +81,4 @@ event_of order attrs record_type body = if nat_lt record_type 64
 
 abbrev pub event_time : Option EventRef → ℕ → List ℕ → Option ℕ
 event_time None record_type body = None
-event_time (Some e) record_type body = time_of e.parse_info record_type body
+event_time (Some e) record_type body = read_time e.parse_info record_type body

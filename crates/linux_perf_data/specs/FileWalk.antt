@@ -8,7 +8,7 @@ use Rattle.linux_perf_data.specs.declared.attributes.lookup.AttributeLookup.{Att
 use Rattle.linux_perf_data.specs.declared.in_memory.InMemoryRecords.{InMemoryRecords}
 use Rattle.linux_perf_data.specs.declared.in_memory.file_walk.FileWalk.{FileWalk}
 use Rattle.linux_perf_data.specs.declared.in_memory.file_walk.WholeRecord.{WholeRecord}
-use Rattle.linux_perf_data.specs.declared.records.input.Input.TheVariants.{Section}
+use Rattle.linux_perf_data.specs.declared.records.input.RecordInput.TheVariants.{Section}
 use Rattle.linux_perf_data.specs.declared.records.iter.Stage.TheVariants.{Running}
 use Rattle.linux_perf_data.specs.AttributeLookup.{HasOnly}
 use Rattle.linux_perf_data.specs.BufferedRecord.{WholeRecordLength}

@@ -11,14 +11,14 @@ use Rattle.perfdata_base.specs.declared.event.record_header.PerfEventHeader.{Per
 use Rattle.perfdata_sections.specs.declared.error.Error.{Error}
 use Rattle.perfdata_sections.specs.declared.error.Error.TheVariants.{Memory}
 use Rattle.perfdata_sections.specs.RecordTypes.{finished_round}
-use Rattle.linux_perf_data.specs.declared.records.input.Input.{Input}
+use Rattle.linux_perf_data.specs.declared.records.input.RecordInput.{RecordInput}
 use Rattle.linux_perf_data.specs.declared.records.iter.PerfRecordIter.{PerfRecordIter}
 use Rattle.linux_perf_data.specs.declared.records.iter.IdentifiedRecord.{IdentifiedRecord}
 use Rattle.linux_perf_data.specs.declared.records.iter.Stage.TheVariants.{Running}
 use Rattle.linux_perf_data.specs.declared.in_memory.raw_record.RawRecord.{RawRecord}
 use Rattle.linux_perf_data.specs.declared.in_memory.raw_record.RawRecord.TheVariants.{Marker, Record, End}
 use Rattle.linux_perf_data.specs.declared.perf_file.PerfFile.{PerfFile}
-use Rattle.linux_perf_data.specs.Input.{section_size_in}
+use Rattle.linux_perf_data.specs.RecordInput.{section_size_in}
 use Rattle.linux_perf_data.specs.RecordFraming.{AuxDataRead, AuxDataError, ReadsRecordBody}
 use Rattle.linux_perf_data.specs.RecordViews.{record_view_with}
 use Rattle.linux_perf_data.specs.Iter.{iter_source_state, ReturnsRecord, ReturnsEnd, ReturnsError, ConsumesMetadata}
@@ -52,7 +52,7 @@ TakesRecordBody order old header end (Ok None) new = ReadsRecordBody order old h
 TakesRecordBody order old header end (Err e) new = (e ≢ Memory) × ReadsRecordBody order old header end (Err e) [] new
 
 -- A truncated record ends a pipe, and is an error in a file.
-abbrev pub EndsOrFails : Input → Error → Result RawRecord Error → Type 0
+abbrev pub EndsOrFails : RecordInput → Error → Result RawRecord Error → Type 0
 EndsOrFails input e (Ok (Marker header)) = ⊥
 EndsOrFails input e (Ok (Record header body)) = ⊥
 EndsOrFails input e (Ok End) = section_size_in input ≡ None

@@ -15,7 +15,7 @@ use Rattle.linux_perf_data.specs.declared.records.iter.IdentifiedRecord.{Identif
 use Rattle.linux_perf_data.specs.declared.records.iter.Stage.TheVariants.{Running, Failed, Ended}
 use Rattle.linux_perf_data.specs.declared.perf_file.PerfFile.{PerfFile}
 use Rattle.linux_perf_data.specs.Attribute.{Attribute, HoldsAttribute}
-use Rattle.linux_perf_data.specs.Input.{HasNoPendingHeader, section_size_in, input_source_state}
+use Rattle.linux_perf_data.specs.RecordInput.{HasNoPendingHeader, section_size_in, input_source_state}
 use Rattle.linux_perf_data.specs.LateMetadata.{HasValidMetadata, IsMetadataType, UpdatesPerfFile, PassesEarlierChecks, SamePerfFile, SameAttributeCount}
 use Rattle.linux_perf_data.specs.FeatureNumbers.{event_desc}
 use Rattle.linux_perf_data.specs.PerfFile.{descriptions_of_file, feature_data_in_file}

@@ -9,7 +9,7 @@ use Rattle.linux_perf_data.specs.declared.records.iter.PerfRecordIter.{PerfRecor
 use Rattle.linux_perf_data.specs.declared.records.iter.IdentifiedRecord.{IdentifiedRecord}
 use Rattle.linux_perf_data.specs.declared.perf_file.PerfFile.{PerfFile}
 use Rattle.linux_perf_data.specs.Attribute.{Attribute, HoldsAttribute}
-use Rattle.linux_perf_data.specs.Input.{HasNoPendingHeader}
+use Rattle.linux_perf_data.specs.RecordInput.{HasNoPendingHeader}
 use Rattle.linux_perf_data.specs.LateMetadata.{HasValidMetadata, IsMetadataType, UpdatesPerfFile, SamePerfFile, RejectsMetadata, SameAttributeCount}
 use Rattle.linux_perf_data.specs.AttributeLookup.{Represents}
 use Rattle.linux_perf_data.specs.Layout.{IsRecord, record_type_of, misc_of, attributes_in_record}

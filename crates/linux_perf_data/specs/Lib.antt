@@ -4,7 +4,7 @@ pub mod Laws
 pub mod AttributeLookup
 pub mod RecordFraming
 pub mod NamedErrors
-pub mod Input
+pub mod RecordInput
 pub mod InputKind
 pub mod Descriptions
 pub mod IdTable

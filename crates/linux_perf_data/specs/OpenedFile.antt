@@ -14,7 +14,7 @@ use Rattle.linux_perf_data.specs.declared.perf_file.PerfFile.{PerfFile}
 use Rattle.linux_perf_data.specs.Attribute.{Attribute, AreConsistent}
 use Rattle.linux_perf_data.specs.AttributeLookup.{Represents}
 use Rattle.linux_perf_data.specs.Layout.{RecordView, LayoutEnd, RemainingRecords}
-use Rattle.linux_perf_data.specs.declared.records.input.Input.TheVariants.{Section}
+use Rattle.linux_perf_data.specs.declared.records.input.RecordInput.TheVariants.{Section}
 use Rattle.linux_perf_data.specs.Iter.{HasRemainingRecords, iter_source_state, section_size_of}
 use Rattle.linux_perf_data.specs.FeatureData.{feature_data_of}
 use Rattle.linux_perf_data.specs.PerfFile.{descriptions_of_file, features_of_file, endian_of_file, feature_data_in_file, attributes_of_file}

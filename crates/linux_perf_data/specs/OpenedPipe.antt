@@ -9,7 +9,7 @@ use Rattle.linux_perf_data.specs.declared.file_reader.PerfFileReader.{PerfFileRe
 use Rattle.linux_perf_data.specs.declared.records.iter.PerfRecordIter.{PerfRecordIter}
 use Rattle.linux_perf_data.specs.declared.records.iter.Stage.TheVariants.{Running, Ended}
 use Rattle.linux_perf_data.specs.declared.perf_file.PerfFile.{PerfFile}
-use Rattle.linux_perf_data.specs.declared.records.input.Input.TheVariants.{Pipe}
+use Rattle.linux_perf_data.specs.declared.records.input.RecordInput.TheVariants.{Pipe}
 use Rattle.linux_perf_data.specs.declared.pipe.opening.PipeOpening.{PipeOpening}
 use Rattle.linux_perf_data.specs.Descriptions.{described_attributes}
 use Rattle.linux_perf_data.specs.FeatureData.{feature_data_of}

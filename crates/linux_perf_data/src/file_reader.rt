@@ -8,7 +8,7 @@ use crate::attributes::lookup::AttributeLookup;
 use crate::file::opening::{FileOpening, open_file};
 use crate::perf_file::PerfFile;
 use crate::pipe::opening::{PipeOpening, open_pipe};
-use crate::records::input::Input;
+use crate::records::input::RecordInput;
 use crate::records::iter::Stage;
 pub use crate::records::iter::{PerfRecordIter, RecordPlace};
 use perfdata_base::source::{PlacedSource, Source};
@@ -62,7 +62,7 @@ impl<C: PlacedSource + Drop> PerfFileReader<C> {
         let perf_file = opening.perf_file;
         let endian = perf_file.endian;
         let lookup = AttributeLookup::new(alloc, &perf_file.attributes, endian)?;
-        let input = Input::Section(opening.data_size);
+        let input = RecordInput::Section(opening.data_size);
         let stage = Stage::Running;
         let record_iter = PerfRecordIter::new(alloc, source, input, endian, lookup, stage);
         Ok(PerfFileReader {
@@ -135,7 +135,7 @@ impl<R: Source + Drop> PerfFileReader<R> {
             Some(_) => Stage::Running,
             None => Stage::Ended,
         };
-        let input = Input::Pipe(opening.pending_header);
+        let input = RecordInput::Pipe(opening.pending_header);
         let record_iter = PerfRecordIter::new(alloc, source, input, endian, lookup, stage);
         Ok(PerfFileReader {
             perf_file,

@@ -104,7 +104,7 @@ impl<'a> InMemoryRecords<'a> {
                 let parse_info = *self
                     .records
                     .attribute_lookup
-                    .parse_info_of(identified.attr_index());
+                    .parse_info(identified.attr_index());
                 let body = RawData::Single(body);
                 Ok(Some((
                     identified.place,

@@ -104,7 +104,7 @@ impl PerfFile {
     }
 
     // The text of a section that contains one string.
-    fn string_of(&self, feature: Feature) -> Result<Option<&str>, Error>
+    fn feature_string(&self, feature: Feature) -> Result<Option<&str>, Error>
         ensures { AnswersOf (ParsesStringSection (endian_of_file self.now))
             (feature_data_in_file self.now feature.0) result }
     {
@@ -136,7 +136,7 @@ impl PerfFile {
         ensures { AnswersOf (ParsesStringSection (endian_of_file self.now))
             (feature_data_in_file self.now hostname) result }
     {
-        self.string_of(Feature::HOSTNAME)
+        self.feature_string(Feature::HOSTNAME)
     }
 
     /// Returns the release of the system (section OSRELEASE), as `uname -r` prints it.
@@ -146,7 +146,7 @@ impl PerfFile {
         ensures { AnswersOf (ParsesStringSection (endian_of_file self.now))
             (feature_data_in_file self.now os_release) result }
     {
-        self.string_of(Feature::OSRELEASE)
+        self.feature_string(Feature::OSRELEASE)
     }
 
     /// Returns the version of the recording tool (section VERSION).
@@ -156,7 +156,7 @@ impl PerfFile {
         ensures { AnswersOf (ParsesStringSection (endian_of_file self.now))
             (feature_data_in_file self.now version) result }
     {
-        self.string_of(Feature::VERSION)
+        self.feature_string(Feature::VERSION)
     }
 
     /// Returns the architecture of the processor (section ARCH), as `uname -m` prints it.
@@ -166,7 +166,7 @@ impl PerfFile {
         ensures { AnswersOf (ParsesStringSection (endian_of_file self.now))
             (feature_data_in_file self.now arch) result }
     {
-        self.string_of(Feature::ARCH)
+        self.feature_string(Feature::ARCH)
     }
 
     /// Returns the description of the processor (section CPUDESC).
@@ -176,7 +176,7 @@ impl PerfFile {
         ensures { AnswersOf (ParsesStringSection (endian_of_file self.now))
             (feature_data_in_file self.now cpu_desc) result }
     {
-        self.string_of(Feature::CPUDESC)
+        self.feature_string(Feature::CPUDESC)
     }
 
     /// Returns the identifier of the processor (section CPUID).
@@ -186,7 +186,7 @@ impl PerfFile {
         ensures { AnswersOf (ParsesStringSection (endian_of_file self.now))
             (feature_data_in_file self.now cpuid) result }
     {
-        self.string_of(Feature::CPUID)
+        self.feature_string(Feature::CPUID)
     }
 
     /// Returns the command-line arguments of the recording tool (section CMDLINE).

@@ -26,8 +26,8 @@ use Rattle.perfdata_arrays.specs.Records.{FailsWithStatus, IsPipeWithRecords}
 use Rattle.perfdata_arrays.specs.Status.{error_status, walk_status}
 use Rattle.perfdata_arrays.specs.declared.decoder.EntryCounts.{EntryCounts}
 use Rattle.perfdata_arrays.specs.declared.pages.DecodingWalk.{DecodingWalk}
-use Rattle.perfdata_arrays.specs.declared.pages.PageEnd.{PageEnd}
-use Rattle.perfdata_arrays.specs.declared.pages.PageEnd.TheVariants.{Full, Exceeded, Records}
+use Rattle.perfdata_arrays.specs.declared.pages.WalkEnd.{WalkEnd}
+use Rattle.perfdata_arrays.specs.declared.pages.WalkEnd.TheVariants.{Full, Exceeded, Records}
 use Rattle.perfdata_arrays.specs.declared.pages.PageResult.{PageResult}
 use Rattle.perfdata_arrays.specs.declared.status.Status.{Status}
 use Rattle.perfdata_arrays.specs.declared.status.Status.TheVariants.{NoSpace, Success}
@@ -77,7 +77,7 @@ module _ {A B : Type 0} (kind : EntryKind A B) where
         | inr same ↦ same
       ]
 
-      page_is : (end : PageEnd) → EndsWalk kind false reader.records file records capacity frames_capacity (length own) (length own_frames) now now_file end new file'
+      page_is : (end : WalkEnd) → EndsWalk kind false reader.records file records capacity frames_capacity (length own) (length own_frames) now now_file end new file'
           → IsDecodedPage kind bytes from capacity frames_capacity own own_frames (result_of_end end (length own) (length own_frames)) (position_of now)
       page_is Full (page, full) = record {
         records = records;
@@ -179,7 +179,7 @@ module _ {A B : Type 0} (kind : EntryKind A B) where
       abbrev EndsWith : Result (Unit {0}) Error → Type 0
       EndsWith r = RecordsEnd kind true reader.records pipe_file w.records (length entries) (length w.own) w.input_at_end w.file_at_end r new file'
 
-      ends_with : (end : PageEnd) → EndsWalk kind true reader.records pipe_file w.records (length entries) (length frames) (length w.own) (length w.own_frames) w.input_at_end w.file_at_end end new file' → (r : Result (Unit {0}) Error) × (end ≡ Records r) × EndsWith r
+      ends_with : (end : WalkEnd) → EndsWalk kind true reader.records pipe_file w.records (length entries) (length frames) (length w.own) (length w.own_frames) w.input_at_end w.file_at_end end new file' → (r : Result (Unit {0}) Error) × (end ≡ Records r) × EndsWith r
       ends_with Full (page, _) = absurd cc
       ends_with (Exceeded needed) (page, _, _) = absurd cc
       ends_with (Records r) e = (r, refl, e)

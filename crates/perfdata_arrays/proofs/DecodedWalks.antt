@@ -23,7 +23,7 @@ use Rattle.perfdata_arrays.specs.DecodedPages.{DecodesRecords, EndsWalk, IsFollo
 use Rattle.perfdata_arrays.specs.Decoding.{Adding, AreEntriesOf, EntryKind, ExceedsArrays, WritesRecord, of_no_records, of_one_more, wants, wants_frames}
 use Rattle.perfdata_arrays.specs.declared.decoder.EntryCounts.{EntryCounts}
 use Rattle.perfdata_arrays.specs.declared.pages.DecodingWalk.{DecodingWalk}
-use Rattle.perfdata_arrays.specs.declared.pages.PageEnd.{PageEnd}
+use Rattle.perfdata_arrays.specs.declared.pages.WalkEnd.{WalkEnd}
 
 -- ---- attributes
 
@@ -176,7 +176,7 @@ module _ {A B : Type 0} (kind : EntryKind A B) (counts_all : Bool) (start : InMe
       }
 
     -- the end of the walk
-    pub decodes_records : (new : InMemoryRecords) (file' : PerfFile) (after : List A) (frames_after : List B) (next : RecordPosition) (end : PageEnd) (walk : DecodingWalk) → walk ≡ record { count = count; frames_count = used; next = next; end = end } → next ≡ position_of now → after ≡ entries' → frames_after ≡ frames'
+    pub decodes_records : (new : InMemoryRecords) (file' : PerfFile) (after : List A) (frames_after : List B) (next : RecordPosition) (end : WalkEnd) (walk : DecodingWalk) → walk ≡ record { count = count; frames_count = used; next = next; end = end } → next ≡ position_of now → after ≡ entries' → frames_after ≡ frames'
         → EndsWalk kind counts_all start file so_far.records (length entries) (length frames) (length so_far.own) (length so_far.own_frames) now now_file end new file'
         → DecodesRecords kind counts_all start file entries frames walk new file' after frames_after
     decodes_records new file' after frames_after next end walk is position same same_frames ends =

@@ -25,8 +25,8 @@ pub record SegmentAt (section : List ℕ) (offset : ℕ) (segment : List ℕ) : 
   pub split : nul_segments (drop offset section) ≡ segment ∷ later
   pub from : AreSegmentsFrom section (offset + length segment + 1) later
 
-pub segment_at : (section : List ℕ) (offset : ℕ) (segment : List ℕ) → offset ≤ length section → segment ≡ before_nul (drop offset section) → SegmentAt section offset segment
-segment_at section offset segment inside is =
+pub find_segment : (section : List ℕ) (offset : ℕ) (segment : List ℕ) → offset ≤ length section → segment ≡ before_nul (drop offset section) → SegmentAt section offset segment
+find_segment section offset segment inside is =
     let rest : List ℕ = drop offset section in
     let n : ℕ = position_or_len (λ b. b == 0) rest in
     let left : length rest + offset ≡ length section = omega (arith, inside, length-drop offset section) in
@@ -68,14 +68,14 @@ segments_past section offset segments from past = elim from [ inl found ↦ (let
 pub no_value : (section : List ℕ) (offset : ℕ) (key : List ℕ) → offset ≤ length section → key ≡ before_nul (drop offset section) → length section < offset + length key + 1
     → (segments : List (List ℕ)) → AreSegmentsFrom section offset segments → pair_up segments ≡ []
 no_value section offset key inside is past segments from =
-    let k = segment_at section offset key inside is in
+    let k = find_segment section offset key inside is in
     ap pair_up (segments_inside section offset segments from inside ∙ k.split ∙ ap (λ l. key ∷ l) (segments_past section (offset + length key + 1) k.later k.from past))
 
 pub pair_found : (section : List ℕ) (offset : ℕ) (key value : List ℕ) → offset ≤ length section → key ≡ before_nul (drop offset section) → offset + length key + 1 ≤ length section → value ≡ before_nul (drop (offset + length key + 1) section)
     → IsPairAt section offset (key, value)
 pair_found section offset key value inside is inside' is' =
-    let k = segment_at section offset key inside is in
-    let v = segment_at section (offset + length key + 1) value inside' is' in
+    let k = find_segment section offset key inside is in
+    let v = find_segment section (offset + length key + 1) value inside' is' in
     let within = v.within in
     record {
       within = omega (arith, within);

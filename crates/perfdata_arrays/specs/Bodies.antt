@@ -14,8 +14,8 @@ use Rattle.perfdata_events.specs.SampleFormat.{PERIOD, READ, CALLCHAIN}
 use Rattle.perfdata_events.specs.Words.{word}
 use Rattle.perfdata_events.specs.declared.format.EventFormat.{EventFormat}
 use Rattle.perfdata_arrays.specs.declared.samples.body.SampleWords.{SampleWords}
-use Rattle.perfdata_events.specs.declared.sample.words.EventWords.{EventWords}
-use Rattle.perfdata_events.specs.declared.sample.words.OriginWords.{OriginWords}
+use Rattle.perfdata_events.specs.declared.sample.words.EventFields.{EventFields}
+use Rattle.perfdata_events.specs.declared.sample.words.OriginFields.{OriginFields}
 use Rattle.perfdata_arrays.specs.declared.samples.body.BodyError.TheVariants.{Truncated, UnknownFields}
 use Rattle.perfdata_arrays.specs.declared.samples.body.SampleBody.{SampleBody}
 use Rattle.perfdata_arrays.specs.declared.samples.body.SampleBody.TheVariants.{Complete, Words, Nothing}
@@ -26,7 +26,7 @@ word_bits = 66511
 
 -- The words of a sample, each a value and then the others.
 abbrev pub WordValues : Type 0
-WordValues = OriginWords × (EventWords × Option ℕ)
+WordValues = OriginFields × (EventFields × Option ℕ)
 
 abbrev pub values_of_words : SampleWords → WordValues
 values_of_words v = (v.origin, (v.event, v.period))

@@ -21,8 +21,8 @@ use Rattle.perfdata_arrays.specs.Records.{FailsWithStatus, IsPipeWithRecords}
 use Rattle.perfdata_arrays.specs.Status.{walk_status}
 use Rattle.perfdata_arrays.specs.Walk.{WalkEnds}
 use Rattle.perfdata_arrays.specs.declared.decoder.EntryCounts.{EntryCounts}
-use Rattle.perfdata_arrays.specs.declared.pages.PageEnd.{PageEnd}
-use Rattle.perfdata_arrays.specs.declared.pages.PageEnd.TheVariants.{Full, Exceeded, Records}
+use Rattle.perfdata_arrays.specs.declared.pages.WalkEnd.{WalkEnd}
+use Rattle.perfdata_arrays.specs.declared.pages.WalkEnd.TheVariants.{Full, Exceeded, Records}
 use Rattle.perfdata_arrays.specs.declared.pages.DecodingWalk.{DecodingWalk}
 use Rattle.perfdata_arrays.specs.declared.pages.PageResult.{PageResult}
 use Rattle.perfdata_arrays.specs.declared.status.Status.{Status}
@@ -37,7 +37,7 @@ abbrev pub page_result : ℕ → ℕ → Status → PageResult
 page_result count frames_count status = record { count = count; frames_count = frames_count; status = status }
 
 -- The result for the end of a walk: an error of its records, or no space for what the first record with entries adds.
-abbrev pub result_of_end : PageEnd → ℕ → ℕ → PageResult
+abbrev pub result_of_end : WalkEnd → ℕ → ℕ → PageResult
 result_of_end Full count used = page_result count used Success
 result_of_end (Exceeded needed) count used = if count == 0 then page_result needed.entries needed.frames NoSpace else page_result count used Success
 result_of_end (Records r) count used = page_result count used (walk_status r)
@@ -64,7 +64,7 @@ module _ {A B : Type 0} (kind : EntryKind A B) where
 
   -- How the walk ends after these records: the array of entries is full, the next record adds more than fits, or the records end. A walk
   -- that counts all ends with the records.
-  abbrev pub EndsWalk : Bool → InMemoryRecords → PerfFile → List RecordView → ℕ → ℕ → ℕ → ℕ → InMemoryRecords → PerfFile → PageEnd → InMemoryRecords → PerfFile → Type 0
+  abbrev pub EndsWalk : Bool → InMemoryRecords → PerfFile → List RecordView → ℕ → ℕ → ℕ → ℕ → InMemoryRecords → PerfFile → WalkEnd → InMemoryRecords → PerfFile → Type 0
   EndsWalk counts_all old file records capacity frames_capacity count used now now_file Full new file' = (counts_all ≡ false) × (count ≡ capacity)
   EndsWalk counts_all old file records capacity frames_capacity count used now now_file (Exceeded needed) new file' =
       (counts_all ≡ false) × (count < capacity) × IsFollowedInWalk old file records capacity frames_capacity count used needed new file'

@@ -14,19 +14,19 @@ use Rattle.perfdata_events.specs.Format.{encodes, fails}
 use Rattle.perfdata_events.specs.Sample.{Start, Middle, branch_count, sample, sample_of}
 use Rattle.perfdata_events.specs.SampleEnd.{End}
 use Rattle.perfdata_events.specs.Words.{u64s_in}
-use Rattle.perfdata_events.specs.declared.fields.registers.Registers.{Registers}
+use Rattle.perfdata_events.specs.declared.fields.registers.SampleRegisters.{SampleRegisters}
 use Rattle.perfdata_events.specs.declared.format.EventFormat.{EventFormat}
 use Rattle.perfdata_events.specs.declared.sample.SampleRecord.{SampleRecord}
 use Rattle.perfdata_events.specs.declared.sample.parts.BranchStack.{BranchStack}
 use Rattle.perfdata_events.specs.declared.sample.parts.UserStack.{UserStack}
 use Rattle.perfdata_arrays.specs.declared.samples.body.BodyError.{BodyError}
 use Rattle.perfdata_arrays.specs.declared.samples.body.BodyError.TheVariants.{Truncated, UnknownFields}
-use Rattle.perfdata_arrays.specs.declared.samples.details.BranchesPlace.{BranchesPlace}
-use Rattle.perfdata_arrays.specs.declared.samples.details.BytesPlace.{BytesPlace}
+use Rattle.perfdata_arrays.specs.declared.samples.details.BranchRange.{BranchRange}
+use Rattle.perfdata_arrays.specs.declared.samples.details.ByteRange.{ByteRange}
 use Rattle.perfdata_arrays.specs.declared.samples.details.PartOffsets.{PartOffsets}
-use Rattle.perfdata_arrays.specs.declared.samples.details.RegistersPlace.{RegistersPlace}
+use Rattle.perfdata_arrays.specs.declared.samples.details.RegisterRange.{RegisterRange}
 use Rattle.perfdata_arrays.specs.declared.samples.details.SampleDetails.{SampleDetails}
-use Rattle.perfdata_arrays.specs.declared.samples.details.StackPlace.{StackPlace}
+use Rattle.perfdata_arrays.specs.declared.samples.details.StackRange.{StackRange}
 
 -- ---- where a part starts: after the fields before it
 
@@ -94,28 +94,28 @@ HasTruncatedPart format body = (bits : ℕ) × IsBeforePart bits × IsTruncatedI
 
 -- ---- the parts
 
-abbrev pub bytes_place : Option RawData → ℕ → BytesPlace
-bytes_place None offset = record { offset = 0; size = 0 }
-bytes_place (Some bytes) offset = record { offset = offset; size = length (bytes_of bytes) }
+abbrev pub byte_range : Option RawData → ℕ → ByteRange
+byte_range None offset = record { offset = 0; size = 0 }
+byte_range (Some bytes) offset = record { offset = offset; size = length (bytes_of bytes) }
 
 -- after the number of branches, and the hardware index if there is one
-abbrev pub branches_place : Option BranchStack → ℕ → BranchesPlace
-branches_place None offset = record { offset = 0; count = 0; hw_index = 0 }
-branches_place (Some stack) offset = record {
+abbrev pub branch_range : Option BranchStack → ℕ → BranchRange
+branch_range None offset = record { offset = 0; count = 0; hw_index = 0 }
+branch_range (Some stack) offset = record {
   offset = if is_some stack.hw_index then offset + 16 else offset + 8;
   count = branch_count stack;
   hw_index = unwrap_or stack.hw_index 0;
 }
 
 -- after the ABI
-abbrev pub registers_place : Option Registers → ℕ → RegistersPlace
-registers_place None offset = record { abi = 0; offset = 0; count = 0 }
-registers_place (Some registers) offset = record { abi = registers.abi; offset = offset + 8; count = length (u64s_in registers.values) }
+abbrev pub register_range : Option SampleRegisters → ℕ → RegisterRange
+register_range None offset = record { abi = 0; offset = 0; count = 0 }
+register_range (Some registers) offset = record { abi = registers.abi; offset = offset + 8; count = length (u64s_in registers.values) }
 
 -- after the size
-abbrev pub stack_place : Option UserStack → ℕ → StackPlace
-stack_place None offset = record { offset = 0; size = 0; dynamic_size = 0 }
-stack_place (Some stack) offset = record { offset = offset + 8; size = length (bytes_of stack.bytes); dynamic_size = unwrap_or stack.dynamic_size 0 }
+abbrev pub stack_range : Option UserStack → ℕ → StackRange
+stack_range None offset = record { offset = 0; size = 0; dynamic_size = 0 }
+stack_range (Some stack) offset = record { offset = offset + 8; size = length (bytes_of stack.bytes); dynamic_size = unwrap_or stack.dynamic_size 0 }
 
 -- ---- the details
 
@@ -129,22 +129,22 @@ details_of offsets s = record {
   cgroup = unwrap_or s.cgroup 0;
   data_page_size = unwrap_or s.data_page_size 0;
   code_page_size = unwrap_or s.code_page_size 0;
-  raw_offset = (bytes_place s.raw (offsets.raw + 4)).offset;
-  raw_size = (bytes_place s.raw (offsets.raw + 4)).size;
-  branches_offset = (branches_place s.branch_stack offsets.branches).offset;
-  branches_count = (branches_place s.branch_stack offsets.branches).count;
-  branches_hw_index = (branches_place s.branch_stack offsets.branches).hw_index;
-  user_abi = (registers_place s.user_registers offsets.user_registers).abi;
-  user_registers_offset = (registers_place s.user_registers offsets.user_registers).offset;
-  user_registers_count = (registers_place s.user_registers offsets.user_registers).count;
-  user_stack_offset = (stack_place s.user_stack offsets.user_stack).offset;
-  user_stack_size = (stack_place s.user_stack offsets.user_stack).size;
-  user_stack_dynamic_size = (stack_place s.user_stack offsets.user_stack).dynamic_size;
-  interrupt_abi = (registers_place s.interrupt_registers offsets.interrupt_registers).abi;
-  interrupt_registers_offset = (registers_place s.interrupt_registers offsets.interrupt_registers).offset;
-  interrupt_registers_count = (registers_place s.interrupt_registers offsets.interrupt_registers).count;
-  aux_offset = (bytes_place s.aux_data (offsets.aux + 8)).offset;
-  aux_size = (bytes_place s.aux_data (offsets.aux + 8)).size;
+  raw_offset = (byte_range s.raw (offsets.raw + 4)).offset;
+  raw_size = (byte_range s.raw (offsets.raw + 4)).size;
+  branches_offset = (branch_range s.branch_stack offsets.branches).offset;
+  branches_count = (branch_range s.branch_stack offsets.branches).count;
+  branches_hw_index = (branch_range s.branch_stack offsets.branches).hw_index;
+  user_abi = (register_range s.user_registers offsets.user_registers).abi;
+  user_registers_offset = (register_range s.user_registers offsets.user_registers).offset;
+  user_registers_count = (register_range s.user_registers offsets.user_registers).count;
+  user_stack_offset = (stack_range s.user_stack offsets.user_stack).offset;
+  user_stack_size = (stack_range s.user_stack offsets.user_stack).size;
+  user_stack_dynamic_size = (stack_range s.user_stack offsets.user_stack).dynamic_size;
+  interrupt_abi = (register_range s.interrupt_registers offsets.interrupt_registers).abi;
+  interrupt_registers_offset = (register_range s.interrupt_registers offsets.interrupt_registers).offset;
+  interrupt_registers_count = (register_range s.interrupt_registers offsets.interrupt_registers).count;
+  aux_offset = (byte_range s.aux_data (offsets.aux + 8)).offset;
+  aux_size = (byte_range s.aux_data (offsets.aux + 8)).size;
 }
 
 -- the details of a body that encodes a sample

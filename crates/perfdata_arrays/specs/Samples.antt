@@ -5,7 +5,7 @@ use Rattle.std.specs.Int.RustNames.{bit_and}
 use Rattle.perfdata_events.specs.CallChain.{frames_of}
 use Rattle.perfdata_events.specs.declared.fields.call_chain.CallContext.{CallContext}
 use Rattle.perfdata_events.specs.declared.fields.call_chain.CallContext.TheVariants as context
-use Rattle.perfdata_events.specs.declared.fields.call_chain.Frame.{Frame}
+use Rattle.perfdata_events.specs.declared.fields.call_chain.ChainFrame.{ChainFrame}
 use Rattle.perfdata_events.specs.declared.fields.task.Task.{Task}
 use Rattle.perfdata_events.specs.declared.format.EventFormat.{EventFormat}
 use Rattle.perfdata_arrays.specs.declared.samples.body.SampleWords.{SampleWords}
@@ -30,7 +30,7 @@ context_code context.GuestKernel = 4
 context_code context.GuestUser = 5
 context_code context.Guest = 6
 
-abbrev pub frame_entry_of : Frame → FrameEntry
+abbrev pub frame_entry_of : ChainFrame → FrameEntry
 frame_entry_of frame = record { address = frame.address; context = context_code frame.context; reserved = 0 }
 
 -- the entries of the frames of a call chain with these values

@@ -22,7 +22,7 @@ pub fn copy_prefix<T: Copy>(array: &mut [T], entries: &[T])
 }
 
 /// Copies `entries` into `array` after its first `offset` elements, up to its capacity.
-pub fn copy_at<T: Copy>(array: &mut [T], offset: u64, entries: &[T])
+pub fn copy_entries<T: Copy>(array: &mut [T], offset: u64, entries: &[T])
     ensures { array.new ≡ with_entries_at offset entries.now array.old }
 {
     if offset < array.len() as u64 {

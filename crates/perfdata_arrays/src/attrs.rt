@@ -4,7 +4,7 @@ ghost use Rattle.perfdata_arrays.specs.Attrs.{AreEndOffsets, ReadsAttrs, ReadsFi
 ghost use Rattle.perfdata_arrays.specs.Attrs.{WritesAttrsOrPrefix, attr_entry_at, has_name_number};
 ghost use Rattle.perfdata_arrays.specs.Attrs.{name_bytes, no_attrs_with};
 
-use crate::array::{copy_at, write_entry};
+use crate::array::{copy_entries, write_entry};
 use crate::metadata::{Metadata, file_metadata, pipe_metadata};
 use crate::status::Status;
 use linux_perf_data::AttributeDescription;
@@ -193,8 +193,8 @@ fn write_attrs(
         };
         let entry = attr_entry(description, name_offset, ids_start);
         write_entry(entries, index, entry);
-        copy_at(names, name_offset, attr_name(description));
-        copy_at(ids, ids_start, description.ids());
+        copy_entries(names, name_offset, attr_name(description));
+        copy_entries(ids, ids_start, description.ids());
         name_offset = names_end;
         ids_start = ids_end;
         index += 1;
@@ -220,7 +220,7 @@ fn no_attrs(status: Status) -> AttrsResult
 }
 
 // Writes the attributes of a recording that was read.
-fn attrs_of(
+fn attrs_result(
     read: Result<Metadata, Status>,
     entries: &mut [Attr],
     names: &mut [u8],
@@ -256,7 +256,7 @@ pub fn file_attrs(
 ) -> AttrsResult
     ensures { ReadsFileAttrs bytes.now entries.old names.old ids.old result entries.new names.new ids.new }
 {
-    attrs_of(file_metadata(alloc, bytes), entries, names, ids)
+    attrs_result(file_metadata(alloc, bytes), entries, names, ids)
 }
 
 /// Writes the attributes of a perf.data pipe, including late ones, as [`file_attrs`] does.
@@ -273,5 +273,5 @@ pub fn pipe_attrs(
 ) -> AttrsResult
     ensures { ReadsPipeAttrs bytes.now entries.old names.old ids.old result entries.new names.new ids.new }
 {
-    attrs_of(pipe_metadata(alloc, bytes), entries, names, ids)
+    attrs_result(pipe_metadata(alloc, bytes), entries, names, ids)
 }

@@ -62,7 +62,7 @@ fn dso_kind(key: &Option<DsoKey>) -> u32
 ///
 /// Returns `Truncated` if the section has no complete entry at `offset`, and otherwise `OutOfMemory` if
 /// memory runs out. On an error `out` is unchanged.
-pub fn build_id_at(
+pub fn read_build_id(
     alloc: Global,
     endian: Endianness,
     section: &[u8],
@@ -75,7 +75,7 @@ pub fn build_id_at(
         return Status::Truncated;
     }
     let mut rest = &section[offset as usize..];
-    let entry = match BuildIdEvent::read_from_in(alloc, endian, &mut rest) {
+    let entry = match BuildIdEvent::read_with_endian(alloc, endian, &mut rest) {
         Ok(entry) => entry,
         Err(AppendError::Memory) => return Status::OutOfMemory,
         Err(AppendError::Source(_)) => return Status::Truncated,

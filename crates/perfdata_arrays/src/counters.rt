@@ -130,7 +130,7 @@ impl EventEntry for CounterEntry {
         record_type == RecordType::READ.0 || record_type == RecordType::SAMPLE.0
     }
 
-    fn count_of(event: &EventRecord<'_>) -> usize {
+    fn entry_count(event: &EventRecord<'_>) -> usize {
         count_counters(&values_of_event(event))
     }
 

@@ -33,7 +33,7 @@ pub(crate) trait EventEntry: Copy {
         ensures { result ≡ has_type record_type };
 
     // Returns the number of a parsed record's entries.
-    fn count_of(event: &EventRecord<'_>) -> usize
+    fn entry_count(event: &EventRecord<'_>) -> usize
         ensures value { (envelope : EntryEnvelope) → result ≡ length (entries_of envelope event.now) }
         ensures few { (format : EventFormat) (raw : RawEventRecord) → IsParsed format raw event.now
             → result ≤ 8 + length (bytes_of raw.body) };
@@ -70,7 +70,7 @@ fn add_entries<E: EventEntry>(
         → length (E.entries_of envelope event.now) ≤ 8 + length (bytes_of raw.body) }
 {
     let counts = EntryCounts {
-        entries: E::count_of(event),
+        entries: E::entry_count(event),
         frames: 0,
     };
     if count < entries.len() {

@@ -34,7 +34,7 @@ pub struct FeaturesResult {
 }
 
 // The numbers of a set.
-fn bits_of(features: FeatureSet) -> FeatureBits
+fn feature_bits(features: FeatureSet) -> FeatureBits
     ensures { AreBitsOf features result }
 {
     FeatureBits {
@@ -59,12 +59,12 @@ fn no_features(status: Status) -> FeaturesResult
 }
 
 // The features of a recording that was read.
-fn features_of(read: Result<Metadata, Status>) -> FeaturesResult
+fn features_result(read: Result<Metadata, Status>) -> FeaturesResult
     ensures { ReadsFeatures read result }
 {
     match read {
         Ok(metadata) => FeaturesResult {
-            features: bits_of(metadata.perf_file.features()),
+            features: feature_bits(metadata.perf_file.features()),
             status: metadata.status,
         },
         Err(status) => no_features(status),
@@ -78,7 +78,7 @@ fn features_of(read: Result<Metadata, Status>) -> FeaturesResult
 pub fn file_features(alloc: Global, bytes: &[u8]) -> FeaturesResult
     ensures { ReadsFileFeatures bytes.now result }
 {
-    features_of(file_metadata(alloc, bytes))
+    features_result(file_metadata(alloc, bytes))
 }
 
 /// Returns the features of a perf.data pipe, up to its end or to its first error.
@@ -87,5 +87,5 @@ pub fn file_features(alloc: Global, bytes: &[u8]) -> FeaturesResult
 pub fn pipe_features(alloc: Global, bytes: &[u8]) -> FeaturesResult
     ensures { ReadsPipeFeatures bytes.now result }
 {
-    features_of(pipe_metadata(alloc, bytes))
+    features_result(pipe_metadata(alloc, bytes))
 }

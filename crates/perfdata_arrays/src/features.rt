@@ -44,7 +44,7 @@ fn copy_feature(perf_file: &PerfFile, feature: u32, buf: &mut [u8], status: Stat
 }
 
 // Copies the bytes of a feature of a recording that was read into `buf`, up to its capacity.
-fn feature_of(read: Result<Metadata, Status>, feature: u32, buf: &mut [u8]) -> FeatureResult
+fn feature_result(read: Result<Metadata, Status>, feature: u32, buf: &mut [u8]) -> FeatureResult
     ensures { ReadsFeature read feature buf.old result buf.new }
 {
     match read {
@@ -64,7 +64,7 @@ fn feature_of(read: Result<Metadata, Status>, feature: u32, buf: &mut [u8]) -> F
 pub fn file_feature(alloc: Global, bytes: &[u8], feature: u32, buf: &mut [u8]) -> FeatureResult
     ensures { ReadsFileFeature bytes.now feature buf.old result buf.new }
 {
-    feature_of(file_metadata(alloc, bytes), feature, buf)
+    feature_result(file_metadata(alloc, bytes), feature, buf)
 }
 
 /// Copies the bytes of a feature of a perf.data pipe into `buf`, up to its capacity.
@@ -74,5 +74,5 @@ pub fn file_feature(alloc: Global, bytes: &[u8], feature: u32, buf: &mut [u8]) -
 pub fn pipe_feature(alloc: Global, bytes: &[u8], feature: u32, buf: &mut [u8]) -> FeatureResult
     ensures { ReadsPipeFeature bytes.now feature buf.old result buf.new }
 {
-    feature_of(pipe_metadata(alloc, bytes), feature, buf)
+    feature_result(pipe_metadata(alloc, bytes), feature, buf)
 }

@@ -11,5 +11,5 @@ pub(crate) fn format_of_attribute(perf_file: &PerfFile, attr_index: usize) -> Op
     ensures { IsFormatAt (endian_of_file perf_file.now) (attributes_of_file perf_file.now) attr_index result }
 {
     let description = perf_file.event_attributes().get(attr_index)?;
-    Some(EventFormat::new(description.attributes(), perf_file.endian()))
+    Some(EventFormat::with_little_endian_flags(description.attributes(), perf_file.endian()))
 }

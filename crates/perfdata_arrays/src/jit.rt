@@ -148,7 +148,7 @@ pub fn jit_header(bytes: &[u8], out: &mut JitHeader) -> Status
 
 // Returns the record at `offset`, `None` if the bytes contain no complete record there, and
 // `JitBadRecordSize` if no record can have its size.
-pub(crate) fn record_at(
+pub(crate) fn find_record(
     endian: Endianness,
     bytes: &[u8],
     offset: u64,
@@ -202,7 +202,7 @@ pub fn jit_records(bytes: &[u8], start_offset: u64, entries: &mut [JitRecord]) -
     let mut next = start_offset.max(header.total_size as u64);
     let mut records = 0;
     'records: while records < entries.len() {
-        match record_at(endian, bytes, next) {
+        match find_record(endian, bytes, next) {
             Ok(Some(record)) => {
                 entries[records] = record;
                 records += 1;
@@ -280,7 +280,7 @@ pub fn jit_load(bytes: &[u8], offset: u64, out: &mut JitLoad) -> Status
     };
     // For the prover.
     let _count = byte_count(bytes);
-    let record = match record_at(endian, bytes, offset) {
+    let record = match find_record(endian, bytes, offset) {
         Ok(Some(record)) => record,
         Ok(None) => return Status::Truncated,
         Err(status) => return status,

@@ -4,7 +4,7 @@ ghost use Rattle.perfdata_arrays.specs.JitBodies.{FindsBody, ReadsJitMove, Reads
 ghost use Rattle.perfdata_arrays.specs.JitBodies.{unwinding_entry};
 
 use crate::array::byte_count;
-use crate::jit::{JitRecord, parse_header, record_at};
+use crate::jit::{JitRecord, find_record, parse_header};
 use crate::status::Status;
 use perfdata_base::raw::{Endianness, RawData};
 use perfdata_jit::{JitCodeMoveRecord, JitCodeUnwindingInfoRecord, JitDumpRecordHeader};
@@ -59,7 +59,7 @@ pub struct JitUnwinding {
 const _: () = prove!(size_of::<JitUnwinding>() == 40);
 
 // The body of the record with this entry.
-fn body_of<'a>(bytes: &'a [u8], entry: &JitRecord) -> &'a [u8]
+fn record_body<'a>(bytes: &'a [u8], entry: &JitRecord) -> &'a [u8]
     requires min_size { 16 ≤ entry.now.size }
     requires in_bounds { entry.now.offset + entry.now.size ≤ length bytes.now }
     ensures { result.now ≡ take (entry.now.size - 16) (drop (entry.now.offset + 16) bytes.now) }
@@ -70,7 +70,7 @@ fn body_of<'a>(bytes: &'a [u8], entry: &JitRecord) -> &'a [u8]
 }
 
 // The body of the record at `offset`, if it has this type, and the byte order of the file.
-pub(crate) fn body_at(
+pub(crate) fn find_body(
     bytes: &[u8],
     offset: u64,
     record_type: u32,
@@ -82,13 +82,13 @@ pub(crate) fn body_at(
     let (_header, endian) = parse_header(bytes)?;
     // For the prover.
     let _count = byte_count(bytes);
-    let Some(record) = record_at(endian, bytes, offset)? else {
+    let Some(record) = find_record(endian, bytes, offset)? else {
         return Err(Status::Truncated);
     };
     if record.record_type != record_type {
         return Err(Status::JitWrongType);
     }
-    Ok((endian, body_of(bytes, &record)))
+    Ok((endian, record_body(bytes, &record)))
 }
 
 // The entry of a move record.
@@ -112,7 +112,7 @@ fn move_numbers(moved: &JitCodeMoveRecord) -> JitMove
 pub fn jit_move(bytes: &[u8], offset: u64, out: &mut JitMove) -> Status
     ensures { ReadsJitMove bytes.now offset out.old result out.new }
 {
-    let (endian, body) = match body_at(bytes, offset, CODE_MOVE) {
+    let (endian, body) = match find_body(bytes, offset, CODE_MOVE) {
         Ok(found) => found,
         Err(status) => return status,
     };
@@ -131,7 +131,7 @@ pub fn jit_move(bytes: &[u8], offset: u64, out: &mut JitMove) -> Status
 pub fn jit_unwinding(bytes: &[u8], offset: u64, out: &mut JitUnwinding) -> Status
     ensures { ReadsJitUnwinding bytes.now offset out.old result out.new }
 {
-    let (endian, body) = match body_at(bytes, offset, CODE_UNWINDING_INFO) {
+    let (endian, body) = match find_body(bytes, offset, CODE_UNWINDING_INFO) {
         Ok(found) => found,
         Err(status) => return status,
     };

@@ -5,8 +5,8 @@ ghost use Rattle.perfdata_arrays.specs.JitDebug.{ReadsJitDebugInfo, debug_end, d
 ghost use Rattle.perfdata_arrays.specs.JitDebug.{debug_entry_at, debug_error_status, no_debug_info_with};
 ghost use Rattle.linux_perf_data.specs.RecordEntries.{with_prefix};
 
-use crate::array::copy_at;
-use crate::jit_bodies::body_at;
+use crate::array::copy_entries;
+use crate::jit_bodies::find_body;
 use crate::status::Status;
 use perfdata_base::raw::RawData;
 use perfdata_jit::{JitCodeDebugInfoEntry, JitCodeDebugInfoRecord};
@@ -100,7 +100,7 @@ fn write_entries(
     let mut index = 0;
     'entries: while index < entries.len() {
         let entry = debug_entry(offset, &entries[index]);
-        copy_at(out, index as u64, &[entry]);
+        copy_entries(out, index as u64, &[entry]);
         offset = entry.path_offset + entry.path_size + 1;
         index += 1;
     }
@@ -121,7 +121,7 @@ pub fn jit_debug_info(
 ) -> JitDebugInfoResult
     ensures { ReadsJitDebugInfo bytes.now offset entries.old result entries.new }
 {
-    let (endian, body) = match body_at(bytes, offset, CODE_DEBUG_INFO) {
+    let (endian, body) = match find_body(bytes, offset, CODE_DEBUG_INFO) {
         Ok(found) => found,
         Err(status) => return no_debug_info(status),
     };

@@ -96,7 +96,7 @@ fn padded_build_id(id: RawData<'_>) -> [u8; 20]
 }
 
 // The identity of a file.
-fn identity_of(id: &Mmap2FileId<'_>) -> FileIdentity
+fn file_identity(id: &Mmap2FileId<'_>) -> FileIdentity
     ensures { result ≡ identity_of id.now }
 {
     match id {
@@ -157,7 +157,7 @@ fn mmap2_entry(envelope: EntryEnvelope, mapping: &Mmap2Record<'_>) -> MappingEnt
     requires { envelope.body_offset + 64 < 2 ^ 64 }
     ensures { result ≡ mmap2_entry envelope mapping.now }
 {
-    let file = identity_of(&mapping.file_id);
+    let file = file_identity(&mapping.file_id);
     let build_id = file.build_id;
     MappingEntry {
         offset: envelope.offset,
@@ -207,7 +207,7 @@ impl EventEntry for MappingEntry {
         record_type == RecordType::MMAP.0 || record_type == RecordType::MMAP2.0
     }
 
-    fn count_of(event: &EventRecord<'_>) -> usize {
+    fn entry_count(event: &EventRecord<'_>) -> usize {
         match event {
             EventRecord::Mmap(_) => 1,
             EventRecord::Mmap2(_) => 1,

@@ -4,7 +4,7 @@ ghost use Rattle.std.specs.Str.{IsUtf8};
 ghost use Rattle.perfdata_simpleperf.specs.MetaInfo.{IsUtf8Pair};
 ghost use Rattle.perfdata_arrays.specs.MetaPairs.{FindsPair, FindsSegment, ReadsMetaInfo, pair_entry_at};
 
-use crate::array::{byte_count, copy_at};
+use crate::array::{byte_count, copy_entries};
 use crate::status::Status;
 use perfdata_sections::feature_sections::before_nul;
 
@@ -35,7 +35,7 @@ pub struct MetaInfoResult {
 
 // The segment that starts at an offset and ends before a NUL or at the end of the section, or `None` past the
 // end.
-fn segment_at(section: &[u8], offset: u64) -> Option<&[u8]>
+fn find_segment(section: &[u8], offset: u64) -> Option<&[u8]>
     ensures { FindsSegment section.now offset result }
 {
     if offset > byte_count(section) {
@@ -45,13 +45,13 @@ fn segment_at(section: &[u8], offset: u64) -> Option<&[u8]>
 }
 
 // The key that starts at an offset and its value, or `None` if no two segments follow.
-fn pair_at(section: &[u8], offset: u64) -> Option<(&[u8], &[u8])>
+fn find_pair(section: &[u8], offset: u64) -> Option<(&[u8], &[u8])>
     ensures { FindsPair section.now offset result }
 {
     // For the prover.
     let _size = byte_count(section);
-    let key = segment_at(section, offset)?;
-    let value = segment_at(section, offset + key.len() as u64 + 1)?;
+    let key = find_segment(section, offset)?;
+    let value = find_segment(section, offset + key.len() as u64 + 1)?;
     Some((key, value))
 }
 
@@ -100,7 +100,7 @@ pub fn meta_info(section: &[u8], entries: &mut [MetaPair]) -> MetaInfoResult
     let _size = byte_count(section);
     let mut offset = 0u64;
     let mut count = 0u64;
-    'pairs: while let Some((key, value)) = pair_at(section, offset) {
+    'pairs: while let Some((key, value)) = find_pair(section, offset) {
         if !is_utf8_pair(key, value) {
             return MetaInfoResult {
                 count,
@@ -108,7 +108,7 @@ pub fn meta_info(section: &[u8], entries: &mut [MetaPair]) -> MetaInfoResult
             };
         }
         let entry = pair_entry(offset, key, value);
-        copy_at(entries, count, &[entry]);
+        copy_entries(entries, count, &[entry]);
         offset = entry.value_offset + entry.value_size + 1;
         count += 1;
     }

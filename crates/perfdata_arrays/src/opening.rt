@@ -24,7 +24,9 @@ pub fn open(alloc: Global, bytes: &[u8], recording: Recording) -> Result<InMemor
     ensures { Opens bytes.now recording result }
 {
     match recording {
-        Recording::File(position) => match InMemoryReader::parse_file_at(alloc, bytes, position) {
+        Recording::File(position) => match InMemoryReader::parse_file_from_position(
+            alloc, bytes, position,
+        ) {
             Ok(reader) => Ok(reader),
             Err(error) => Err(status_of_error(&error)),
         },

@@ -26,7 +26,7 @@ pub struct PageResult {
 
 // How a walk ends.
 #[derive(Drop)]
-pub(crate) enum PageEnd {
+pub(crate) enum WalkEnd {
     // The array of entries is full.
     Full,
     // The next record adds more than fits. The numbers are to be reported.
@@ -41,7 +41,7 @@ pub(crate) struct DecodingWalk {
     pub(crate) count: u64,
     pub(crate) frames_count: u64,
     pub(crate) next: RecordPosition,
-    pub(crate) end: PageEnd,
+    pub(crate) end: WalkEnd,
 }
 
 // Whether a walk reads another record.
@@ -80,18 +80,18 @@ fn decode_records<D: RecordDecoder>(
                         count += added.entries;
                         used += added.frames;
                     }
-                    Err(needed) => return walk_end(count, used, next, PageEnd::Exceeded(needed)),
+                    Err(needed) => return walk_end(count, used, next, WalkEnd::Exceeded(needed)),
                 }
             }
-            Ok(None) => return walk_end(count, used, next, PageEnd::Records(Ok(()))),
-            Err(error) => return walk_end(count, used, next, PageEnd::Records(Err(error))),
+            Ok(None) => return walk_end(count, used, next, WalkEnd::Records(Ok(()))),
+            Err(error) => return walk_end(count, used, next, WalkEnd::Records(Err(error))),
         }
     }
-    walk_end(count, used, input.position(), PageEnd::Full)
+    walk_end(count, used, input.position(), WalkEnd::Full)
 }
 
 // The walk with these numbers, position and end.
-fn walk_end(count: usize, used: usize, next: RecordPosition, end: PageEnd) -> DecodingWalk
+fn walk_end(count: usize, used: usize, next: RecordPosition, end: WalkEnd) -> DecodingWalk
     ensures { result ≡ record { count = count; frames_count = used; next = next; end = end } }
 {
     DecodingWalk {
@@ -114,19 +114,19 @@ fn page_result(count: u64, frames_count: u64, status: Status) -> PageResult
 }
 
 // The result of a walk.
-fn result_of(walk: &DecodingWalk) -> PageResult
+fn walk_result(walk: &DecodingWalk) -> PageResult
     ensures { result ≡ result_of_end walk.now.end walk.now.count walk.now.frames_count }
 {
     match &walk.end {
-        PageEnd::Full => page_result(walk.count, walk.frames_count, Status::Success),
-        PageEnd::Exceeded(needed) => {
+        WalkEnd::Full => page_result(walk.count, walk.frames_count, Status::Success),
+        WalkEnd::Exceeded(needed) => {
             if walk.count == 0 {
                 page_result(needed.entries as u64, needed.frames as u64, Status::NoSpace)
             } else {
                 page_result(walk.count, walk.frames_count, Status::Success)
             }
         }
-        PageEnd::Records(end) => page_result(walk.count, walk.frames_count, status_of_end(end)),
+        WalkEnd::Records(end) => page_result(walk.count, walk.frames_count, status_of_end(end)),
     }
 }
 
@@ -150,7 +150,7 @@ pub(crate) fn file_page<D: RecordDecoder>(
     let mut input = reader.records;
     let walk = decode_records::<D>(&mut input, &mut perf_file, false, entries, frames);
     *position = walk.next;
-    result_of(&walk)
+    walk_result(&walk)
 }
 
 // Counts the entries of a pipe's records and their frames, and writes them up to the capacities.
@@ -169,5 +169,5 @@ pub(crate) fn pipe_page<D: RecordDecoder>(
     let mut perf_file = reader.perf_file;
     let mut input = reader.records;
     let walk = decode_records::<D>(&mut input, &mut perf_file, true, entries, frames);
-    result_of(&walk)
+    walk_result(&walk)
 }

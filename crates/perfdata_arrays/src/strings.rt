@@ -30,7 +30,7 @@ const _: () = prove!(size_of::<StringEntry>() == 24);
 /// The sections HOSTNAME, OSRELEASE, VERSION, ARCH, CPUDESC and CPUID contain one string. CMDLINE contains a
 /// count of four bytes, and that many strings. Returns `Truncated` if the section has no complete string at
 /// `offset`; then `out` is unchanged.
-pub fn string_at(endian: Endianness, section: &[u8], offset: u64, out: &mut StringEntry) -> Status
+pub fn find_string(endian: Endianness, section: &[u8], offset: u64, out: &mut StringEntry) -> Status
     ensures { ReadsString endian section.now offset out.old result out.new }
 {
     if offset > byte_count(section) {

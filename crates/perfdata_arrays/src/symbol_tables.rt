@@ -9,7 +9,7 @@ ghost use Rattle.perfdata_arrays.specs.SymbolTables.{WritesFilesOrPrefix, dex_of
 ghost use Rattle.perfdata_arrays.specs.SymbolTables.{info_type_of, min_vaddr_offset_of, symbol_entries_at};
 ghost use Rattle.perfdata_arrays.specs.SymbolTables.{symbol_names, zero_totals};
 
-use crate::array::copy_at;
+use crate::array::copy_entries;
 use crate::status::{Status, status_of_error};
 use linux_perf_data::{Error, Feature};
 use perfdata_base::raw::Endianness;
@@ -154,7 +154,7 @@ fn names_size(symbols: &[SimpleperfSymbol]) -> Option<u64>
 }
 
 // The totals with one more file, or `None` if one of them doesn't fit in 64 bits.
-fn totals_with(totals: SymbolTotals, file: &SimpleperfFileRecord) -> Option<SymbolTotals>
+fn next_totals(totals: SymbolTotals, file: &SimpleperfFileRecord) -> Option<SymbolTotals>
     ensures { AreNextTotals totals (record_value file.now) result }
 {
     let path_end = totals.names_size.checked_add(file.path.len() as u64)?;
@@ -214,8 +214,8 @@ fn write_symbols(
             name_offset,
             name_size,
         };
-        copy_at(symbols, start + index as u64, &[entry]);
-        copy_at(names, name_offset, name);
+        copy_entries(symbols, start + index as u64, &[entry]);
+        copy_entries(names, name_offset, name);
         name_offset += name_size;
         index += 1;
     }
@@ -238,16 +238,16 @@ fn write_files(
     let mut index = 0;
     'files: while index < all.len() {
         let file = &all[index];
-        let Some(next) = totals_with(totals, file) else {
+        let Some(next) = next_totals(totals, file) else {
             return SymbolTablesResult {
                 totals,
                 status: Status::OutOfMemory,
             };
         };
         let path = file.path.as_bytes();
-        copy_at(files, totals.file_count, &[file_entry(totals, file)]);
-        copy_at(names, totals.names_size, path);
-        copy_at(
+        copy_entries(files, totals.file_count, &[file_entry(totals, file)]);
+        copy_entries(names, totals.names_size, path);
+        copy_entries(
             offsets,
             totals.dex_offset_count,
             dex_offsets(&file.type_specific_msg),

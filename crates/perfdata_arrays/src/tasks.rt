@@ -104,7 +104,7 @@ impl EventEntry for TaskEntry {
             || record_type == RecordType::FORK.0
     }
 
-    fn count_of(event: &EventRecord<'_>) -> usize {
+    fn entry_count(event: &EventRecord<'_>) -> usize {
         match event {
             EventRecord::Comm(_) => 1,
             EventRecord::Exit(_) => 1,

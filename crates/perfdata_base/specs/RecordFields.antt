@@ -10,12 +10,12 @@ abbrev pub time_in : Endianness → RecordParseInfo → ℕ → List ℕ → Opt
 time_in order places kind body = u64_field_at order places.sample_time_from_start places.other_time_from_end kind body
 
 -- the time in the byte order of the parse info
-abbrev pub time_of : RecordParseInfo → ℕ → List ℕ → Option ℕ
-time_of places kind body = time_in places.endian places kind body
+abbrev pub read_time : RecordParseInfo → ℕ → List ℕ → Option ℕ
+read_time places kind body = time_in places.endian places kind body
 
 -- the identifier of a record
-abbrev pub identifier_of : Endianness → RecordIdParseInfo → ℕ → List ℕ → Option ℕ
-identifier_of order places kind body = u64_field_at order places.sample_id_from_start places.other_id_from_end kind body
+abbrev pub read_identifier : Endianness → RecordIdParseInfo → ℕ → List ℕ → Option ℕ
+read_identifier order places kind body = u64_field_at order places.sample_id_from_start places.other_id_from_end kind body
 
 -- the identifier of a record in an input whose records all have the field IDENTIFIER: at the start of a sample, and at the end of
 -- another kernel record if records have trailing fields

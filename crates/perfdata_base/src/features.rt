@@ -232,7 +232,7 @@ impl Feature {
 
 // The name of a feature's constant.
 #[tactic(auto, unfolding(crate::specs::Features::feature_name))]
-fn feature_name_of(number: u32) -> Option<&'static str>
+fn feature_name(number: u32) -> Option<&'static str>
     ensures { option_map (λ s. s.now) result ≡ feature_name number }
 {
     match number {
@@ -281,7 +281,7 @@ impl fmt::Display for Feature {
     ghost output = { λ f. Some (feature_text f.0) };
 
     fn fmt<W: fmt::Write>(&self, f: &mut fmt::Formatter<W>) -> fmt::Result {
-        match feature_name_of(self.0) {
+        match feature_name(self.0) {
             Some(name) => write!(f, "{name}"),
             None => write!(f, "Unknown Feature {}", self.0),
         }

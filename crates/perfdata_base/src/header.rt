@@ -8,7 +8,7 @@ ghost use Rattle.perfdata_base.specs.Header.{IsUnknownMagic, endian_by_first_byt
 
 use crate::endian::{Endianness, read_u64};
 use crate::features::FeatureSet;
-use crate::section::{PerfFileSection, section_entry_of};
+use crate::section::{PerfFileSection, section_entry};
 use crate::source::{PlacedSource, read_exact};
 use std::io::{Error, ErrorKind, Result, SeekFrom};
 
@@ -83,9 +83,9 @@ fn parse_header(bytes: &[u8]) -> PerfHeader
         magic,
         header_size: read_u64(endian, &bytes[8..]),
         attr_size: read_u64(endian, &bytes[16..]),
-        attr_section: section_entry_of(endian, &bytes[24..]),
-        data_section: section_entry_of(endian, &bytes[40..]),
-        event_types_section: section_entry_of(endian, &bytes[56..]),
+        attr_section: section_entry(endian, &bytes[24..]),
+        data_section: section_entry(endian, &bytes[40..]),
+        event_types_section: section_entry(endian, &bytes[56..]),
         features: FeatureSet([
             read_u64(endian, &bytes[72..]),
             read_u64(endian, &bytes[80..]),

@@ -18,7 +18,7 @@ pub struct PerfFileSection {
 }
 
 // The entry at the start of `bytes`.
-pub(crate) fn section_entry_of(endian: Endianness, bytes: &[u8]) -> PerfFileSection
+pub(crate) fn section_entry(endian: Endianness, bytes: &[u8]) -> PerfFileSection
     requires { 16 ≤ length bytes.now }
     ensures { result ≡ section_entry_of (number_in endian) bytes.now }
 {
@@ -42,7 +42,7 @@ impl PerfFileSection {
     {
         let mut bytes = [0u8; 16];
         read_exact(source, &mut bytes)?;
-        Ok(section_entry_of(T::ENDIAN, &bytes))
+        Ok(section_entry(T::ENDIAN, &bytes))
     }
 
     /// Parses a section entry from a source, as `parse_from` does.

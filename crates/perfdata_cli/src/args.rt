@@ -73,11 +73,11 @@ pub fn command_from_args(mut args: Args) -> Result<Command, ArgsError>
     if args.next().is_some() {
         return Err(ArgsError::Usage);
     }
-    command_of(verb.as_str(), path)
+    parse_command(verb.as_str(), path)
 }
 
 // Returns the command of the first argument and of the path, if there is one.
-fn command_of(verb: &str, path: Option<String>) -> Result<Command, ArgsError>
+fn parse_command(verb: &str, path: Option<String>) -> Result<Command, ArgsError>
     ensures file { IfSome path (λ name. (result ≡ Ok (Command.File name)) ↔ (verb.now ≡ codes "file")) }
     ensures jit { IfSome path (λ name. (result ≡ Ok (Command.Jit name)) ↔ (verb.now ≡ codes "jit")) }
     ensures pipe { IfNone path ((result ≡ Ok Command.Pipe) ↔ (verb.now ≡ codes "pipe")) }

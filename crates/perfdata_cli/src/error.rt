@@ -1,8 +1,8 @@
 //! Errors of the programs: what failed, where, and why.
 use crate::command_line::FAILURE;
 use crate::input::path_of_name;
-use crate::opening_part::{OpeningPart, truncated_part};
 use crate::position::Position;
+use crate::truncation::{OpeningPart, find_truncated_part};
 use linux_perf_data::Error;
 use linux_perf_data::jitdump::JitDumpError;
 use std::fmt::{Display, Formatter, InlineText};
@@ -53,7 +53,7 @@ impl InputError {
     ghost use Rattle.perfdata_cli.specs.declared.error.InputError.TheVariants.{Metadata, Record};
 
     /// Returns the error of reading the records, or of the metadata if none was read.
-    pub fn at(position: Position, cause: Error) -> InputError
+    pub fn with_position(position: Position, cause: Error) -> InputError
         ensures metadata { position.records ≡ 0 → result ≡ Metadata cause }
         ensures later { position.records ≢ 0 → result ≡ Record position cause }
     {
@@ -172,10 +172,14 @@ pub fn print_output_error(rt: &HostRuntime, program: &str, error: &io::Error) ->
 }
 
 // Returns the part of an input that ends too early, if this is the error of an opening that ends so.
-fn part_of(rt: &HostRuntime, input: &str, error: &InputError) -> Option<OpeningPart> {
+fn truncated_opening_part(
+    rt: &HostRuntime,
+    input: &str,
+    error: &InputError,
+) -> Option<OpeningPart> {
     match error {
         InputError::Metadata(Error::IoError(cause)) if cause.kind() == ErrorKind::UnexpectedEof => {
-            truncated_part(rt, path_of_name(input))
+            find_truncated_part(rt, path_of_name(input))
         }
         _ => None,
     }
@@ -186,7 +190,7 @@ fn part_of(rt: &HostRuntime, input: &str, error: &InputError) -> Option<OpeningP
 pub fn print_error(rt: &HostRuntime, program: &str, input: &str, error: &ProgramError) -> u8 {
     match error {
         ProgramError::Input(cause) => {
-            let _ = match part_of(rt, input, cause) {
+            let _ = match truncated_opening_part(rt, input, cause) {
                 Some(part) => eprintln!(rt; "{program}: {input}: {cause} in {part}"),
                 None => eprintln!(rt; "{program}: {input}: {cause}"),
             };

@@ -34,7 +34,7 @@ const STANDARD_INPUT_NAME: &str = "standard input";
 
 /// Returns the input that a FILE argument names: standard input if there is none and standard input is a
 /// FIFO, else the default.
-pub fn path_of<'a>(rt: &HostRuntime, file: Option<&'a str>) -> &'a str {
+pub fn input_path<'a>(rt: &HostRuntime, file: Option<&'a str>) -> &'a str {
     match (file, fs::metadata(rt, STANDARD_INPUT_PATH)) {
         (Some(path), _) => path,
         (None, Ok(metadata)) if metadata.file_type().is_fifo() => STANDARD_INPUT,
@@ -67,7 +67,7 @@ pub(crate) fn path_of_name(name: &str) -> &str
 
 /// An open input, of which the first bytes were read.
 #[derive(Drop)]
-pub struct Input {
+pub struct OpenInput {
     /// The kind of the input, if it is known.
     pub kind: Option<InputKind>,
     /// The size in bytes of a regular file.
@@ -91,20 +91,20 @@ fn open_unread(rt: &HostRuntime, path: &str) -> Result<(Unread, Option<u64>)> {
     Ok((Unread::File(file), size))
 }
 
-impl Input {
+impl OpenInput {
     ghost use Rattle.perfdata_cli.specs.Inputs.{IsPipe};
 
     /// Opens the input at a path and reads its first bytes, of which the first read may wait.
     ///
     /// Fails if it can't be opened, if a read fails, or if memory runs out.
-    pub fn open(rt: &HostRuntime, path: &str) -> Result<Input> {
+    pub fn open(rt: &HostRuntime, path: &str) -> Result<OpenInput> {
         let (mut unread, size) = open_unread(rt, path)?;
         let mut start = Vec::new(rt.alloc());
         unread
             .by_ref()
             .take(START_SIZE as u64)
             .read_to_end(&mut start)?;
-        Ok(Input {
+        Ok(OpenInput {
             kind: InputKind::of_start(&start),
             size,
             start,
@@ -128,7 +128,7 @@ impl Input {
 
     /// Reads the input into memory.
     pub fn into_bytes(self) -> Result<Vec<u8>> {
-        let Input {
+        let OpenInput {
             mut start,
             mut unread,
             ..
@@ -141,7 +141,7 @@ impl Input {
     // and other inputs are read into memory.
     fn into_input_bytes(self) -> Result<InputBytes> {
         match self {
-            Input {
+            OpenInput {
                 unread: Unread::File(mut file),
                 size: Some(_),
                 ..
@@ -149,7 +149,7 @@ impl Input {
                 file.rewind()?;
                 Ok(InputBytes::File(file))
             }
-            Input {
+            OpenInput {
                 kind: Some(InputKind::Pipe),
                 start,
                 unread,

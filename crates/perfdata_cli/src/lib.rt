@@ -6,6 +6,6 @@ pub mod command_line;
 pub mod error;
 pub mod input;
 pub mod input_bytes;
-mod opening_part;
 pub mod position;
 pub mod progress;
+mod truncation;

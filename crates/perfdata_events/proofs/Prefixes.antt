@@ -17,7 +17,7 @@ use Rattle.perfdata_events.specs.FileId.{file_id}
 use Rattle.perfdata_events.specs.Sample.{origin_words, event_words, raw_data, branch_stack, user_stack, sample_start, sample_middle, sample}
 use Rattle.perfdata_events.specs.SampleEnd.{data_words, page_words, aux_data, sample_end}
 use Rattle.perfdata_events.specs.CallChain.{chain}
-use Rattle.perfdata_events.specs.Registers.{registers}
+use Rattle.perfdata_events.specs.SampleRegisters.{registers}
 use Rattle.perfdata_events.specs.EventFormat.{register_masks_of}
 use Rattle.perfdata_events.specs.declared.format.EventFormat.{EventFormat}
 

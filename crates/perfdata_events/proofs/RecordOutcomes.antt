@@ -18,16 +18,16 @@ use Rattle.perfdata_events.specs.FileId.{file_id, file_id_at, FileId}
 use Rattle.perfdata_events.specs.Sample.{origin_words, event_words, raw_data, branch_stack, user_stack, sample_start, sample_middle, sample}
 use Rattle.perfdata_events.specs.SampleEnd.{data_words, page_words, aux_data, sample_end}
 use Rattle.perfdata_events.specs.CallChain.{chain}
-use Rattle.perfdata_events.specs.Registers.{registers}
+use Rattle.perfdata_events.specs.SampleRegisters.{registers}
 use Rattle.perfdata_events.specs.EventFormat.{register_masks_of}
 use Rattle.perfdata_events.specs.declared.format.EventFormat.{EventFormat}
 use Rattle.perfdata_events.specs.declared.sample_id.SampleId.{SampleId}
 use Rattle.perfdata_events.specs.declared.fields.read_values.Details.{Details}
 use Rattle.perfdata_events.specs.declared.fields.read_values.Times.{Times}
-use Rattle.perfdata_events.specs.declared.sample.words.OriginWords.{OriginWords}
-use Rattle.perfdata_events.specs.declared.sample.words.EventWords.{EventWords}
+use Rattle.perfdata_events.specs.declared.sample.words.OriginFields.{OriginFields}
+use Rattle.perfdata_events.specs.declared.sample.words.EventFields.{EventFields}
 use Rattle.perfdata_events.specs.declared.sample.end.DataWords.{DataWords}
-use Rattle.perfdata_events.specs.declared.sample.end.PageWords.{PageWords}
+use Rattle.perfdata_events.specs.declared.sample.end.PageFields.{PageFields}
 use Rattle.perfdata_events.proofs.OneOutcomes.{one_by_size, one_fixed, one_block, one_word, one_both, one_led, one_optional, one_fixed_and_text}
 
 true_or_false : (b : Bool) → (b ≡ true) ⊎ (b ≡ false)
@@ -101,7 +101,7 @@ module _ (number : ℕ → List ℕ → ℕ) where
     truncated = λ xs kind q. q;
   })
 
-  origin_words_at : ℕ → List ℕ → OriginWords
+  origin_words_at : ℕ → List ℕ → OriginFields
   origin_words_at format xs = record { identifier = word_after format [] 16 (u64_at number 0) xs; ip = word_after format (16 ∷ []) 0 (u64_at number 0) xs; task = word_after format (16 ∷ 0 ∷ []) 1 (task_at number) xs; timestamp = word_after format (16 ∷ 0 ∷ 1 ∷ []) 2 (u64_at number 0) xs }
 
   pub one_origin_words : (format : ℕ) → HasOneOutcome (origin_words number format)
@@ -115,7 +115,7 @@ module _ (number : ℕ → List ℕ → ℕ) where
     truncated = λ xs kind q. q;
   })
 
-  event_words_at : ℕ → List ℕ → EventWords
+  event_words_at : ℕ → List ℕ → EventFields
   event_words_at format xs = record { address = word_after format [] 3 (u64_at number 0) xs; id = word_after format (3 ∷ []) 6 (u64_at number 0) xs; stream_id = word_after format (3 ∷ 6 ∷ []) 9 (u64_at number 0) xs; cpu = word_after format (3 ∷ 6 ∷ 9 ∷ []) 7 (u32_at number 0) xs }
 
   pub one_event_words : (format : ℕ) → HasOneOutcome (event_words number format)
@@ -143,7 +143,7 @@ module _ (number : ℕ → List ℕ → ℕ) where
     truncated = λ xs kind q. q;
   })
 
-  page_words_at : ℕ → List ℕ → PageWords
+  page_words_at : ℕ → List ℕ → PageFields
   page_words_at format xs = record { physical_address = word_after format [] 19 (u64_at number 0) xs; cgroup = word_after format (19 ∷ []) 21 (u64_at number 0) xs; data_page_size = word_after format (19 ∷ 21 ∷ []) 22 (u64_at number 0) xs; code_page_size = word_after format (19 ∷ 21 ∷ 22 ∷ []) 23 (u64_at number 0) xs }
 
   pub one_page_words : (format : ℕ) → HasOneOutcome (page_words number format)

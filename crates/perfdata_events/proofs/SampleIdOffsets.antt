@@ -7,7 +7,7 @@ use Rattle.perfdata_base.specs.Raw.{bytes_of}
 use Rattle.perfdata_base.specs.Endian.{number_in}
 use Rattle.perfdata_base.specs.ParseInfo.{is_set, identifier_word, sample_words, trailing_words, offset_from_start, offset_from_end, parse_info_of, id_parse_info_of}
 use Rattle.perfdata_base.specs.BodyFields.{checked_offset_from_start, checked_offset_from_end, u64_field_at}
-use Rattle.perfdata_base.specs.RecordFields.{time_of, identifier_of}
+use Rattle.perfdata_base.specs.RecordFields.{read_time, read_identifier}
 use Rattle.perfdata_base.specs.declared.attr.PerfEventAttr.{PerfEventAttr}
 use Rattle.perfdata_base.specs.declared.event.raw_event_record.RawEventRecord.{RawEventRecord}
 use Rattle.perfdata_base.specs.declared.endian.Endianness.{Endianness}
@@ -122,7 +122,7 @@ module _ (attr : PerfEventAttr) (order : Endianness) where
     no_offset word unset = ap (λ b. from_end order body (offset_from_end (cond b (filter (is_set bits) trailing_bits) []) word)) (sym unset)
 
 pub time_agrees : (attr : PerfEventAttr) (order : Endianness) (raw : RawEventRecord) (id : SampleId) → raw.record_type.0 < 64 → IsSampleIdOf (event_format_of attr order) raw id
-    → id.timestamp ≡ time_of (parse_info_of attr order) raw.record_type.0 (bytes_of raw.body)
+    → id.timestamp ≡ read_time (parse_info_of attr order) raw.record_type.0 (bytes_of raw.body)
 time_agrees attr order raw id lt is =
     let body : List ℕ = bytes_of raw.body in
     let start : Option ℕ = offset_from_start (sample_words (bits attr order)) 2 in
@@ -136,7 +136,7 @@ time_agrees attr order raw id lt is =
     ]
 
 pub identifier_agrees : (attr : PerfEventAttr) (order : Endianness) (raw : RawEventRecord) (id : SampleId) → raw.record_type.0 < 64 → IsSampleIdOf (event_format_of attr order) raw id
-    → option_or id.identifier id.id ≡ identifier_of order (id_parse_info_of attr) raw.record_type.0 (bytes_of raw.body)
+    → option_or id.identifier id.id ≡ read_identifier order (id_parse_info_of attr) raw.record_type.0 (bytes_of raw.body)
 identifier_agrees attr order raw id lt is =
     let body : List ℕ = bytes_of raw.body in
     let word : ℕ = identifier_word (bits attr order) in

@@ -7,7 +7,7 @@ use Rattle.perfdata_events.specs.Format.{Outcome, fixed, led}
 use Rattle.perfdata_events.specs.Words.{u64s, u64s_in}
 use Rattle.perfdata_events.specs.declared.fields.call_chain.CallContext.{CallContext}
 use Rattle.perfdata_events.specs.declared.fields.call_chain.CallContext.TheVariants.{Hypervisor, Kernel, User, Guest, GuestKernel, GuestUser, Unknown}
-use Rattle.perfdata_events.specs.declared.fields.call_chain.Frame.{Frame}
+use Rattle.perfdata_events.specs.declared.fields.call_chain.ChainFrame.{ChainFrame}
 use Rattle.perfdata_events.specs.declared.fields.call_chain.CallChain.{CallChain}
 use Rattle.perfdata_events.specs.declared.fields.call_chain.CallChainIter.{CallChainIter}
 
@@ -23,8 +23,8 @@ module _ (number : ℕ → List ℕ → ℕ) where
 abbrev pub is_context_change : ℕ → Bool
 is_context_change value = nat_le (2 ^ 64 - 4095) value
 
-abbrev pub context_of : ℕ → CallContext
-context_of value = if value == 2 ^ 64 - 32 then Hypervisor
+abbrev pub call_context : ℕ → CallContext
+call_context value = if value == 2 ^ 64 - 32 then Hypervisor
     else if value == 2 ^ 64 - 128 then Kernel
     else if value == 2 ^ 64 - 512 then User
     else if value == 2 ^ 64 - 2048 then Guest
@@ -33,17 +33,17 @@ context_of value = if value == 2 ^ 64 - 32 then Hypervisor
     else Unknown
 
 -- The frames of the values after a context: the values that change no context, each with the last context before it.
-unfoldable pub frames_of : CallContext → List ℕ → List Frame
+unfoldable pub frames_of : CallContext → List ℕ → List ChainFrame
 frames_of context [] = []
 frames_of context (value ∷ values) = if is_context_change value
-    then frames_of (context_of value) values
+    then frames_of (call_context value) values
     else record { address = value; context = context } ∷ frames_of context values
 
 -- The context after values.
 unfoldable pub last_context : CallContext → List ℕ → CallContext
 last_context context [] = context
-last_context context (value ∷ values) = last_context (if is_context_change value then context_of value else context) values
+last_context context (value ∷ values) = last_context (if is_context_change value then call_context value else context) values
 
 -- The frames that an iterator hasn't returned yet.
-abbrev pub remaining_frames : CallChainIter → List Frame
+abbrev pub remaining_frames : CallChainIter → List ChainFrame
 remaining_frames iter = frames_of iter.context (u64s_in iter.values)

@@ -12,7 +12,7 @@ pub mod Words
 pub mod Task
 pub mod ReadValues
 pub mod CallChain
-pub mod Registers
+pub mod SampleRegisters
 pub mod FileId
 pub mod SampleEnd
 pub mod Lost

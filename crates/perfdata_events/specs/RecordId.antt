@@ -12,24 +12,24 @@ use Rattle.perfdata_events.specs.Sample.{origin_words, event_words}
 use Rattle.perfdata_events.specs.SampleId.{sample_id}
 use Rattle.perfdata_events.specs.declared.format.EventFormat.{EventFormat}
 use Rattle.perfdata_events.specs.declared.sample_id.SampleId.{SampleId}
-use Rattle.perfdata_events.specs.declared.sample.words.OriginWords.{OriginWords}
-use Rattle.perfdata_events.specs.declared.sample.words.EventWords.{EventWords}
+use Rattle.perfdata_events.specs.declared.sample.words.OriginFields.{OriginFields}
+use Rattle.perfdata_events.specs.declared.sample.words.EventFields.{EventFields}
 
 -- No field is selected.
 abbrev pub no_sample_id : SampleId
 no_sample_id = record { task = None; timestamp = None; id = None; stream_id = None; cpu = None; identifier = None }
 
-abbrev pub id_of_words : OriginWords → EventWords → SampleId
+abbrev pub id_of_words : OriginFields → EventFields → SampleId
 id_of_words o e = record { task = o.task; timestamp = o.timestamp; id = e.id; stream_id = e.stream_id; cpu = e.cpu; identifier = o.identifier }
 
 module _ (format : EventFormat) where
   -- The first eight words of a sample.
-  abbrev pub sample_header : List ℕ → Outcome (OriginWords × EventWords) → Type 0
+  abbrev pub sample_header : List ℕ → Outcome (OriginFields × EventFields) → Type 0
   sample_header = both (origin_words (number_in format.endian) format.sample_format.0) (λ _. event_words (number_in format.endian) format.sample_format.0)
 
   pub record IsLeadingId (body : List ℕ) (id : SampleId) : Type 0 where
-    pub origin : OriginWords
-    pub event : EventWords
+    pub origin : OriginFields
+    pub event : EventFields
     pub rest : List ℕ
     pub header_bytes_is : sample_header body (encodes (origin, event) rest)
     pub id_is : id ≡ id_of_words origin event

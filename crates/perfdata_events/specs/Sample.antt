@@ -15,15 +15,15 @@ use Rattle.perfdata_events.specs.Words.{u64s, u64s_in, word, words_size, after, 
 use Rattle.perfdata_events.specs.Task.{task_at}
 use Rattle.perfdata_events.specs.ReadValues.{Values, values_of, read_values}
 use Rattle.perfdata_events.specs.CallChain.{chain, chain_values_of}
-use Rattle.perfdata_events.specs.Registers.{registers, registers_of}
+use Rattle.perfdata_events.specs.SampleRegisters.{registers, registers_of}
 use Rattle.perfdata_events.specs.SampleEnd.{End, sample_end}
 use Rattle.perfdata_events.specs.EventFormat.{register_masks_of}
 use Rattle.perfdata_events.specs.declared.format.EventFormat.{EventFormat}
 use Rattle.perfdata_events.specs.declared.sample.parts.BranchEntry.{BranchEntry}
 use Rattle.perfdata_events.specs.declared.sample.parts.BranchStack.{BranchStack}
 use Rattle.perfdata_events.specs.declared.sample.parts.UserStack.{UserStack}
-use Rattle.perfdata_events.specs.declared.sample.words.OriginWords.{OriginWords}
-use Rattle.perfdata_events.specs.declared.sample.words.EventWords.{EventWords}
+use Rattle.perfdata_events.specs.declared.sample.words.OriginFields.{OriginFields}
+use Rattle.perfdata_events.specs.declared.sample.words.EventFields.{EventFields}
 use Rattle.perfdata_events.specs.declared.sample.SampleRecord.{SampleRecord}
 
 -- The hardware index, the numbers of the entries (three each: from, to, flags), and the counters.
@@ -64,7 +64,7 @@ module _ (number : ℕ → List ℕ → ℕ) where
 
   module _ (format : ℕ) where
     -- The words with the bits 16, 0, 1, 2.
-    pub record AreOriginWords (xs : List ℕ) (value : OriginWords) (rest : List ℕ) : Type 0 where
+    pub record AreOriginWords (xs : List ℕ) (value : OriginFields) (rest : List ℕ) : Type 0 where
       pub enough : words_size format (IDENTIFIER ∷ IP ∷ TID ∷ TIME ∷ []) ≤ length xs
       pub identifier_is : value.identifier ≡ word_after format [] IDENTIFIER (u64_at number 0) xs
       pub ip_is : value.ip ≡ word_after format (IDENTIFIER ∷ []) IP (u64_at number 0) xs
@@ -72,12 +72,12 @@ module _ (number : ℕ → List ℕ → ℕ) where
       pub timestamp_is : value.timestamp ≡ word_after format (IDENTIFIER ∷ IP ∷ TID ∷ []) TIME (u64_at number 0) xs
       pub rest_is : rest ≡ after format (IDENTIFIER ∷ IP ∷ TID ∷ TIME ∷ []) xs
 
-    abbrev pub origin_words : List ℕ → Outcome OriginWords → Type 0
+    abbrev pub origin_words : List ℕ → Outcome OriginFields → Type 0
     origin_words xs (encodes value rest) = AreOriginWords xs value rest
     origin_words xs (fails kind) = IsTruncated (words_size format (IDENTIFIER ∷ IP ∷ TID ∷ TIME ∷ [])) xs kind
 
     -- The words with the bits 3, 6, 9, 7.
-    pub record AreEventWords (xs : List ℕ) (value : EventWords) (rest : List ℕ) : Type 0 where
+    pub record AreEventWords (xs : List ℕ) (value : EventFields) (rest : List ℕ) : Type 0 where
       pub enough : words_size format (ADDR ∷ ID ∷ STREAM_ID ∷ CPU ∷ []) ≤ length xs
       pub address_is : value.address ≡ word_after format [] ADDR (u64_at number 0) xs
       pub id_is : value.id ≡ word_after format (ADDR ∷ []) ID (u64_at number 0) xs
@@ -85,13 +85,13 @@ module _ (number : ℕ → List ℕ → ℕ) where
       pub cpu_is : value.cpu ≡ word_after format (ADDR ∷ ID ∷ STREAM_ID ∷ []) CPU (u32_at number 0) xs
       pub rest_is : rest ≡ after format (ADDR ∷ ID ∷ STREAM_ID ∷ CPU ∷ []) xs
 
-    abbrev pub event_words : List ℕ → Outcome EventWords → Type 0
+    abbrev pub event_words : List ℕ → Outcome EventFields → Type 0
     event_words xs (encodes value rest) = AreEventWords xs value rest
     event_words xs (fails kind) = IsTruncated (words_size format (ADDR ∷ ID ∷ STREAM_ID ∷ CPU ∷ [])) xs kind
 
 -- The values of a sample in three parts, each a value and then the others.
 abbrev pub Start : Type 0
-Start = OriginWords × (EventWords × (Option ℕ × (Option Values × Option (List ℕ))))
+Start = OriginFields × (EventFields × (Option ℕ × (Option Values × Option (List ℕ))))
 
 abbrev pub Middle : Type 0
 Middle = Option (List ℕ) × (Option (Option ℕ × (List ℕ × Option (List ℕ))) × (Option (ℕ × List ℕ) × Option (List ℕ × Option ℕ)))

@@ -10,10 +10,10 @@ use Rattle.perfdata_events.specs.SampleFormat.{WEIGHT, DATA_SRC, TRANSACTION, RE
 use Rattle.perfdata_events.specs.Fields.{u64_at}
 use Rattle.perfdata_events.specs.Format.{Outcome, encodes, fails, IsTruncated, block, fixed, both, led, optional}
 use Rattle.perfdata_events.specs.Words.{word, words_size, after, word_after}
-use Rattle.perfdata_events.specs.Registers.{registers, registers_of}
+use Rattle.perfdata_events.specs.SampleRegisters.{registers, registers_of}
 use Rattle.perfdata_events.specs.declared.fields.registers.RegisterMasks.{RegisterMasks}
 use Rattle.perfdata_events.specs.declared.sample.end.DataWords.{DataWords}
-use Rattle.perfdata_events.specs.declared.sample.end.PageWords.{PageWords}
+use Rattle.perfdata_events.specs.declared.sample.end.PageFields.{PageFields}
 use Rattle.perfdata_events.specs.declared.sample.end.SampleEnd.{SampleEnd}
 use Rattle.perfdata_events.specs.declared.sample.end.WeightStruct.{WeightStruct}
 
@@ -28,7 +28,7 @@ weight_struct_of weight = record {
 
 -- The values of the fields, each a value and then the others.
 abbrev pub End : Type 0
-End = Option ℕ × (DataWords × (Option (ℕ × List ℕ) × (PageWords × Option (List ℕ))))
+End = Option ℕ × (DataWords × (Option (ℕ × List ℕ) × (PageFields × Option (List ℕ))))
 
 abbrev pub end_of : SampleEnd → End
 end_of v = (v.weight, (v.data, (option_map registers_of v.interrupt_registers, (v.pages, option_map bytes_of v.aux_data))))
@@ -51,7 +51,7 @@ module _ (number : ℕ → List ℕ → ℕ) where
     data_words xs (fails kind) = IsTruncated (words_size format (DATA_SRC ∷ TRANSACTION ∷ [])) xs kind
 
     -- The words with the bits 19, 21, 22, 23.
-    pub record ArePageWords (xs : List ℕ) (value : PageWords) (rest : List ℕ) : Type 0 where
+    pub record ArePageWords (xs : List ℕ) (value : PageFields) (rest : List ℕ) : Type 0 where
       pub enough : words_size format (PHYS_ADDR ∷ CGROUP ∷ DATA_PAGE_SIZE ∷ CODE_PAGE_SIZE ∷ []) ≤ length xs
       pub physical_address_is : value.physical_address ≡ word_after format [] PHYS_ADDR (u64_at number 0) xs
       pub cgroup_is : value.cgroup ≡ word_after format (PHYS_ADDR ∷ []) CGROUP (u64_at number 0) xs
@@ -59,7 +59,7 @@ module _ (number : ℕ → List ℕ → ℕ) where
       pub code_page_size_is : value.code_page_size ≡ word_after format (PHYS_ADDR ∷ CGROUP ∷ DATA_PAGE_SIZE ∷ []) CODE_PAGE_SIZE (u64_at number 0) xs
       pub rest_is : rest ≡ after format (PHYS_ADDR ∷ CGROUP ∷ DATA_PAGE_SIZE ∷ CODE_PAGE_SIZE ∷ []) xs
 
-    abbrev pub page_words : List ℕ → Outcome PageWords → Type 0
+    abbrev pub page_words : List ℕ → Outcome PageFields → Type 0
     page_words xs (encodes value rest) = ArePageWords xs value rest
     page_words xs (fails kind) = IsTruncated (words_size format (PHYS_ADDR ∷ CGROUP ∷ DATA_PAGE_SIZE ∷ CODE_PAGE_SIZE ∷ [])) xs kind
 

@@ -8,7 +8,7 @@ use Rattle.perfdata_events.specs.declared.fields.file_id.Mmap2FileId.TheVariants
 use Rattle.perfdata_events.specs.declared.fields.read_values.GroupValues.{GroupValues}
 use Rattle.perfdata_events.specs.declared.fields.read_values.ReadValues.{ReadValues}
 use Rattle.perfdata_events.specs.declared.fields.read_values.ReadValues.TheVariants.{Single, Group}
-use Rattle.perfdata_events.specs.declared.fields.registers.Registers.{Registers}
+use Rattle.perfdata_events.specs.declared.fields.registers.SampleRegisters.{SampleRegisters}
 use Rattle.perfdata_events.specs.declared.sample.end.SampleEnd.{SampleEnd}
 use Rattle.perfdata_events.specs.declared.sample.parts.BranchStack.{BranchStack}
 use Rattle.perfdata_events.specs.declared.sample.parts.UserStack.{UserStack}
@@ -30,7 +30,7 @@ SingleValuesOf (Group v) = SingleGroup v
 abbrev pub SingleChain : CallChain → Type 0
 SingleChain v = SingleNumbers v.values
 
-abbrev pub SingleRegisters : Registers → Type 0
+abbrev pub SingleRegisters : SampleRegisters → Type 0
 SingleRegisters v = SingleNumbers v.values
 
 abbrev pub SingleFileId : Mmap2FileId → Type 0

@@ -8,8 +8,8 @@ ghost use Rattle.perfdata_events.specs.Aux.{aux};
 ghost use Rattle.perfdata_events.specs.ItraceStart.{itrace_start};
 ghost use Rattle.perfdata_events.specs.AuxOutputHwId.{aux_output_hw_id};
 
-use crate::fields::numbers::{i32_at, u64_at};
-use crate::record_bits::AuxFlags;
+use crate::fields::numbers::{field_i32, field_u64};
+use crate::record_masks::AuxFlags;
 use perfdata_base::raw::{Endianness, RawData};
 use std::io::Result;
 
@@ -59,9 +59,9 @@ impl AuxRecord {
         let mut bytes = [0u8; 24];
         fields.read_exact(&mut bytes)?;
         Ok(AuxRecord {
-            offset: u64_at(endian, &bytes, 0),
-            size: u64_at(endian, &bytes, 8),
-            flags: u64_at(endian, &bytes, 16),
+            offset: field_u64(endian, &bytes, 0),
+            size: field_u64(endian, &bytes, 8),
+            flags: field_u64(endian, &bytes, 16),
         })
     }
 }
@@ -78,8 +78,8 @@ impl ItraceStartRecord {
         let mut bytes = [0u8; 8];
         fields.read_exact(&mut bytes)?;
         Ok(ItraceStartRecord {
-            pid: i32_at(endian, &bytes, 0),
-            tid: i32_at(endian, &bytes, 4),
+            pid: field_i32(endian, &bytes, 0),
+            tid: field_i32(endian, &bytes, 4),
         })
     }
 }
@@ -96,7 +96,7 @@ impl AuxOutputHwIdRecord {
         let mut bytes = [0u8; 8];
         fields.read_exact(&mut bytes)?;
         Ok(AuxOutputHwIdRecord {
-            hw_id: u64_at(endian, &bytes, 0),
+            hw_id: field_u64(endian, &bytes, 0),
         })
     }
 }

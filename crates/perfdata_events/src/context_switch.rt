@@ -5,8 +5,8 @@ ghost use Rattle.perfdata_base.specs.Endian.{number_in};
 ghost use Rattle.perfdata_events.specs.Format.{Decodes};
 ghost use Rattle.perfdata_events.specs.ContextSwitch.{switch, switch_cpu_wide};
 
-use crate::bits::MiscFlags;
-use crate::fields::numbers::i32_at;
+use crate::fields::numbers::field_i32;
+use crate::sample_bits::MiscFlags;
 use crate::sample_id::Task;
 use bitflags::Flags;
 use perfdata_base::raw::{Endianness, RawData};
@@ -55,8 +55,8 @@ impl ContextSwitchRecord {
             is_out: MiscFlags(misc).contains(MiscFlags::SWITCH_OUT),
             preempted: MiscFlags(misc).contains(MiscFlags::SWITCH_OUT_PREEMPT),
             other_task: Some(Task {
-                pid: i32_at(endian, &bytes, 0),
-                tid: i32_at(endian, &bytes, 4),
+                pid: field_i32(endian, &bytes, 0),
+                tid: field_i32(endian, &bytes, 4),
             }),
         })
     }

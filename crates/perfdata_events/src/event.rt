@@ -6,7 +6,6 @@ ghost use Rattle.perfdata_events.specs.Single.{KeepsSingle};
 ghost use Rattle.perfdata_events.specs.SingleParts.{HasSingleParts};
 
 use crate::aux_area::{AuxOutputHwIdRecord, AuxRecord, ItraceStartRecord};
-use crate::bits::{BranchFields, ReadFields, SampleFields};
 use crate::context_switch::ContextSwitchRecord;
 use crate::format::EventFormat;
 use crate::kernel::{BpfEventRecord, KsymbolRecord, TextPokeRecord};
@@ -15,6 +14,7 @@ use crate::mmap::MmapRecord;
 use crate::mmap2::Mmap2Record;
 use crate::read_values::ReadRecord;
 use crate::sample::SampleRecord;
+use crate::sample_bits::{BranchFields, ReadFields, SampleFields};
 use crate::task::{CgroupRecord, CommOrExecRecord, ForkOrExitRecord, NamespacesRecord};
 use bitflags::Flags;
 use perfdata_base::event::{RawEventRecord, RecordType};
@@ -81,7 +81,7 @@ pub enum EventRecord<'a> {
 }
 
 // The same record, field by field for the prover.
-fn copy_of<'a>(raw: &RawEventRecord<'a>) -> RawEventRecord<'a>
+fn copy_fields<'a>(raw: &RawEventRecord<'a>) -> RawEventRecord<'a>
     ensures { result ≡ raw.now }
 {
     RawEventRecord {
@@ -141,7 +141,7 @@ impl EventFormat {
                 let fork = ForkOrExitRecord::parse(endian, fields)?;
                 Ok(EventRecord::Fork(fork))
             }
-            _ => Ok(EventRecord::Raw(copy_of(raw))),
+            _ => Ok(EventRecord::Raw(copy_fields(raw))),
         }
     }
 
@@ -189,7 +189,7 @@ impl EventFormat {
                 let wide = ContextSwitchRecord::parse_cpu_wide(endian, misc, fields)?;
                 Ok(EventRecord::ContextSwitch(wide))
             }
-            _ => Ok(EventRecord::Raw(copy_of(raw))),
+            _ => Ok(EventRecord::Raw(copy_fields(raw))),
         }
     }
 
@@ -232,7 +232,7 @@ impl EventFormat {
                 let hw_id = AuxOutputHwIdRecord::parse(endian, fields)?;
                 Ok(EventRecord::AuxOutputHwId(hw_id))
             }
-            _ => Ok(EventRecord::Raw(copy_of(raw))),
+            _ => Ok(EventRecord::Raw(copy_fields(raw))),
         }
     }
 
@@ -300,16 +300,16 @@ impl EventFormat {
         let record_type = raw.record_type.0;
         if record_type == RecordType::SAMPLE.0 {
             if !self.has_known_fields() {
-                return Ok(EventRecord::Raw(copy_of(raw)));
+                return Ok(EventRecord::Raw(copy_fields(raw)));
             }
             let mut body = raw.body;
             return SampleRecord::parse(self, &mut body).map(EventRecord::Sample);
         }
         if record_type == 0 || record_type > LAST_TYPE {
-            return Ok(EventRecord::Raw(copy_of(raw)));
+            return Ok(EventRecord::Raw(copy_fields(raw)));
         }
         if self.has_unknown_values(raw.record_type) {
-            return Ok(EventRecord::Raw(copy_of(raw)));
+            return Ok(EventRecord::Raw(copy_fields(raw)));
         }
         let (fields, _) = self.split_trailing(raw.body)?;
         let mut rest = fields;

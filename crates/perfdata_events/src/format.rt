@@ -4,8 +4,8 @@ ghost use Rattle.perfdata_base.specs.Raw.{bytes_of, IsSingle};
 ghost use Rattle.perfdata_events.specs.Words.{word_size, words_size};
 ghost use Rattle.perfdata_events.specs.SampleFormat.{TID, TIME, ID, STREAM_ID, CPU, IDENTIFIER};
 
-use crate::bits::{BranchFields, EventFlags, ReadFields, SampleFields};
 use crate::fields::registers::RegisterMasks;
+use crate::sample_bits::{BranchFields, EventFlags, ReadFields, SampleFields};
 use bitflags::Flags;
 use perfdata_base::attr::PerfEventAttr;
 use perfdata_base::raw::{Endianness, RawData};
@@ -32,7 +32,10 @@ use std::io::Result;
 ///         if let PerfFileRecord::EventRecord { attr_index, event } = record
 ///             && let Some(description) = perf_file.event_attributes().get(attr_index)
 ///         {
-///             let format = EventFormat::new(description.attributes(), perf_file.endian());
+///             let format = EventFormat::with_little_endian_flags(
+///                 description.attributes(),
+///                 perf_file.endian(),
+///             );
 ///             if let EventRecord::Sample(sample) = format.parse(&event)? {
 ///                 sum = sum.saturating_add(sample.period.unwrap_or(0));
 ///             }
@@ -87,8 +90,9 @@ impl EventFormat {
     ghost use Rattle.perfdata_events.specs.EventFormat.{native_format_of, register_masks_of};
     ghost use Rattle.perfdata_events.specs.EventFormat.{trailing_size, SplitsTrailing};
 
-    /// Returns the format of the records of an attribute, with numbers in the byte order `endian`.
-    pub fn new(attr: &PerfEventAttr, endian: Endianness) -> EventFormat
+    /// Returns the format of the records of an attribute whose flags a little-endian compiler laid out, with
+    /// numbers in the byte order `endian`.
+    pub fn with_little_endian_flags(attr: &PerfEventAttr, endian: Endianness) -> EventFormat
         ensures { result ≡ event_format_of attr.now endian }
     {
         EventFormat {
@@ -106,7 +110,8 @@ impl EventFormat {
 
     /// Returns the format of the records of an attribute whose flags a big-endian compiler laid out, as in a
     /// recording of s390x: bit n of the kernel's list of flags is bit 63 - n of the word. With
-    /// [`EventFormat::new`] the sample_id fields of such a recording are taken for padding.
+    /// [`EventFormat::with_little_endian_flags`] the sample_id fields of such a recording are taken for
+    /// padding.
     pub fn with_big_endian_flags(attr: &PerfEventAttr, endian: Endianness) -> EventFormat
         ensures { result ≡ big_endian_format_of attr.now endian }
     {
@@ -114,18 +119,18 @@ impl EventFormat {
             sample_id_all: EventFlags::from_bits_retain(attr.flags.0).contains(
                 EventFlags::from_bits_retain(BIG_ENDIAN_SAMPLE_ID_ALL),
             ),
-            ..EventFormat::new(attr, endian)
+            ..EventFormat::with_little_endian_flags(attr, endian)
         }
     }
 
     /// Returns the format of the records of an attribute whose flags a compiler of the byte order `endian`
     /// laid out: that of [`EventFormat::with_big_endian_flags`] in big-endian order, else that of
-    /// [`EventFormat::new`].
-    pub fn with_native_flags(attr: &PerfEventAttr, endian: Endianness) -> EventFormat
+    /// [`EventFormat::with_little_endian_flags`].
+    pub fn new(attr: &PerfEventAttr, endian: Endianness) -> EventFormat
         ensures { result ≡ native_format_of attr.now endian }
     {
         match endian {
-            Endianness::LittleEndian => EventFormat::new(attr, endian),
+            Endianness::LittleEndian => EventFormat::with_little_endian_flags(attr, endian),
             Endianness::BigEndian => EventFormat::with_big_endian_flags(attr, endian),
         }
     }

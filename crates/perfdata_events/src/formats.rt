@@ -44,32 +44,32 @@ impl EventFormats {
         self.formats.get(index)
     }
 
-    /// Adds the format that [`EventFormat::new`] makes of the next attribute.
+    /// Adds the format that [`EventFormat::with_little_endian_flags`] makes of the next attribute.
     ///
     /// If it fails with `AllocError`, nothing is added.
-    pub fn push(&mut self, attr: &PerfEventAttr, endian: Endianness) -> Result<(), AllocError>
-        ensures added { OnOk result (formats_in self.new ≡ formats_in self.old
-            ++ event_format_of attr.now endian ∷ []) }
-        ensures unchanged { OnErr result (formats_in self.new ≡ formats_in self.old) }
-    {
-        self.formats.push(EventFormat::new(attr, endian))?;
-        Ok(())
-    }
-
-    /// Adds the format that [`EventFormat::with_native_flags`] makes of the next attribute.
-    ///
-    /// If it fails with `AllocError`, nothing is added.
-    pub fn push_with_native_flags(
+    pub fn push_with_little_endian_flags(
         &mut self,
         attr: &PerfEventAttr,
         endian: Endianness,
     ) -> Result<(), AllocError>
         ensures added { OnOk result (formats_in self.new ≡ formats_in self.old
-            ++ native_format_of attr.now endian ∷ []) }
+            ++ event_format_of attr.now endian ∷ []) }
         ensures unchanged { OnErr result (formats_in self.new ≡ formats_in self.old) }
     {
         self.formats
-            .push(EventFormat::with_native_flags(attr, endian))?;
+            .push(EventFormat::with_little_endian_flags(attr, endian))?;
+        Ok(())
+    }
+
+    /// Adds the format that [`EventFormat::new`] makes of the next attribute.
+    ///
+    /// If it fails with `AllocError`, nothing is added.
+    pub fn push(&mut self, attr: &PerfEventAttr, endian: Endianness) -> Result<(), AllocError>
+        ensures added { OnOk result (formats_in self.new ≡ formats_in self.old
+            ++ native_format_of attr.now endian ∷ []) }
+        ensures unchanged { OnErr result (formats_in self.new ≡ formats_in self.old) }
+    {
+        self.formats.push(EventFormat::new(attr, endian))?;
         Ok(())
     }
 }

@@ -4,7 +4,7 @@ ghost use Rattle.perfdata_events.specs.Single.{KeepsSingle};
 ghost use Rattle.perfdata_base.specs.Endian.{number_in};
 ghost use Rattle.perfdata_events.specs.Format.{Decodes};
 
-use crate::fields::numbers::{u16_at, u32_at, u64_at};
+use crate::fields::numbers::{field_u16, field_u32, field_u64};
 use crate::fields::text::read_text;
 use perfdata_base::raw::{Endianness, RawData};
 use std::io::Result;
@@ -64,10 +64,10 @@ impl<'a> KsymbolRecord<'a> {
         fields.read_exact(&mut bytes)?;
         let name = read_text(fields)?;
         Ok(KsymbolRecord {
-            address: u64_at(endian, &bytes, 0),
-            length: u32_at(endian, &bytes, 8),
-            symbol_type: u16_at(endian, &bytes, 12),
-            flags: u16_at(endian, &bytes, 14),
+            address: field_u64(endian, &bytes, 0),
+            length: field_u32(endian, &bytes, 8),
+            symbol_type: field_u16(endian, &bytes, 12),
+            flags: field_u16(endian, &bytes, 14),
             name,
         })
     }
@@ -88,9 +88,9 @@ impl<'a> BpfEventRecord<'a> {
         fields.read_exact(&mut bytes)?;
         let tag = fields.split_off_prefix(8)?;
         Ok(BpfEventRecord {
-            event_type: u16_at(endian, &bytes, 0),
-            flags: u16_at(endian, &bytes, 2),
-            id: u32_at(endian, &bytes, 4),
+            event_type: field_u16(endian, &bytes, 0),
+            flags: field_u16(endian, &bytes, 2),
+            id: field_u32(endian, &bytes, 4),
             tag,
         })
     }
@@ -110,12 +110,12 @@ impl<'a> TextPokeRecord<'a> {
     {
         let mut bytes = [0u8; 12];
         fields.read_exact(&mut bytes)?;
-        let old_len = u16_at(endian, &bytes, 8) as usize;
-        let new_len = u16_at(endian, &bytes, 10) as usize;
+        let old_len = field_u16(endian, &bytes, 8) as usize;
+        let new_len = field_u16(endian, &bytes, 10) as usize;
         let old_bytes = fields.split_off_prefix(old_len)?;
         let new_bytes = fields.split_off_prefix(new_len)?;
         Ok(TextPokeRecord {
-            address: u64_at(endian, &bytes, 0),
+            address: field_u64(endian, &bytes, 0),
             old_bytes,
             new_bytes,
         })

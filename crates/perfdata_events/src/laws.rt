@@ -3,7 +3,7 @@ ghost use Rattle.std.specs.Prelude.{ℕ, List, ◌≡◌, ◌<◌, ◌++◌, not
 ghost use Rattle.std.specs.Option.{option_or};
 ghost use Rattle.perfdata_base.specs.Raw.{bytes_of};
 ghost use Rattle.perfdata_base.specs.ParseInfo.{parse_info_of, id_parse_info_of};
-ghost use Rattle.perfdata_base.specs.RecordFields.{time_of, identifier_of};
+ghost use Rattle.perfdata_base.specs.RecordFields.{read_time, read_identifier};
 ghost use Rattle.perfdata_base.specs.declared.attr.PerfEventAttr.{PerfEventAttr};
 ghost use Rattle.perfdata_base.specs.declared.event.raw_event_record.RawEventRecord.{RawEventRecord};
 ghost use Rattle.perfdata_base.specs.declared.endian.Endianness.{Endianness};
@@ -12,7 +12,7 @@ ghost use Rattle.perfdata_events.specs.RecordId.{IsSampleIdOf};
 ghost use Rattle.perfdata_events.specs.declared.sample_id.SampleId.{SampleId};
 ghost use Rattle.perfdata_events.specs.CallChain.{is_context_change, frames_of, last_context};
 ghost use Rattle.perfdata_events.specs.declared.fields.call_chain.CallContext.{CallContext};
-ghost use Rattle.perfdata_events.specs.declared.fields.call_chain.Frame.{Frame};
+ghost use Rattle.perfdata_events.specs.declared.fields.call_chain.ChainFrame.{ChainFrame};
 ghost use Rattle.perfdata_events.specs.OneOutcome.{HasOneOutcome};
 ghost use Rattle.perfdata_events.specs.Prefix.{ConsumesPrefix};
 ghost use Rattle.perfdata_events.specs.Mmap.{mmap};
@@ -112,10 +112,10 @@ pub fn a_body_has_one_form()
 pub fn sample_id_is_what_the_reader_finds()
     ensures timestamp { (attr : PerfEventAttr) (order : Endianness) (raw : RawEventRecord) (id : SampleId)
         → raw.record_type.0 < 64 → IsSampleIdOf (event_format_of attr order) raw id → id.timestamp
-        ≡ time_of (parse_info_of attr order) raw.record_type.0 (bytes_of raw.body) }
+        ≡ read_time (parse_info_of attr order) raw.record_type.0 (bytes_of raw.body) }
     ensures identifier { (attr : PerfEventAttr) (order : Endianness) (raw : RawEventRecord) (id : SampleId)
         → raw.record_type.0 < 64 → IsSampleIdOf (event_format_of attr order) raw id
-        → option_or id.identifier id.id ≡ identifier_of order (id_parse_info_of attr) raw.record_type.0
+        → option_or id.identifier id.id ≡ read_identifier order (id_parse_info_of attr) raw.record_type.0
         (bytes_of raw.body) }
 {}
 
@@ -123,7 +123,7 @@ pub fn sample_id_is_what_the_reader_finds()
 /// before it.
 pub fn frames_are_values_in_context()
     ensures addresses { (context : CallContext) (values : List ℕ)
-        → map (λ (f : Frame). f.address) (frames_of context values)
+        → map (λ (f : ChainFrame). f.address) (frames_of context values)
         ≡ filter (λ v. not (is_context_change v)) values }
     ensures contexts { (context : CallContext) (before later : List ℕ) → frames_of context (before ++ later)
         ≡ frames_of context before ++ frames_of (last_context context before) later }

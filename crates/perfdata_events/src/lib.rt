@@ -6,10 +6,9 @@
 #![tactic(auto)]
 
 pub mod aux_area;
-pub mod bits;
 pub mod context_switch;
 pub mod event;
-pub mod fields;
+mod fields;
 pub mod format;
 pub mod formats;
 pub mod kernel;
@@ -18,11 +17,12 @@ pub mod lost;
 pub mod mmap;
 pub mod mmap2;
 pub mod read_values;
-pub mod record_bits;
 pub mod record_id;
+pub mod record_masks;
 pub mod sample;
+pub mod sample_bits;
 pub mod sample_id;
 pub mod task;
 
-pub use fields::{call_chain, u64s};
+pub use fields::{call_chain, registers, u64s, words};
 pub use sample::{parts as sample_parts, words as sample_words};

@@ -7,7 +7,7 @@ ghost use Rattle.perfdata_events.specs.Lost.{lost};
 ghost use Rattle.perfdata_events.specs.LostSamples.{lost_samples};
 ghost use Rattle.perfdata_events.specs.Throttle.{throttle};
 
-use crate::fields::numbers::u64_at;
+use crate::fields::numbers::field_u64;
 use perfdata_base::raw::{Endianness, RawData};
 use std::io::Result;
 
@@ -51,8 +51,8 @@ impl LostRecord {
         let mut bytes = [0u8; 16];
         fields.read_exact(&mut bytes)?;
         Ok(LostRecord {
-            id: u64_at(endian, &bytes, 0),
-            count: u64_at(endian, &bytes, 8),
+            id: field_u64(endian, &bytes, 0),
+            count: field_u64(endian, &bytes, 8),
         })
     }
 }
@@ -69,7 +69,7 @@ impl LostSamplesRecord {
         let mut bytes = [0u8; 8];
         fields.read_exact(&mut bytes)?;
         Ok(LostSamplesRecord {
-            count: u64_at(endian, &bytes, 0),
+            count: field_u64(endian, &bytes, 0),
         })
     }
 }
@@ -86,9 +86,9 @@ impl ThrottleRecord {
         let mut bytes = [0u8; 24];
         fields.read_exact(&mut bytes)?;
         Ok(ThrottleRecord {
-            timestamp: u64_at(endian, &bytes, 0),
-            id: u64_at(endian, &bytes, 8),
-            stream_id: u64_at(endian, &bytes, 16),
+            timestamp: field_u64(endian, &bytes, 0),
+            id: field_u64(endian, &bytes, 8),
+            stream_id: field_u64(endian, &bytes, 16),
         })
     }
 }

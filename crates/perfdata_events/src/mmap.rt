@@ -4,9 +4,9 @@ ghost use Rattle.perfdata_events.specs.Single.{KeepsSingle, NoParts};
 ghost use Rattle.perfdata_base.specs.Endian.{number_in};
 ghost use Rattle.perfdata_events.specs.Format.{Decodes, fixed};
 
-use crate::bits::MiscFlags;
-use crate::fields::numbers::{i32_at, u64_at};
+use crate::fields::numbers::{field_i32, field_u64};
 use crate::fields::text::read_text;
+use crate::sample_bits::MiscFlags;
 use bitflags::Flags;
 use perfdata_base::raw::{Endianness, RawData};
 use std::io::Result;
@@ -57,11 +57,11 @@ impl AddressRange {
         let mut bytes = [0u8; 32];
         fields.read_exact(&mut bytes)?;
         Ok(AddressRange {
-            pid: i32_at(endian, &bytes, 0),
-            tid: i32_at(endian, &bytes, 4),
-            address: u64_at(endian, &bytes, 8),
-            length: u64_at(endian, &bytes, 16),
-            page_offset: u64_at(endian, &bytes, 24),
+            pid: field_i32(endian, &bytes, 0),
+            tid: field_i32(endian, &bytes, 4),
+            address: field_u64(endian, &bytes, 8),
+            length: field_u64(endian, &bytes, 16),
+            page_offset: field_u64(endian, &bytes, 24),
             is_data: MiscFlags(misc).contains(MiscFlags::MMAP_DATA),
         })
     }

@@ -5,11 +5,11 @@ ghost use Rattle.perfdata_events.specs.SingleParts.{SingleMapping2};
 ghost use Rattle.perfdata_base.specs.Endian.{number_in};
 ghost use Rattle.perfdata_events.specs.Format.{Decodes, fixed_and_text};
 
-use crate::bits::MiscFlags;
 pub use crate::fields::file_id::{Mmap2FileId, Mmap2InodeAndVersion};
-use crate::fields::numbers::u32_at;
+use crate::fields::numbers::field_u32;
 use crate::fields::text::read_text;
 use crate::mmap::AddressRange;
+use crate::sample_bits::MiscFlags;
 use bitflags::Flags;
 use perfdata_base::raw::{Endianness, RawData};
 use std::io::Result;
@@ -59,8 +59,8 @@ impl<'a> ProtectedPath<'a> {
         fields.read_exact(&mut bytes)?;
         let path = read_text(fields)?;
         Ok(ProtectedPath {
-            protection: u32_at(endian, &bytes, 0),
-            flags: u32_at(endian, &bytes, 4),
+            protection: field_u32(endian, &bytes, 0),
+            flags: field_u32(endian, &bytes, 4),
             path,
         })
     }

@@ -5,10 +5,10 @@ ghost use Rattle.perfdata_events.specs.SingleParts.{SingleValuesOf};
 ghost use Rattle.perfdata_base.specs.Endian.{number_in};
 ghost use Rattle.perfdata_events.specs.Format.{Decodes};
 
-use crate::bits::ReadFields;
 pub use crate::fields::read_values::{CounterValue, GroupValues, ReadValues, SingleValues};
 use crate::fields::task::Task;
 use crate::fields::words::read_task;
+use crate::sample_bits::ReadFields;
 use perfdata_base::raw::{Endianness, RawData};
 use std::io::Result;
 

@@ -4,7 +4,7 @@ ghost use Rattle.std.specs.IoError.{error_kind};
 ghost use Rattle.perfdata_base.specs.Raw.{bytes_of};
 
 use crate::format::EventFormat;
-use crate::sample::words::{EventWords, OriginWords};
+use crate::sample::words::{EventFields, OriginFields};
 use crate::sample_id::SampleId;
 use perfdata_base::event::{RawEventRecord, RecordType};
 use perfdata_base::raw::RawData;
@@ -18,8 +18,8 @@ impl EventFormat {
         ensures { ReadsHead self.now (bytes_of body.entry) result }
     {
         let mut fields = body;
-        let origin = OriginWords::parse(self.endian, self.sample_format, &mut fields)?;
-        let event = EventWords::parse(self.endian, self.sample_format, &mut fields)?;
+        let origin = OriginFields::parse(self.endian, self.sample_format, &mut fields)?;
+        let event = EventFields::parse(self.endian, self.sample_format, &mut fields)?;
         Ok(SampleId {
             task: origin.task,
             timestamp: origin.timestamp,

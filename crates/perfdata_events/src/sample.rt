@@ -6,14 +6,14 @@ ghost use Rattle.perfdata_events.specs.SingleParts.{SingleSample};
 ghost use Rattle.perfdata_base.specs.Endian.{number_in};
 ghost use Rattle.perfdata_events.specs.Format.{Decodes};
 
-use crate::bits::SampleFields;
 use crate::fields::call_chain::CallChain;
 use crate::fields::read_values::ReadValues;
-use crate::fields::registers::Registers;
+use crate::fields::registers::SampleRegisters;
 use crate::fields::task::Task;
 use crate::fields::words::read_u64_if;
 use crate::format::EventFormat;
-use crate::record_bits::DataSource;
+use crate::record_masks::DataSource;
+use crate::sample_bits::SampleFields;
 use bitflags::Flags;
 use perfdata_base::raw::RawData;
 use std::io::Result;
@@ -24,7 +24,7 @@ pub mod words;
 
 use end::SampleEnd;
 use parts::{BranchStack, UserStack, read_raw_data_if};
-use words::{EventWords, OriginWords};
+use words::{EventFields, OriginFields};
 
 /// A sample of an event (`PERF_RECORD_SAMPLE`). A field is `None` if the attribute doesn't select it.
 #[derive(Clone, Copy, Debug)]
@@ -56,7 +56,7 @@ pub struct SampleRecord<'a> {
     /// The last branches.
     pub branch_stack: Option<BranchStack<'a>>,
     /// The registers of the program.
-    pub user_registers: Option<Registers<'a>>,
+    pub user_registers: Option<SampleRegisters<'a>>,
     /// A copy of the start of the program's stack.
     pub user_stack: Option<UserStack<'a>>,
     /// The weight: the cost of the access, in the unit of the hardware. With [`SampleFields::WEIGHT_STRUCT`]
@@ -67,7 +67,7 @@ pub struct SampleRecord<'a> {
     /// Why a transaction was aborted, as bits.
     pub transaction: Option<u64>,
     /// The registers at the interrupt.
-    pub interrupt_registers: Option<Registers<'a>>,
+    pub interrupt_registers: Option<SampleRegisters<'a>>,
     /// The physical address of the data.
     pub physical_address: Option<u64>,
     /// The id of the control group.
@@ -104,14 +104,14 @@ impl<'a> SampleRecord<'a> {
         let endian = format.endian;
         let bits = format.sample_format;
         let masks = format.register_masks();
-        let origin = OriginWords::parse(endian, bits, fields)?;
-        let event = EventWords::parse(endian, bits, fields)?;
+        let origin = OriginFields::parse(endian, bits, fields)?;
+        let event = EventFields::parse(endian, bits, fields)?;
         let period = read_u64_if(endian, fields, bits.contains(SampleFields::PERIOD))?;
         let values = ReadValues::parse_if(format, fields)?;
         let call_chain = CallChain::parse_if(format, fields)?;
         let raw = read_raw_data_if(format, fields)?;
         let branch_stack = BranchStack::parse_if(format, fields)?;
-        let user_registers = Registers::parse_user(endian, bits, masks, fields)?;
+        let user_registers = SampleRegisters::parse_user(endian, bits, masks, fields)?;
         let user_stack = UserStack::parse_if(format, fields)?;
         let end = SampleEnd::parse(endian, bits, masks, fields)?;
         Ok(SampleRecord {

@@ -5,9 +5,9 @@ ghost use Rattle.perfdata_base.specs.Endian.{number_in};
 ghost use Rattle.perfdata_events.specs.Format.{Decodes};
 ghost use Rattle.perfdata_events.specs.SampleId.{sample_id};
 
-use crate::bits::SampleFields;
 pub use crate::fields::task::Task;
 use crate::fields::words::{read_task_if, read_u32_if, read_u64_if};
+use crate::sample_bits::SampleFields;
 use bitflags::Flags;
 use perfdata_base::raw::{Endianness, RawData};
 use std::io::Result;

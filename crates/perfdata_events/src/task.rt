@@ -6,11 +6,11 @@ ghost use Rattle.perfdata_base.specs.Endian.{number_in};
 ghost use Rattle.perfdata_events.specs.Format.{Decodes};
 ghost use Rattle.perfdata_events.specs.ForkOrExit.{fork_or_exit};
 
-use crate::bits::MiscFlags;
-use crate::fields::numbers::{i32_at, u64_at};
+use crate::fields::numbers::{field_i32, field_u64};
 use crate::fields::text::read_text;
 use crate::fields::u64s::RawDataU64;
 use crate::fields::words::read_u64s;
+use crate::sample_bits::MiscFlags;
 use bitflags::Flags;
 use perfdata_base::raw::{Endianness, RawData};
 use std::io::Result;
@@ -84,11 +84,11 @@ impl ForkOrExitRecord {
         let mut bytes = [0u8; 24];
         fields.read_exact(&mut bytes)?;
         Ok(ForkOrExitRecord {
-            pid: i32_at(endian, &bytes, 0),
-            ppid: i32_at(endian, &bytes, 4),
-            tid: i32_at(endian, &bytes, 8),
-            ptid: i32_at(endian, &bytes, 12),
-            timestamp: u64_at(endian, &bytes, 16),
+            pid: field_i32(endian, &bytes, 0),
+            ppid: field_i32(endian, &bytes, 4),
+            tid: field_i32(endian, &bytes, 8),
+            ptid: field_i32(endian, &bytes, 12),
+            timestamp: field_u64(endian, &bytes, 16),
         })
     }
 }
@@ -113,8 +113,8 @@ impl<'a> CommOrExecRecord<'a> {
         fields.read_exact(&mut bytes)?;
         let name = read_text(fields)?;
         Ok(CommOrExecRecord {
-            pid: i32_at(endian, &bytes, 0),
-            tid: i32_at(endian, &bytes, 4),
+            pid: field_i32(endian, &bytes, 0),
+            tid: field_i32(endian, &bytes, 4),
             is_execve: MiscFlags(misc).contains(MiscFlags::COMM_EXEC),
             name,
         })
@@ -137,7 +137,7 @@ impl<'a> CgroupRecord<'a> {
         fields.read_exact(&mut bytes)?;
         let path = read_text(fields)?;
         Ok(CgroupRecord {
-            id: u64_at(endian, &bytes, 0),
+            id: field_u64(endian, &bytes, 0),
             path,
         })
     }
@@ -181,10 +181,10 @@ impl<'a> NamespacesRecord<'a> {
     {
         let mut bytes = [0u8; 16];
         fields.read_exact(&mut bytes)?;
-        let namespaces = read_u64s(endian, fields, u64_at(endian, &bytes, 8), 2)?;
+        let namespaces = read_u64s(endian, fields, field_u64(endian, &bytes, 8), 2)?;
         Ok(NamespacesRecord {
-            pid: i32_at(endian, &bytes, 0),
-            tid: i32_at(endian, &bytes, 4),
+            pid: field_i32(endian, &bytes, 0),
+            tid: field_i32(endian, &bytes, 4),
             namespaces,
         })
     }

@@ -5,7 +5,7 @@ use Rattle.perfdata_jit.specs.Ring.{DoesNotWrap, ring_bytes, ring_len}
 use Rattle.perfdata_jit.specs.ReadBuffer.{IsContiguous, IsOverflowConsumed, IsSpanSingle, overflow_len, read_buffer_bytes}
 use Rattle.perfdata_jit.specs.declared.ring.Ring.{Ring}
 use Rattle.perfdata_jit.specs.declared.read_buffer.ReadBuffer.{ReadBuffer}
-use Rattle.perfdata_jit.specs.declared.read_buffer.Span.{Span}
+use Rattle.perfdata_jit.specs.declared.read_buffer.BufferRange.{BufferRange}
 
 -- fewer bytes don't wrap either
 pub wraps_less : (n m : ℕ) (r : Ring) → n ≤ m → DoesNotWrap m r → DoesNotWrap n r
@@ -55,7 +55,7 @@ ring_left n m k to old ring sum end keeps le at = elim at [
   | inr rest ↦ inr (end, wraps_less (m - n) (m - k) ring (omega (arith, sum, rest.0)) (keeps m (omega (arith, sum, le)) rest.1))
 ]
 
-pub span_single : (n k : ℕ) (h : ReadBuffer) (p : Span) → n ≡ (overflow_len h - h.overflow_start) + k → 0 < k → p.overflow_from ≡ h.overflow_start → p.overflow_to ≡ overflow_len h → (DoesNotWrap k h.ring → (p.ring_start ≡ p.ring_end) ⊎ (p.ring_front ≡ 0)) → IsContiguous n h → IsSpanSingle p
+pub span_single : (n k : ℕ) (h : ReadBuffer) (p : BufferRange) → n ≡ (overflow_len h - h.overflow_start) + k → 0 < k → p.overflow_from ≡ h.overflow_start → p.overflow_to ≡ overflow_len h → (DoesNotWrap k h.ring → (p.ring_start ≡ p.ring_end) ⊎ (p.ring_front ≡ 0)) → IsContiguous n h → IsSpanSingle p
 span_single n k h p sum some from to ring at = elim at [
   | inl part ↦ absurd (omega (arith, sum, some, part))
   | inr rest ↦
@@ -64,7 +64,7 @@ span_single n k h p sum some from to ring at = elim at [
 ]
 
 -- a span with bytes that wrap around is single only if it has no bytes before them
-pub prefix_alone : (p : Span) → 0 < p.ring_front → IsSpanSingle p → p.ring_start ≡ p.ring_end
+pub prefix_alone : (p : BufferRange) → 0 < p.ring_front → IsSpanSingle p → p.ring_start ≡ p.ring_end
 prefix_alone p some one = elim one [ inl main ↦ main.0 | inr over ↦ absurd (omega (arith, some, over.1)) ]
 
 -- a range from an index to itself has no items

@@ -2,7 +2,7 @@
 use Rattle.std.specs.Prelude.{◌≡◌, ℕ, ◌-◌, ◌<◌, ◌≤◌, ◌⊎◌, List, ◌++◌, take, drop, slice_range, vec_len, vec_capacity}
 use Rattle.perfdata_jit.specs.Ring.{DoesNotWrap, ring_bytes, ring_size}
 use Rattle.perfdata_jit.specs.declared.read_buffer.ReadBuffer.{ReadBuffer}
-use Rattle.perfdata_jit.specs.declared.read_buffer.Span.{Span}
+use Rattle.perfdata_jit.specs.declared.read_buffer.BufferRange.{BufferRange}
 
 -- the buffered bytes, in order
 abbrev pub read_buffer_bytes : ReadBuffer → List ℕ
@@ -39,7 +39,7 @@ pub record ConsumesPrefix (n : ℕ) (old new : ReadBuffer) : Type 0 where
   pub keeps_contiguous : (m : ℕ) → n ≤ m → IsContiguous m old → IsContiguous (m - n) new
 
 -- the span is within the buffers, and at most two of its three ranges are nonempty
-pub record IsSpanWithin (h : ReadBuffer) (p : Span) : Type 0 where
+pub record IsSpanWithin (h : ReadBuffer) (p : BufferRange) : Type 0 where
   pub overflow_order : p.overflow_from ≤ p.overflow_to
   pub overflow_within : p.overflow_to ≤ overflow_len h
   pub ring_order : p.ring_start ≤ p.ring_end
@@ -48,9 +48,9 @@ pub record IsSpanWithin (h : ReadBuffer) (p : Span) : Type 0 where
   pub two_pieces : 0 < p.ring_front → p.overflow_from ≡ p.overflow_to
 
 -- at most one of the three ranges is nonempty
-abbrev pub IsSpanSingle : Span → Type 0
+abbrev pub IsSpanSingle : BufferRange → Type 0
 IsSpanSingle p = ((p.ring_start ≡ p.ring_end) × ((p.overflow_from ≡ p.overflow_to) ⊎ (p.ring_front ≡ 0))) ⊎ ((p.overflow_from ≡ p.overflow_to) × (p.ring_front ≡ 0))
 
 -- the bytes of a span
-abbrev pub span_bytes : ReadBuffer → Span → List ℕ
+abbrev pub span_bytes : ReadBuffer → BufferRange → List ℕ
 span_bytes h p = slice_range h.overflow.items p.overflow_from p.overflow_to ++ (slice_range h.ring.buffer.items p.ring_start p.ring_end ++ take p.ring_front h.ring.buffer.items)

@@ -72,7 +72,7 @@ fn parse_fields(endian: Endianness, magic: [u8; 4], rest: &[u8]) -> JitDumpHeade
 }
 
 // Parses as `parse_after_magic` does, in the byte order `endian`.
-fn parse_after_magic_in(
+fn parse_after_magic(
     endian: Endianness,
     magic: [u8; 4],
     rest: RawData<'_>,
@@ -127,7 +127,7 @@ impl JitDumpHeader {
         let Some(endian) = endian_of_magic(&magic) else {
             return Err(JitDumpError::InvalidMagicBytes(magic));
         };
-        match parse_after_magic_in(endian, magic, rest) {
+        match parse_after_magic(endian, magic, rest) {
             Ok(header) => {
                 if header.total_size < JitDumpHeader::SIZE as u32 {
                     return Err(JitDumpError::InvalidHeaderSize(header.total_size));
@@ -152,6 +152,6 @@ impl JitDumpHeader {
         ensures error { IfErr result (λ error. IsTruncatedAfterMagic O.number_of
             (bytes_of bytes.entry) error) }
     {
-        parse_after_magic_in(O::ENDIAN, magic, bytes)
+        parse_after_magic(O::ENDIAN, magic, bytes)
     }
 }

@@ -27,7 +27,7 @@ pub struct ReadBuffer {
 // The position of consumed bytes: a range of the overflow buffer, a range of the ring's buffer, and the
 // length of a prefix of the ring's buffer.
 #[derive(Drop)]
-pub(crate) struct Span {
+pub(crate) struct BufferRange {
     overflow_from: usize,
     overflow_to: usize,
     ring_start: usize,
@@ -160,7 +160,7 @@ impl ReadBuffer {
     }
 
     // Removes the first n bytes and returns their position.
-    pub(crate) fn advance(&mut self, n: usize) -> Span
+    pub(crate) fn advance(&mut self, n: usize) -> BufferRange
         requires { n ≤ length (read_buffer_bytes self.old) }
         ensures span_within { IsSpanWithin self.new result }
         ensures value { span_bytes self.new result ≡ take n (read_buffer_bytes self.old) }
@@ -171,7 +171,7 @@ impl ReadBuffer {
         let remaining = self.overflow.len() - from;
         if n <= remaining {
             self.overflow_start = from + n;
-            return Span {
+            return BufferRange {
                 overflow_from: from,
                 overflow_to: from + n,
                 ring_start: 0,
@@ -182,7 +182,7 @@ impl ReadBuffer {
         let to = self.overflow.len();
         self.overflow_start = to;
         let (ring_start, ring_end, ring_front) = self.ring.advance(n - remaining);
-        Span {
+        BufferRange {
             overflow_from: from,
             overflow_to: to,
             ring_start,
@@ -192,7 +192,7 @@ impl ReadBuffer {
     }
 
     // The bytes of a span.
-    pub(crate) fn span_data(&self, span: &Span) -> RawData<'_>
+    pub(crate) fn span_data(&self, span: &BufferRange) -> RawData<'_>
         requires { IsSpanWithin self.now span.now }
         ensures bytes { bytes_of result ≡ span_bytes self.now span.now }
         ensures single { IsSpanSingle span.now → IsSingle result }

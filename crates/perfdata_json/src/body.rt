@@ -54,7 +54,7 @@ struct EventAttribute<'a> {
 }
 
 // The attribute with this index.
-fn attribute_at(perf_file: &PerfFile, index: usize) -> Option<&AttributeDescription>
+fn find_attribute(perf_file: &PerfFile, index: usize) -> Option<&AttributeDescription>
     ensures { option_copied result ≡ slice_get (descriptions_of_file perf_file.now) index }
 {
     perf_file.event_attributes().get(index)
@@ -74,10 +74,10 @@ impl<'a> EventAttribute<'a> {
         ensures format { option_map (λ found. found.format) result
             ≡ format_at (descriptions_of_file perf_file.now) attr_index endian }
     {
-        let description = attribute_at(perf_file, attr_index)?;
+        let description = find_attribute(perf_file, attr_index)?;
         Some(EventAttribute {
             name: description.name(),
-            format: EventFormat::new(description.attributes(), endian),
+            format: EventFormat::with_little_endian_flags(description.attributes(), endian),
         })
     }
 }

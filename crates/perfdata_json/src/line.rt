@@ -6,7 +6,7 @@ use crate::kernel::SampleIdMembers;
 use crate::serializer::LineSerializer;
 use linux_perf_data::event::RecordType;
 use linux_perf_data::{Error, PerfFile, PerfFileRecord, RecordPlace};
-use perfdata_listing::RecordLine;
+use perfdata_listing::LineFormat;
 use serde::Serialize;
 use std::alloc::{AllocError, Global};
 use std::mem;
@@ -30,7 +30,7 @@ impl TypeMember {
 
 // The members of a line: those of any record, those of its body, and its sample_id fields.
 #[derive(Drop, Serialize)]
-struct Line<'a, T> {
+struct TaggedLine<'a, T> {
     offset: u64,
     round: u64,
     #[serde(skip_serializing_if = "Option::is_none")]
@@ -103,7 +103,7 @@ impl<'a> Envelope<'a> {
         out: &mut LineSerializer,
         body: &T,
     ) -> Result<(), AllocError> {
-        let line = Line {
+        let line = TaggedLine {
             offset: self.place.offset,
             round: self.place.round,
             time: self.place.timestamp,
@@ -151,7 +151,7 @@ impl JsonLine {
     }
 }
 
-impl RecordLine for JsonLine {
+impl LineFormat for JsonLine {
     ghost use Rattle.std.specs.Prelude.{true};
     ghost use Rattle.perfdata_json.specs.Line.{json_text, IsLineOf};
 

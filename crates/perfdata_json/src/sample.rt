@@ -3,12 +3,12 @@
 use crate::fields::{Address, Addresses, Bytes};
 use crate::names::context_name;
 use perfdata_base::raw::RawData;
-use perfdata_events::bits::SampleFields;
 use perfdata_events::call_chain::CallChain;
 use perfdata_events::format::EventFormat;
 use perfdata_events::read_values::{GroupValues, ReadRecord, ReadValues};
 use perfdata_events::sample::SampleRecord;
-use perfdata_events::sample_parts::{BranchStack, Registers};
+use perfdata_events::sample_bits::SampleFields;
+use perfdata_events::sample_parts::{BranchStack, SampleRegisters};
 use serde::{Described, Serialize, Serializer};
 
 // The counters of a group.
@@ -168,7 +168,7 @@ struct RegisterMembers<'a> {
 }
 
 impl<'a> RegisterMembers<'a> {
-    fn new(mask: u64, registers: Registers<'a>) -> RegisterMembers<'a> {
+    fn new(mask: u64, registers: SampleRegisters<'a>) -> RegisterMembers<'a> {
         RegisterMembers {
             abi: registers.abi,
             mask: Address(mask),

@@ -24,7 +24,7 @@ use Rattle.std.specs.declared.io.Error.{Error}
 use Rattle.std.specs.IoError.{error_kind}
 use Rattle.std.specs.declared.io.ErrorKind.TheVariants.{OutOfMemory}
 use Rattle.std.proofs.lemmas.Bool.{false≢true}
-use Rattle.perfdata_listing.specs.Line.{jit_record_text}
+use Rattle.perfdata_listing.specs.ListingLine.{jit_record_text}
 use Rattle.perfdata_listing.specs.Output.{AppendsPrefix, newline_count}
 use Rattle.perfdata_listing.proofs.NewlineCounts.{newline_count-append, newline_count-jit_record_text}
 use Rattle.perfdata_listing.specs.declared.list.ListFault.{ListFault}

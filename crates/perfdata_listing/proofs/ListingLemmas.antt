@@ -27,7 +27,7 @@ use Rattle.linux_perf_data.specs.FileReading.{HoldsForFile}
 use Rattle.linux_perf_data.proofs.FileReadings.{error_in_file, file_source_error, first_in_file, first_of, returns_records_more, holds_of, if_some_each, none_of, stops_of, whole_in_file, whole_of}
 use Rattle.perfdata_listing.specs.Listing.{AreLines, IsPlainLine, record_lines, no_lines, CalledFlushed, CallsFlushed, next_line, WritesLines, WritesRecord, WrotePrefix, ListedAll, ListedUntilError, ListedPartOfNext, ListedUntilFlushError, ListsNext, ListsRecords, ListedFileUntilError, ListsFile, ListingFails, FileListingFails}
 use Rattle.std.proofs.lemmas.List.{flat_map_more}
-use Rattle.perfdata_listing.specs.Line.{record_line}
+use Rattle.perfdata_listing.specs.ListingLine.{record_line}
 
 module _ (IsLine : RecordView → List ℕ → Type 0) (allocates : Bool) where
   -- no lines, the same lines, and one more line

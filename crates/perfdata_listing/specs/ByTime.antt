@@ -12,7 +12,7 @@ use Rattle.perfdata_listing.specs.declared.list.ListFault.{ListFault}
 use Rattle.perfdata_order.specs.InMemoryOrder.{Entry, Step, TakesSteps, returned_in, IsNewOrder, EntryReturned, EndReturned, ErrorReturned, Progress}
 use Rattle.perfdata_order.specs.Sorter.{held_of}
 use Rattle.perfdata_order.specs.declared.in_memory.InMemoryOrderedRecords.{InMemoryOrderedRecords}
-use Rattle.perfdata_order.specs.declared.in_memory.Pending.TheVariants.{End}
+use Rattle.perfdata_order.specs.declared.in_memory.PendingStep.TheVariants.{End}
 use Rattle.perfdata_sections.specs.declared.error.Error.{Error}
 use Rattle.perfdata_sections.specs.declared.error.Error.TheVariants.{Memory}
 

@@ -15,7 +15,7 @@ use Rattle.perfdata_jit.specs.declared.jitdump_reader.JitDumpReader.{JitDumpRead
 use Rattle.perfdata_jit.specs.declared.header.JitDumpHeader.{JitDumpHeader}
 use Rattle.perfdata_jit.specs.declared.error.JitDumpError.{JitDumpError}
 use Rattle.perfdata_jit.specs.declared.record.JitDumpRawRecord.{JitDumpRawRecord}
-use Rattle.perfdata_listing.specs.Line.{jit_record_text}
+use Rattle.perfdata_listing.specs.ListingLine.{jit_record_text}
 use Rattle.perfdata_listing.specs.Output.{AppendsPrefix}
 use Rattle.perfdata_listing.specs.Listing.{IsWrite}
 use Rattle.perfdata_listing.specs.declared.list.ListFault.{ListFault}

@@ -1,4 +1,4 @@
-pub mod Line
+pub mod ListingLine
 pub mod LineText
 pub mod Output
 pub mod CountingBufWriter

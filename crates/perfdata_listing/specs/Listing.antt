@@ -12,7 +12,7 @@ use Rattle.linux_perf_data.specs.declared.perf_file.PerfFile.{PerfFile}
 use Rattle.linux_perf_data.specs.declared.records.iter.PerfRecordIter.{PerfRecordIter}
 use Rattle.linux_perf_data.specs.declared.records.iter.Stage.TheVariants.{Running, Ended}
 use Rattle.perfdata_base.specs.Source.{State}
-use Rattle.perfdata_listing.specs.Line.{record_line, record_text}
+use Rattle.perfdata_listing.specs.ListingLine.{record_line, record_text}
 use Rattle.perfdata_listing.specs.Output.{AppendsPrefix}
 use Rattle.perfdata_listing.specs.declared.line.RecordFields.{RecordFields}
 use Rattle.perfdata_listing.specs.declared.list.ListCause.TheVariants.{Perf, Write}

@@ -1,7 +1,7 @@
 -- Output to a writer that may fail, and the output at the end of the program.
 use Rattle.std.specs.Prelude.{◌≡◌, ℕ, ◌<◌, ◌==◌, List, length, take, count_by, Option, Result, Ok, Err}
 use Rattle.std.specs.Io.KnownBytes.{Appends, Keeps}
-use Rattle.perfdata_listing.specs.Line.{error_text}
+use Rattle.perfdata_listing.specs.ListingLine.{error_text}
 
 -- a proper prefix of the bytes is appended
 pub record AppendsPrefix (old new : Option (List ℕ)) (bytes : List ℕ) : Type 0 where

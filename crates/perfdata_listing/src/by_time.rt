@@ -1,8 +1,8 @@
 //! Lists the records of an input in memory in order of time.
 ghost use Rattle.perfdata_listing.specs.ByTime.{ListsByTime, ListsNextByTime};
 
+use crate::line_format::LineFormat;
 use crate::list::{ListCause, ListFault, write_record};
-use crate::record_line::RecordLine;
 use linux_perf_data::PerfFile;
 use linux_perf_data::in_memory::InMemoryReader;
 use perfdata_order::in_memory::InMemoryOrderedRecords;
@@ -10,7 +10,7 @@ use std::alloc::Global;
 use std::io::Write;
 
 // Writes the line of the next record in order of time. Returns whether there is one.
-fn list_next<L: RecordLine, W: Write>(
+fn list_next<L: LineFormat, W: Write>(
     records: &mut InMemoryOrderedRecords<'_>,
     perf_file: &mut PerfFile,
     line: &mut L,
@@ -33,7 +33,7 @@ fn list_next<L: RecordLine, W: Write>(
 ///
 /// On an error `lines` is the number of complete lines that are written. If the input has an error, the lines
 /// of all records before it are written.
-pub fn list_by_time<L: RecordLine, W: Write>(
+pub fn list_by_time<L: LineFormat, W: Write>(
     alloc: Global,
     reader: InMemoryReader<'_>,
     line: &mut L,

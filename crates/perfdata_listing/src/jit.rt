@@ -10,7 +10,7 @@ ghost use Rattle.perfdata_listing.specs.JitListing.{raw_record_text, ListsJit, L
 ghost use Rattle.perfdata_listing.specs.JitListing.{ListsLiveJitRecords, ListsNextJit, MayBlock};
 ghost use Rattle.perfdata_listing.specs.JitListing.{ReadsNothing};
 
-use crate::line::Line;
+use crate::line::ListingLine;
 use crate::list::{ListCause, ListFault};
 use crate::output::{FlushPending, write_line};
 use linux_perf_data::jitdump::{JitDumpRawRecord, JitDumpReader, JitDumpRecordHeader};
@@ -23,7 +23,7 @@ use std::io::Write;
 const LIVE_BUFFER_SIZE: usize = 65536;
 
 // Sets the line to that of a record.
-fn format_line(line: &mut Line, raw: &JitDumpRawRecord<'_>)
+fn format_line(line: &mut ListingLine, raw: &JitDumpRawRecord<'_>)
     ensures { text_of line.new ≡ raw_record_text raw.now }
 {
     line.set_jit_record(
@@ -37,7 +37,7 @@ fn format_line(line: &mut Line, raw: &JitDumpRawRecord<'_>)
 // Writes the line of the next record. Returns whether the record was complete.
 fn list_next<R: Source, W: Write>(
     reader: &mut JitDumpReader<R>,
-    line: &mut Line,
+    line: &mut ListingLine,
     out: &mut W,
 ) -> Result<bool, ListCause>
     ensures { ListsNextJit R.state reader.old (W.contents out.old) result (W.contents out.new) reader.new }
@@ -59,7 +59,7 @@ fn list_next<R: Source, W: Write>(
 // buffered.
 fn list_next_live<R: Source, W: FlushPending>(
     reader: &mut JitDumpReader<R>,
-    line: &mut Line,
+    line: &mut ListingLine,
     out: &mut W,
 ) -> Result<bool, ListCause>
     requires flushed { MayBlock reader.old (W.pending out.old) }
@@ -77,7 +77,7 @@ fn list_jit_records<R: Source, W: Write>(
     ensures { ListsJitRecords R.state reader.old (W.contents out.old) result (W.contents out.new) reader.new }
 {
     let mut lines = 0u64;
-    let mut line = Line::new();
+    let mut line = ListingLine::new();
     'records: loop {
         match list_next(reader, &mut line, out) {
             Ok(true) => lines += 1,
@@ -148,7 +148,7 @@ fn list_live_jit_records<R: Source, W: FlushPending>(
         reader.new }
 {
     let mut lines = 0u64;
-    let mut line = Line::new();
+    let mut line = ListingLine::new();
     'records: loop {
         match flush_before_blocking(reader, out) {
             Ok(()) => {}

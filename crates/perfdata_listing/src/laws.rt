@@ -2,7 +2,7 @@
 ghost use Rattle.std.specs.Prelude.{◌≡◌, ℕ, ◌++◌, List, length, flat_map};
 ghost use Rattle.linux_perf_data.specs.Layout.{RecordView};
 ghost use Rattle.perfdata_base.specs.declared.endian.Endianness.{Endianness};
-ghost use Rattle.perfdata_listing.specs.Line.{record_line};
+ghost use Rattle.perfdata_listing.specs.ListingLine.{record_line};
 ghost use Rattle.perfdata_listing.specs.JitListing.{jit_lines};
 ghost use Rattle.perfdata_listing.specs.Listing.{AreLines, IsPlainLine};
 ghost use Rattle.perfdata_listing.specs.Output.{newline_count};

@@ -1,6 +1,7 @@
 //! The text of a listing's line, formatted in an array on the stack.
 ghost use Rattle.std.specs.Prelude.{◌≡◌, ℕ, ◌+◌, ◌≤◌, [], ◌∷◌, ◌++◌, length, take, drop, decimal, codes};
-ghost use Rattle.perfdata_listing.specs.Line.{decimal_or_dash, record_text, jit_record_text, error_text};
+ghost use Rattle.perfdata_listing.specs.ListingLine.{decimal_or_dash, record_text, jit_record_text};
+ghost use Rattle.perfdata_listing.specs.ListingLine.{error_text};
 
 use itoa::write_digits;
 
@@ -10,7 +11,7 @@ const LINE_CAPACITY: usize = 128;
 
 /// A line of text, stored at the end of an array.
 #[derive(Drop)]
-pub struct Line {
+pub struct ListingLine {
     bytes: [u8; LINE_CAPACITY],
     start: usize,
     ghost in_range: { start ≤ 128 },
@@ -131,14 +132,14 @@ fn prepend_bytes(buf: &mut [u8], end: usize, text: &[u8]) -> usize
     start
 }
 
-impl Line {
+impl ListingLine {
     ghost use Rattle.perfdata_listing.specs.LineText.{text_of};
 
     /// Creates an empty line. It can be set to one line after another.
-    pub fn new() -> Line
+    pub fn new() -> ListingLine
         ensures { text_of result ≡ [] }
     {
-        Line {
+        ListingLine {
             bytes: [0; LINE_CAPACITY],
             start: LINE_CAPACITY,
         }
@@ -163,12 +164,12 @@ impl Line {
     }
 
     // Creates the line of an error after `records` records.
-    pub(crate) fn for_error(records: u64) -> Line
+    pub(crate) fn for_error(records: u64) -> ListingLine
         ensures { text_of result ≡ error_text records }
     {
         let mut bytes = [0; LINE_CAPACITY];
         let start = format_error(&mut bytes, records);
-        Line { bytes, start }
+        ListingLine { bytes, start }
     }
 
     /// The bytes of the line, including its newline.

@@ -11,9 +11,9 @@ ghost use Rattle.perfdata_listing.specs.Listing.{ListsNext, ListsRecords, ListsL
 ghost use Rattle.perfdata_listing.specs.Listing.{MayBlock, FlushesBeforeBlocking};
 ghost use Rattle.perfdata_listing.specs.PipeListing.{FlushesPipeBeforeBlocking, ListsPipe, ListsLivePipe};
 
-use crate::line::Line;
+use crate::line::ListingLine;
+use crate::line_format::LineFormat;
 use crate::output::{CountingBufWriter, FlushPending, write_line};
-use crate::record_line::RecordLine;
 use linux_perf_data::jitdump::JitDumpError;
 use linux_perf_data::source::{PlacedSource, Source};
 use linux_perf_data::{
@@ -50,7 +50,7 @@ pub struct ListFault {
 /// Fails if memory runs out, and nothing of the line is written then, or if the writer fails, and a prefix of
 /// the line is written then.
 #[inline(always)]
-pub fn write_record<L: RecordLine, W: Write>(
+pub fn write_record<L: LineFormat, W: Write>(
     place: RecordPlace,
     record: &PerfFileRecord<'_>,
     perf_file: &PerfFile,
@@ -70,7 +70,7 @@ pub fn write_record<L: RecordLine, W: Write>(
 }
 
 // Writes the line of the next record. Returns whether there is one.
-fn list_next<R: Source, L: RecordLine, W: Write>(
+fn list_next<R: Source, L: LineFormat, W: Write>(
     records: &mut PerfRecordIter<R>,
     perf_file: &mut PerfFile,
     line: &mut L,
@@ -93,7 +93,7 @@ fn list_next<R: Source, L: RecordLine, W: Write>(
 
 // Does what `list_next` does for a live input. Either the writer has no pending bytes, or the next record is
 // buffered.
-fn list_next_live<R: Source, L: RecordLine, W: FlushPending>(
+fn list_next_live<R: Source, L: LineFormat, W: FlushPending>(
     records: &mut PerfRecordIter<R>,
     perf_file: &mut PerfFile,
     line: &mut L,
@@ -107,7 +107,7 @@ fn list_next_live<R: Source, L: RecordLine, W: FlushPending>(
 }
 
 // Writes a line for each remaining record. Returns the number of lines.
-fn list_records<R: Source, L: RecordLine, W: Write>(
+fn list_records<R: Source, L: LineFormat, W: Write>(
     records: &mut PerfRecordIter<R>,
     perf_file: &mut PerfFile,
     line: &mut L,
@@ -146,7 +146,7 @@ pub fn flush_before_blocking<R: Source, W: FlushPending>(
 
 // Writes a line for each remaining record of a live input. Returns the number of lines. Pending lines are
 // flushed before each call for a record that isn't buffered.
-fn list_live_records<R: Source, L: RecordLine, W: FlushPending>(
+fn list_live_records<R: Source, L: LineFormat, W: FlushPending>(
     records: &mut PerfRecordIter<R>,
     perf_file: &mut PerfFile,
     line: &mut L,
@@ -177,7 +177,7 @@ fn list_live_records<R: Source, L: RecordLine, W: FlushPending>(
 }
 
 /// Lists a perf.data file as [`list_file`] does, by lines of any format.
-pub fn list_file_by<C: PlacedSource + Drop, L: RecordLine, W: Write>(
+pub fn list_file_lines<C: PlacedSource + Drop, L: LineFormat, W: Write>(
     alloc: Global,
     source: C,
     line: &mut L,
@@ -200,7 +200,7 @@ pub fn list_file_by<C: PlacedSource + Drop, L: RecordLine, W: Write>(
 }
 
 /// Lists a pipe as [`list_pipe`] does, by lines of any format.
-pub fn list_pipe_by<R: Source + Drop, L: RecordLine, W: Write>(
+pub fn list_pipe_lines<R: Source + Drop, L: LineFormat, W: Write>(
     alloc: Global,
     source: R,
     line: &mut L,
@@ -223,7 +223,7 @@ pub fn list_pipe_by<R: Source + Drop, L: RecordLine, W: Write>(
 }
 
 /// Lists a live pipe as [`list_live_pipe`] does, by lines of any format.
-pub fn list_live_pipe_by<R: Source + Drop, L: RecordLine, W: FlushPending>(
+pub fn list_live_pipe_lines<R: Source + Drop, L: LineFormat, W: FlushPending>(
     alloc: Global,
     source: R,
     line: &mut L,
@@ -274,7 +274,7 @@ pub fn list_file<C: PlacedSource + Drop, W: Write>(
 ) -> Result<u64, ListFault>
     ensures { ListsFile IsPlainLine false (C.state source) (W.contents out.old) result (W.contents out.new) }
 {
-    list_file_by(alloc, source, &mut Line::new(), out)
+    list_file_lines(alloc, source, &mut ListingLine::new(), out)
 }
 
 /// Writes a line for each record of a pipe, as [`list_file`] does, and returns the number of lines.
@@ -294,7 +294,7 @@ pub fn list_pipe<R: Source + Drop, W: Write>(
 ) -> Result<u64, ListFault>
     ensures { ListsPipe IsPlainLine false (R.state source) (W.contents out.old) result (W.contents out.new) }
 {
-    list_pipe_by(alloc, source, &mut Line::new(), out)
+    list_pipe_lines(alloc, source, &mut ListingLine::new(), out)
 }
 
 /// Lists a live pipe as [`list_pipe`] does, into a writer that may buffer lines. The lines are flushed before
@@ -311,7 +311,7 @@ pub fn list_live_pipe<R: Source + Drop, W: FlushPending>(
     ensures flushes { FlushesPipeBeforeBlocking IsPlainLine false R.state W.pending W.contents
         (R.state source) out.old result out.new }
 {
-    list_live_pipe_by(alloc, source, &mut Line::new(), out)
+    list_live_pipe_lines(alloc, source, &mut ListingLine::new(), out)
 }
 
 /// Flushes the lines that are still buffered, unless the writer has already failed. Returns the number of

@@ -5,7 +5,7 @@ ghost use Rattle.std.specs.Io.{WritesAtMost};
 ghost use Rattle.std.specs.Io.KnownBytes.{Appends, Keeps, WriteAppends};
 ghost use Rattle.perfdata_listing.specs.Output.{WritesAll, Finishes, newline_count};
 
-use crate::line::Line;
+use crate::line::ListingLine;
 use std::alloc::{AllocError, Global};
 use std::io;
 use std::io::{ErrorKind, Write};
@@ -55,7 +55,7 @@ pub fn finish<W: Write>(outcome: Result<u64, u64>, err: &mut W) -> io::Result<u8
     match outcome {
         Ok(_) => Ok(0),
         Err(records) => {
-            let line = Line::for_error(records);
+            let line = ListingLine::for_error(records);
             write_line(err, line.as_bytes())?;
             Ok(2)
         }

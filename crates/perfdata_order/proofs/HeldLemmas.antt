@@ -126,7 +126,7 @@ both P Q S f xs p q = λ k d below. f (get_or xs k d) (p k d below) (q k d below
 
 known_kept : (old new : ParseInfos) → KeepsFound old new → (format : HeldFormat) → IsKnown old format → IsKnown new format
 known_kept old new kept (held_format.Kernel index kind at known) is = kept at known.value is
-known_kept old new kept (held_format.Tool kind order) is = refl
+known_kept old new kept (held_format.User kind order) is = refl
 
 prefix_body : (xs ys : List ℕ) (start at_end : ℕ) → IsPrefix xs ys → at_end ≤ length xs → drop start (take at_end ys) ≡ drop start (take at_end xs)
 prefix_body xs ys start at_end (more, is) below = ap (λ zs. drop start (take at_end zs)) is ∙ ap (λ zs. drop start zs) (take-append-le at_end xs more below)

@@ -10,7 +10,7 @@ use Rattle.std.proofs.lemmas.Map.Lookups.{exact_unsigned}
 use Rattle.perfdata_base.specs.declared.endian.Endianness.{Endianness}
 use Rattle.perfdata_base.specs.declared.endian.Endianness.TheVariants.{LittleEndian, BigEndian}
 use Rattle.perfdata_base.specs.declared.place.parse_info.RecordParseInfo.{RecordParseInfo}
-use Rattle.perfdata_order.specs.ParseInfoKeys.{Key, order_number, key_of, offset_cmp, key_cmp, AreIndexed, AreDistinct}
+use Rattle.perfdata_order.specs.ParseInfoKeys.{Key, order_number, parse_info_key, offset_cmp, key_cmp, AreIndexed, AreDistinct}
 
 -- ---- keys
 
@@ -43,7 +43,7 @@ key_itself x =
     then_equal _ _ (then_equal _ _ (then_equal _ _ (then_equal _ _ (then_equal _ _ (tied_itself nat_cmp_total x.0) (tied_itself nat_cmp_total x.1)) (offset_itself x.2)) (offset_itself x.3)) (offset_itself x.4)) (offset_itself x.5)
 
 -- Parse infos with equal keys are equal.
-same_info : (p q : RecordParseInfo) → key_cmp (key_of p) (key_of q) ≡ Equal → p ≡ q
+same_info : (p q : RecordParseInfo) → key_cmp (parse_info_key p) (parse_info_key q) ≡ Equal → p ≡ q
 same_info p q tie =
     let to5 = both_equal _ _ tie in
     let to4 = both_equal _ _ to5.0 in
@@ -95,15 +95,15 @@ same_some o a b first second = cc
 
 pub distinct_from_indexed : (indices : BTreeMap Key ℕ) (found : List RecordParseInfo) → AreIndexed indices found → AreDistinct found
 distinct_from_indexed indices found indexed p i j first second =
-    same_some (get key_cmp indices (key_of p)) i j ((indexed p i).1 first) ((indexed p j).1 second)
+    same_some (get key_cmp indices (parse_info_key p)) i j ((indexed p i).1 first) ((indexed p j).1 second)
 
-pub absent_from_map : (indices : BTreeMap Key ℕ) (found : List RecordParseInfo) (p : RecordParseInfo) → AreIndexed indices found → get key_cmp indices (key_of p) ≡ None → (other : ℕ) → slice_get found other ≢ Some p
-absent_from_map indices found p indexed absent other there = none_at (get key_cmp indices (key_of p)) other absent ((indexed p other).1 there)
+pub absent_from_map : (indices : BTreeMap Key ℕ) (found : List RecordParseInfo) (p : RecordParseInfo) → AreIndexed indices found → get key_cmp indices (parse_info_key p) ≡ None → (other : ℕ) → slice_get found other ≢ Some p
+absent_from_map indices found p indexed absent other there = none_at (get key_cmp indices (parse_info_key p)) other absent ((indexed p other).1 there)
 
-module _ (old new : BTreeMap Key ℕ) (found : List RecordParseInfo) (p : RecordParseInfo) (n : ℕ) (is : n ≡ length found) (indexed : AreIndexed old found) (absent : get key_cmp old (key_of p) ≡ None)
-    (puts : (q : Key) → get key_cmp new q ≡ cond (is_at (key_cmp (key_of p)) q) (Some n) (get key_cmp old q)) where
+module _ (old new : BTreeMap Key ℕ) (found : List RecordParseInfo) (p : RecordParseInfo) (n : ℕ) (is : n ≡ length found) (indexed : AreIndexed old found) (absent : get key_cmp old (parse_info_key p) ≡ None)
+    (puts : (q : Key) → get key_cmp new q ≡ cond (is_at (key_cmp (parse_info_key p)) q) (Some n) (get key_cmp old q)) where
   abbrev IndexedAt : RecordParseInfo → ℕ → Type 0
-  IndexedAt q index = (get key_cmp new (key_of q) ≡ Some index → slice_get (found ++ p ∷ []) index ≡ Some q) × (slice_get (found ++ p ∷ []) index ≡ Some q → get key_cmp new (key_of q) ≡ Some index)
+  IndexedAt q index = (get key_cmp new (parse_info_key q) ≡ Some index → slice_get (found ++ p ∷ []) index ≡ Some q) × (slice_get (found ++ p ∷ []) index ≡ Some q → get key_cmp new (parse_info_key q) ≡ Some index)
 
   not_before : (q : RecordParseInfo) (index : ℕ) → p ≡ q → slice_get found index ≢ Some q
   not_before q index same there = absent_from_map old found p indexed absent index (there ∙ ap Some (sym same))
@@ -112,33 +112,33 @@ module _ (old new : BTreeMap Key ℕ) (found : List RecordParseInfo) (p : Record
   back_same q index same (inl there) = absurd (not_before q index same there)
   back_same q index same (inr last) = is ∙ sym last.0
 
-  at_same : (q : RecordParseInfo) (index : ℕ) → key_cmp (key_of p) (key_of q) ≡ Equal → IndexedAt q index
+  at_same : (q : RecordParseInfo) (index : ℕ) → key_cmp (parse_info_key p) (parse_info_key q) ≡ Equal → IndexedAt q index
   at_same q index tie =
       let same = same_info p q tie in
-      let value : get key_cmp new (key_of q) ≡ Some n = puts (key_of q) ∙ ap (λ o. cond (is_eq o) (Some n) (get key_cmp old (key_of q))) tie in (
+      let value : get key_cmp new (parse_info_key q) ≡ Some n = puts (parse_info_key q) ∙ ap (λ o. cond (is_eq o) (Some n) (get key_cmp old (parse_info_key q))) tie in (
         λ at.
-            let found_here : length found ≡ index = sym is ∙ same_some (get key_cmp new (key_of q)) n index value at in
+            let found_here : length found ≡ index = sym is ∙ same_some (get key_cmp new (parse_info_key q)) n index value at in
             subst (λ i. slice_get (found ++ p ∷ []) i ≡ Some q) found_here (get_last found p ∙ ap Some same),
         λ at. value ∙ ap Some (back_same q index same (before_or_last found p q index at)),
       )
 
-  back_other : (q : RecordParseInfo) (index : ℕ) → (p ≡ q → ⊥) → (slice_get found index ≡ Some q) ⊎ ((index ≡ length found) × (p ≡ q)) → get key_cmp old (key_of q) ≡ Some index
+  back_other : (q : RecordParseInfo) (index : ℕ) → (p ≡ q → ⊥) → (slice_get found index ≡ Some q) ⊎ ((index ≡ length found) × (p ≡ q)) → get key_cmp old (parse_info_key q) ≡ Some index
   back_other q index other (inl there) = (indexed q index).1 there
   back_other q index other (inr last) = absurd (other last.1)
 
-  at_other : (q : RecordParseInfo) (index : ℕ) → is_eq (key_cmp (key_of p) (key_of q)) ≡ false → IndexedAt q index
+  at_other : (q : RecordParseInfo) (index : ℕ) → is_eq (key_cmp (parse_info_key p) (parse_info_key q)) ≡ false → IndexedAt q index
   at_other q index differs =
-      let value : get key_cmp new (key_of q) ≡ get key_cmp old (key_of q) = puts (key_of q) ∙ ap (λ b. cond b (Some n) (get key_cmp old (key_of q))) differs in
+      let value : get key_cmp new (parse_info_key q) ≡ get key_cmp old (parse_info_key q) = puts (parse_info_key q) ∙ ap (λ b. cond b (Some n) (get key_cmp old (parse_info_key q))) differs in
       let other : p ≡ q → ⊥ = λ same.
-      let yes : is_eq (key_cmp (key_of p) (key_of q)) ≡ true = ap is_eq (sym (ap (λ x. key_cmp (key_of p) (key_of x)) same) ∙ key_itself (key_of p)) in cc in (
+      let yes : is_eq (key_cmp (parse_info_key p) (parse_info_key q)) ≡ true = ap is_eq (sym (ap (λ x. key_cmp (parse_info_key p) (parse_info_key x)) same) ∙ key_itself (parse_info_key p)) in cc in (
         λ at. get_before found p q index ((indexed q index).0 (sym value ∙ at)),
         λ at. value ∙ back_other q index other (before_or_last found p q index at),
       )
 
-  at_either : (q : RecordParseInfo) (index : ℕ) (o : Ordering) → key_cmp (key_of p) (key_of q) ≡ o → IndexedAt q index
+  at_either : (q : RecordParseInfo) (index : ℕ) (o : Ordering) → key_cmp (parse_info_key p) (parse_info_key q) ≡ o → IndexedAt q index
   at_either q index Less tie = at_other q index (ap is_eq tie)
   at_either q index Equal tie = at_same q index tie
   at_either q index Greater tie = at_other q index (ap is_eq tie)
 
   pub indexed_more : AreIndexed new (found ++ p ∷ [])
-  indexed_more q index = at_either q index (key_cmp (key_of p) (key_of q)) refl
+  indexed_more q index = at_either q index (key_cmp (parse_info_key p) (parse_info_key q)) refl

@@ -11,8 +11,8 @@ use Rattle.perfdata_records.specs.declared.record.PerfFileRecord.TheVariants.{Ev
 use Rattle.linux_perf_data.specs.Layout.{RecordView}
 use Rattle.linux_perf_data.specs.Laws.{OffsetsIncrease}
 use Rattle.linux_perf_data.specs.RecordViews.{record_view_of}
-use Rattle.perfdata_order.specs.declared.in_memory.Pending.{Pending}
-use Rattle.perfdata_order.specs.declared.in_memory.Pending.TheVariants.{Nothing, Record, End, Failure}
+use Rattle.perfdata_order.specs.declared.in_memory.PendingStep.{PendingStep}
+use Rattle.perfdata_order.specs.declared.in_memory.PendingStep.TheVariants.{Nothing, Record, End, Failure}
 use Rattle.perfdata_order.specs.declared.in_memory.InMemoryOrderedRecords.{InMemoryOrderedRecords}
 use Rattle.perfdata_order.specs.Times.{time_key_of}
 use Rattle.perfdata_order.specs.Order.{IsAtMost}
@@ -51,7 +51,7 @@ pending_later None place r es follow = timed_later place.round es (subst (λ n. 
 pending_later (Some time) place r es follow =
     All-cons (λ y. place.round ≤ y.0) (place.round, (time, (place, r))) (timed_of es) (omega arith) (timed_later place.round es (subst (λ n. All (λ later. n ≤ later.round) (views es)) (view_round place r) follow.0))
 
-abbrev pub pending_timed : Pending → List Timed
+abbrev pub pending_timed : PendingStep → List Timed
 pending_timed Nothing = []
 pending_timed (Record key place r) = timed_by key (place, r)
 pending_timed End = []
@@ -62,7 +62,7 @@ abbrev pub ahead : InMemoryOrderedRecords → List Step → List Timed
 ahead s steps = pending_timed s.pending ++ timed_of (read_in steps)
 
 -- The rounds of the records that are still to be placed don't fall.
-abbrev pub RoundsRise : Pending → List Entry → Type 0
+abbrev pub RoundsRise : PendingStep → List Entry → Type 0
 RoundsRise q es = RoundsFollow (views (pending_entries q ++ es))
 
 pub rise_after : (step : Step) (steps : List Step) (s next : InMemoryOrderedRecords) (f g : PerfFile) → TakesStep step s f next g → RoundsRise s.pending (read_in (step ∷ steps)) → RoundsRise next.pending (read_in steps)
@@ -82,7 +82,7 @@ rise_after (reports e) steps s next f g taken rise = subst (λ q. RoundsRise q (
 abbrev as_timed : Timed → Timed
 as_timed y = (y.1.1.0.round, y.1)
 
-abbrev pub IsFinal : Pending → Type 0
+abbrev pub IsFinal : PendingStep → Type 0
 IsFinal Nothing = ⊥
 IsFinal (Record key place r) = ⊥
 IsFinal End = Unit {0}
@@ -152,21 +152,21 @@ follows_end n m round ys timed none f =
     record { rest = f.rest; prefix = f.prefix; bounds = λ i d lt. absurd (known i d lt); rule = f.rule }
 
 -- The end of rounds before the pending record.
-pub one_round : (q : Pending) (es : List Entry) (old new : ℕ) → IsOneRoundLater q old new → RoundsRise q es → (new ≡ old + 1) × All (λ y. new ≤ y.0) (pending_timed q ++ timed_of es)
+pub one_round : (q : PendingStep) (es : List Entry) (old new : ℕ) → IsOneRoundLater q old new → RoundsRise q es → (new ≡ old + 1) × All (λ y. new ≤ y.0) (pending_timed q ++ timed_of es)
 one_round Nothing es old new one rise = absurd one
 one_round (Record key place r) es old new one rise =
     (one.1 ∙ one.0, subst (λ k. All (λ y. k ≤ y.0) (timed_by key (place, r) ++ timed_of es)) (sym one.1) (pending_later key place r es rise))
 one_round End es old new one rise = absurd one
 one_round (Failure e) es old new one rise = absurd one
 
-pub later_rounds : (q : Pending) (es : List Entry) (old new : ℕ) → IsLaterOrLast q old new → RoundsRise q es → ((old + 2 ≤ new) × All (λ y. new ≤ y.0) (pending_timed q ++ timed_of es)) ⊎ ((new ≡ old) × IsFinal q)
+pub later_rounds : (q : PendingStep) (es : List Entry) (old new : ℕ) → IsLaterOrLast q old new → RoundsRise q es → ((old + 2 ≤ new) × All (λ y. new ≤ y.0) (pending_timed q ++ timed_of es)) ⊎ ((new ≡ old) × IsFinal q)
 later_rounds Nothing es old new later rise = absurd later
 later_rounds (Record key place r) es old new later rise =
     inl (subst (λ k. old + 2 ≤ k) (sym later.1) later.0, subst (λ k. All (λ y. k ≤ y.0) (timed_by key (place, r) ++ timed_of es)) (sym later.1) (pending_later key place r es rise))
 later_rounds End es old new later rise = inr (later, tt)
 later_rounds (Failure e) es old new later rise = inr (later, tt)
 
-none_pending : (q : Pending) → IsFinal q → pending_timed q ≡ []
+none_pending : (q : PendingStep) → IsFinal q → pending_timed q ≡ []
 none_pending Nothing final = absurd final
 none_pending (Record key place r) final = absurd final
 none_pending End final = refl
@@ -189,7 +189,7 @@ same_ahead s t before after same_round same stopped h = record {
 same_follows : (n : ℕ) (s t : InMemoryOrderedRecords) (ys before after : List Timed) → t.round ≡ s.round → before ≡ after → Follows n t.round ys after → Follows n s.round ys before
 same_follows n s t ys before after same_round same f = subst (λ k. Follows n k ys before) same_round (subst (λ es. Follows n t.round ys es) (sym same) f)
 
-not_final : (q p : Pending) → q ≡ p → (IsFinal p → ⊥) → IsFinal q → ⊥
+not_final : (q p : PendingStep) → q ≡ p → (IsFinal p → ⊥) → IsFinal q → ⊥
 not_final q p same never final = never (subst (λ x. IsFinal x) same final)
 
 kept_stop : (s t : InMemoryOrderedRecords) → t.pending ≡ s.pending → t.records ≡ s.records → (IsFinal s.pending → s.records.records.stage ≢ Running) → IsFinal t.pending → t.records.records.stage ≢ Running

@@ -10,8 +10,8 @@ use Rattle.linux_perf_data.specs.InMemoryReading.{ReturnsRecordInMemory}
 use Rattle.std.specs.Prelude.{◌≢◌}
 use Rattle.std.specs.declared.alloc.AllocError.{AllocError}
 use Rattle.perfdata_order.specs.declared.sorter.Sorter.{Sorter}
-use Rattle.perfdata_order.specs.declared.in_memory.Pending.{Pending}
-use Rattle.perfdata_order.specs.declared.in_memory.Pending.TheVariants.{Nothing, Record, End, Failure}
+use Rattle.perfdata_order.specs.declared.in_memory.PendingStep.{PendingStep}
+use Rattle.perfdata_order.specs.declared.in_memory.PendingStep.TheVariants.{Nothing, Record, End, Failure}
 use Rattle.perfdata_order.specs.declared.in_memory.InMemoryOrderedRecords.{InMemoryOrderedRecords}
 use Rattle.perfdata_order.specs.Sorter.{held_of, available_of, pending_of, IsUnchanged, Inserted, EndsAllRounds}
 use Rattle.perfdata_order.specs.SorterLaws.Call.{inserts, ends_round, ends_all, releases, returns, keeps}
@@ -176,7 +176,7 @@ offset_rises old new file file' place r returned =
 -- ---- what placing leaves
 
 -- The round of the pending record.
-abbrev pending_round : Pending → ℕ
+abbrev pending_round : PendingStep → ℕ
 pending_round Nothing = 0
 pending_round (Record key place r) = place.round
 pending_round End = 0
@@ -204,7 +204,7 @@ untimed_placed a b (Ok done) place r was ended =
     (placed.places, subst (λ q. AfterPlacing q b) (sym was) (placed.pending ∙ was, placed.in_round), placed.same_records)
 untimed_placed a b (Err e) place r was kept = places_kept a a b (places_none a a refl) kept
 
-ended : (a c : InMemoryOrderedRecords) → Places a c → (q : Pending) → a.pending ≡ q → AfterPlacing q c → c.records ≡ a.records → Places a c × AfterPlacing a.pending c × (c.records ≡ a.records)
+ended : (a c : InMemoryOrderedRecords) → Places a c → (q : PendingStep) → a.pending ≡ q → AfterPlacing q c → c.records ≡ a.records → Places a c × AfterPlacing a.pending c × (c.records ≡ a.records)
 ended a c places q is after same_records = (places, subst (λ q. AfterPlacing q c) (sym is) after, same_records)
 
 pub end_placed : (a c : InMemoryOrderedRecords) (result : Result (Unit {0}) AllocError) → a.pending ≡ End → EndsAllRounds nat_cmp a.sorter result c.sorter → c.pending ≡ a.pending → c.records ≡ a.records → c.round ≡ a.round → PlacesPending a result c
@@ -221,14 +221,14 @@ failure_placed a c (Ok done) e is all pending same_records same_round =
 failure_placed a c (Err error) e is unchanged pending same_records same_round =
     places_kept a a c (places_none a a refl) (record { unchanged = unchanged; pending = pending; same_records = same_records; round = same_round })
 
-pub none_pending_at_end : (q : Pending) (b : InMemoryOrderedRecords) → AfterPlacing q b → b.pending ≡ End → pending_of b.sorter ≡ []
+pub none_pending_at_end : (q : PendingStep) (b : InMemoryOrderedRecords) → AfterPlacing q b → b.pending ≡ End → pending_of b.sorter ≡ []
 none_pending_at_end Nothing b after is = cc
 none_pending_at_end (Record None place r) b after is = let same = after.0 in cc
 none_pending_at_end (Record (Some key) place r) b after is = cc
 none_pending_at_end End b after is = after.1
 none_pending_at_end (Failure e) b after is = after.1
 
-pub none_pending_at_failure : (q : Pending) (b : InMemoryOrderedRecords) (e : Error) → AfterPlacing q b → b.pending ≡ Failure e → pending_of b.sorter ≡ []
+pub none_pending_at_failure : (q : PendingStep) (b : InMemoryOrderedRecords) (e : Error) → AfterPlacing q b → b.pending ≡ Failure e → pending_of b.sorter ≡ []
 none_pending_at_failure Nothing b e after is = cc
 none_pending_at_failure (Record None place r) b e after is = let same = after.0 in cc
 none_pending_at_failure (Record (Some key) place r) b e after is = cc
@@ -236,7 +236,7 @@ none_pending_at_failure End b e after is = after.1
 none_pending_at_failure (Failure e') b e after is = after.1
 
 -- The rounds before that of the pending record without a time ended.
-pub untimed_in_round : (q : Pending) (b : InMemoryOrderedRecords) (place : RecordPlace) (r : PerfFileRecord) → AfterPlacing q b → b.pending ≡ Record None place r → place.round ≤ b.round
+pub untimed_in_round : (q : PendingStep) (b : InMemoryOrderedRecords) (place : RecordPlace) (r : PerfFileRecord) → AfterPlacing q b → b.pending ≡ Record None place r → place.round ≤ b.round
 untimed_in_round Nothing b place r after is = cc
 untimed_in_round (Record None place' r') b place r after is = subst (λ n. n ≤ b.round) (ap pending_round (sym after.0 ∙ is)) after.1
 untimed_in_round (Record (Some key) place' r') b place r after is = cc
@@ -268,7 +268,7 @@ none_after : (key : Option ℕ) (place : RecordPlace) (r : PerfFileRecord) (p : 
 none_after None place r p after no_untimed = absurd (subst (λ q. HasNoUntimed q) after.0 no_untimed)
 none_after (Some key) place r p after no_untimed = after
 
-placed_record : (q : Pending) (p : InMemoryOrderedRecords) → IsPending q → AfterPlacing q p → HasNoUntimed p.pending → p.pending ≢ End → ((e : Error) → p.pending ≢ Failure e) → (pending_records q ≡ 1) × (p.pending ≡ Nothing)
+placed_record : (q : PendingStep) (p : InMemoryOrderedRecords) → IsPending q → AfterPlacing q p → HasNoUntimed p.pending → p.pending ≢ End → ((e : Error) → p.pending ≢ Failure e) → (pending_records q ≡ 1) × (p.pending ≡ Nothing)
 placed_record Nothing p pending after no_untimed not_end not_failed = absurd pending
 placed_record (Record key place r) p pending after no_untimed not_end not_failed = (refl, none_after key place r p after no_untimed)
 placed_record End p pending after no_untimed not_end not_failed = absurd (not_end after.0)

@@ -15,8 +15,8 @@ use Rattle.perfdata_order.specs.declared.held_record.RecordEnvelope.{RecordEnvel
 use Rattle.perfdata_order.specs.declared.held_record.HeldRecord.{HeldRecord}
 use Rattle.perfdata_order.specs.declared.sorter.Sorter.{Sorter}
 use Rattle.perfdata_order.specs.declared.held_records.HeldRecords.{HeldRecords}
-use Rattle.perfdata_order.specs.declared.streaming.Pending.{Pending}
-use Rattle.perfdata_order.specs.declared.streaming.Pending.TheVariants as variant
+use Rattle.perfdata_order.specs.declared.streaming.PendingStep.{PendingStep}
+use Rattle.perfdata_order.specs.declared.streaming.PendingStep.TheVariants as variant
 use Rattle.perfdata_order.specs.declared.streaming.OrderedRecords.{OrderedRecords}
 use Rattle.perfdata_order.specs.HeldRecord.{view_with, held_view, held_size}
 use Rattle.perfdata_order.specs.Sorter.{held_of, available_of, pending_of, IsUnchanged, TestsAvailable, Inserted, HalfReleased, EndsAllRounds}
@@ -74,14 +74,14 @@ unplaced_body ending = []
 unplaced_body (failing e) = []
 unplaced_body failed = []
 
-pub body_read : (p : Pending) (body : List ℕ) (key : Option ℕ) (h : RecordView) → unplaced_by p body ≡ waiting key h → body ≡ h.body
+pub body_read : (p : PendingStep) (body : List ℕ) (key : Option ℕ) (h : RecordView) → unplaced_by p body ≡ waiting key h → body ≡ h.body
 body_read variant.Nothing body key h is = cc
 body_read (variant.Record key' envelope) body key h is = ap unplaced_body is
 body_read variant.End body key h is = cc
 body_read (variant.Failure e) body key h is = cc
 body_read variant.Failed body key h is = cc
 
-abbrev pub with_parts : {R : Type 0} → OrderedRecords R → HeldRecords → Pending → ℕ → OrderedRecords R
+abbrev pub with_parts : {R : Type 0} → OrderedRecords R → HeldRecords → PendingStep → ℕ → OrderedRecords R
 with_parts s held pending held_bytes = record s { held = held; pending = pending; held_bytes = held_bytes }
 
 abbrev pub with_held : {R : Type 0} → OrderedRecords R → HeldRecords → OrderedRecords R

@@ -7,7 +7,7 @@ use Rattle.perfdata_records.specs.UserRecordType.{user_type_number}
 use Rattle.linux_perf_data.specs.Attribute.{EventRef}
 use Rattle.linux_perf_data.specs.Layout.{RecordView}
 use Rattle.perfdata_order.specs.declared.held_record.BodyFormat.{BodyFormat}
-use Rattle.perfdata_order.specs.declared.held_record.BodyFormat.TheVariants.{Kernel, Tool}
+use Rattle.perfdata_order.specs.declared.held_record.BodyFormat.TheVariants.{Kernel, User}
 use Rattle.perfdata_order.specs.declared.held_record.RecordEnvelope.{RecordEnvelope}
 use Rattle.perfdata_base.specs.declared.place.parse_info.RecordParseInfo.{RecordParseInfo}
 use Rattle.perfdata_order.specs.declared.held_record.HeldFormat.{HeldFormat}
@@ -20,15 +20,15 @@ use Rattle.perfdata_order.specs.ParseInfos.{found_at, KeepsFound}
 
 abbrev pub type_by_format : BodyFormat → ℕ
 type_by_format (Kernel index kind places) = kind.0
-type_by_format (Tool kind order) = user_type_number kind
+type_by_format (User kind order) = user_type_number kind
 
 abbrev pub endian_by_format : BodyFormat → Endianness
 endian_by_format (Kernel index kind places) = places.endian
-endian_by_format (Tool kind order) = order
+endian_by_format (User kind order) = order
 
 abbrev pub event_by_format : BodyFormat → Option EventRef
 event_by_format (Kernel index kind places) = Some (record { index = index; parse_info = places })
-event_by_format (Tool kind order) = None
+event_by_format (User kind order) = None
 
 -- The record with this body.
 abbrev pub view_with : RecordEnvelope → List ℕ → RecordView
@@ -45,7 +45,7 @@ view_with envelope body = record {
 
 abbrev pub format_of : HeldFormat → BodyFormat
 format_of (held_format.Kernel index kind at known) = Kernel index kind known.value
-format_of (held_format.Tool kind order) = Tool kind order
+format_of (held_format.User kind order) = User kind order
 
 -- The held record without its body.
 abbrev pub envelope_of : HeldRecord → RecordEnvelope
@@ -63,12 +63,12 @@ held_size h = length h.body + 192
 -- The parse info of its attribute.
 abbrev pub known_of : HeldFormat → Option RecordParseInfo
 known_of (held_format.Kernel index kind at known) = Some known.value
-known_of (held_format.Tool kind order) = None
+known_of (held_format.User kind order) = None
 
 -- The parse info that was found.
 abbrev pub found_of : ParseInfos → HeldFormat → Option RecordParseInfo
 found_of infos (held_format.Kernel index kind at known) = found_at infos at
-found_of infos (held_format.Tool kind order) = None
+found_of infos (held_format.User kind order) = None
 
 abbrev pub IsKnown : ParseInfos → HeldFormat → Type 0
 IsKnown infos format = found_of infos format ≡ known_of format

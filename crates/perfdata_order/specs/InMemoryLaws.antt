@@ -8,8 +8,8 @@ use Rattle.linux_perf_data.specs.declared.perf_file.PerfFile.{PerfFile}
 use Rattle.linux_perf_data.specs.declared.in_memory.InMemoryRecords.{InMemoryRecords}
 use Rattle.linux_perf_data.specs.RecordViews.{record_view_of}
 use Rattle.linux_perf_data.specs.InMemoryReading.{ReturnsRecordsInMemory}
-use Rattle.perfdata_order.specs.declared.in_memory.Pending.{Pending}
-use Rattle.perfdata_order.specs.declared.in_memory.Pending.TheVariants.{Nothing, Record, End, Failure}
+use Rattle.perfdata_order.specs.declared.in_memory.PendingStep.{PendingStep}
+use Rattle.perfdata_order.specs.declared.in_memory.PendingStep.TheVariants.{Nothing, Record, End, Failure}
 use Rattle.perfdata_order.specs.declared.in_memory.InMemoryOrderedRecords.{InMemoryOrderedRecords}
 use Rattle.perfdata_order.specs.Order.{Ascends}
 use Rattle.perfdata_order.specs.Sorter.{held_of, pending_of}
@@ -37,7 +37,7 @@ calls_in (reads_error e ∷ steps) = calls_in steps
 calls_in (sorts call ∷ steps) = call ∷ calls_in steps
 calls_in (reports e ∷ steps) = calls_in steps
 
-abbrev pub pending_entries : Pending → List Entry
+abbrev pub pending_entries : PendingStep → List Entry
 pending_entries Nothing = []
 pending_entries (Record key place r) = (place, r) ∷ []
 pending_entries End = []

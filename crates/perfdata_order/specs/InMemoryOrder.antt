@@ -9,8 +9,8 @@ use Rattle.linux_perf_data.specs.declared.records.iter.RecordPlace.{RecordPlace}
 use Rattle.linux_perf_data.specs.declared.perf_file.PerfFile.{PerfFile}
 use Rattle.linux_perf_data.specs.declared.in_memory.InMemoryRecords.{InMemoryRecords}
 use Rattle.linux_perf_data.specs.InMemoryReading.{ReturnsRecordInMemory, ReturnsNextInMemory}
-use Rattle.perfdata_order.specs.declared.in_memory.Pending.{Pending}
-use Rattle.perfdata_order.specs.declared.in_memory.Pending.TheVariants.{Nothing, Record, End, Failure}
+use Rattle.perfdata_order.specs.declared.in_memory.PendingStep.{PendingStep}
+use Rattle.perfdata_order.specs.declared.in_memory.PendingStep.TheVariants.{Nothing, Record, End, Failure}
 use Rattle.perfdata_order.specs.declared.in_memory.InMemoryOrderedRecords.{InMemoryOrderedRecords}
 use Rattle.perfdata_order.specs.Sorter.{held_of, available_of, pending_of, IsNew, IsUnchanged, Inserted, RoundEnded, AllRoundsEnded, Returned}
 use Rattle.perfdata_order.specs.Times.{time_key_of}
@@ -83,14 +83,14 @@ pub record InsertsPending (old : InMemoryOrderedRecords) (key : ℕ) (entry : En
   pub round : new.round ≡ old.round
 
 -- The pending record is of the next round.
-abbrev pub IsOneRoundLater : Pending → ℕ → ℕ → Type 0
+abbrev pub IsOneRoundLater : PendingStep → ℕ → ℕ → Type 0
 IsOneRoundLater Nothing old new = ⊥
 IsOneRoundLater (Record key place r) old new = (place.round ≡ old + 1) × (new ≡ place.round)
 IsOneRoundLater End old new = ⊥
 IsOneRoundLater (Failure e) old new = ⊥
 
 -- The pending record is of a round after the next one, or nothing more is read.
-abbrev pub IsLaterOrLast : Pending → ℕ → ℕ → Type 0
+abbrev pub IsLaterOrLast : PendingStep → ℕ → ℕ → Type 0
 IsLaterOrLast Nothing old new = ⊥
 IsLaterOrLast (Record key place r) old new = (old + 2 ≤ place.round) × (new ≡ place.round)
 IsLaterOrLast End old new = new ≡ old
@@ -203,14 +203,14 @@ pub record IsNewOrder (records : InMemoryRecords) (new : InMemoryOrderedRecords)
 
 -- ---- the parts of a call
 
-abbrev pub IsPending : Pending → Type 0
+abbrev pub IsPending : PendingStep → Type 0
 IsPending Nothing = ⊥
 IsPending (Record key place r) = Unit {0}
 IsPending End = Unit {0}
 IsPending (Failure e) = Unit {0}
 
 -- No record without a time is pending.
-abbrev pub HasNoUntimed : Pending → Type 0
+abbrev pub HasNoUntimed : PendingStep → Type 0
 HasNoUntimed Nothing = Unit {0}
 HasNoUntimed (Record None place r) = ⊥
 HasNoUntimed (Record (Some key) place r) = Unit {0}
@@ -250,7 +250,7 @@ pub record Places (old new : InMemoryOrderedRecords) : Type 0 where
 
 -- The timed record that was pending is in the sorter. The rounds before that of a pending record without a time ended. At the end
 -- of the input, all rounds ended.
-abbrev pub AfterPlacing : Pending → InMemoryOrderedRecords → Type 0
+abbrev pub AfterPlacing : PendingStep → InMemoryOrderedRecords → Type 0
 AfterPlacing Nothing new = new.pending ≡ Nothing
 AfterPlacing (Record None place r) new = (new.pending ≡ Record None place r) × (place.round ≤ new.round)
 AfterPlacing (Record (Some key) place r) new = new.pending ≡ Nothing
@@ -273,7 +273,7 @@ TakesEnd old (Some (Ok done)) new = (new ≡ old) × (old.pending ≡ End)
 TakesEnd old (Some (Err e)) new = (old.pending ≡ Failure e) × (new.pending ≡ Nothing) × (new.records ≡ old.records) × SameOrder old new
 
 -- 1 if a record is pending.
-abbrev pub pending_records : Pending → ℕ
+abbrev pub pending_records : PendingStep → ℕ
 pending_records Nothing = 0
 pending_records (Record key place r) = 1
 pending_records End = 0

@@ -16,8 +16,8 @@ abbrev pub order_number : Endianness → ℕ
 order_number LittleEndian = 0
 order_number BigEndian = 1
 
-abbrev pub key_of : RecordParseInfo → Key
-key_of p = (order_number p.endian, p.sample_format.0, p.id_parse_info.sample_id_from_start, p.id_parse_info.other_id_from_end, p.sample_time_from_start, p.other_time_from_end)
+abbrev pub parse_info_key : RecordParseInfo → Key
+parse_info_key p = (order_number p.endian, p.sample_format.0, p.id_parse_info.sample_id_from_start, p.id_parse_info.other_id_from_end, p.sample_time_from_start, p.other_time_from_end)
 
 abbrev pub offset_cmp : Option ℕ → Option ℕ → Ordering
 offset_cmp x y = option_cmp nat_cmp x y
@@ -29,7 +29,7 @@ key_cmp x y = ordering_then (ordering_then (ordering_then (ordering_then (orderi
 -- The map has the index of each parse info, and nothing else.
 abbrev pub AreIndexed : BTreeMap Key ℕ → List RecordParseInfo → Type 0
 AreIndexed indices found = (p : RecordParseInfo) (index : ℕ) →
-    (get key_cmp indices (key_of p) ≡ Some index → slice_get found index ≡ Some p) × (slice_get found index ≡ Some p → get key_cmp indices (key_of p) ≡ Some index)
+    (get key_cmp indices (parse_info_key p) ≡ Some index → slice_get found index ≡ Some p) × (slice_get found index ≡ Some p → get key_cmp indices (parse_info_key p) ≡ Some index)
 
 -- No two parse infos are equal.
 abbrev pub AreDistinct : List RecordParseInfo → Type 0

@@ -14,8 +14,8 @@ use Rattle.linux_perf_data.specs.Layout.{RecordView}
 use Rattle.linux_perf_data.specs.RecordViews.{record_view_of}
 use Rattle.perfdata_order.specs.declared.held_record.RecordEnvelope.{RecordEnvelope}
 use Rattle.perfdata_order.specs.declared.held_record.HeldRecord.{HeldRecord}
-use Rattle.perfdata_order.specs.declared.streaming.Pending.{Pending}
-use Rattle.perfdata_order.specs.declared.streaming.Pending.TheVariants as variant
+use Rattle.perfdata_order.specs.declared.streaming.PendingStep.{PendingStep}
+use Rattle.perfdata_order.specs.declared.streaming.PendingStep.TheVariants as variant
 use Rattle.perfdata_order.specs.declared.streaming.BodyBuffer.{BodyBuffer}
 use Rattle.perfdata_order.specs.declared.streaming.BodyBuffer.TheVariants.{Read, Sorted}
 use Rattle.perfdata_order.specs.declared.streaming.OrderedRecords.{OrderedRecords}
@@ -35,7 +35,7 @@ pub data Unplaced : Type 0 where
   failing : Error → Unplaced
   failed : Unplaced
 
-abbrev pub unplaced_by : Pending → List ℕ → Unplaced
+abbrev pub unplaced_by : PendingStep → List ℕ → Unplaced
 unplaced_by variant.Nothing body = nothing
 unplaced_by (variant.Record key envelope) body = waiting key (view_with envelope body)
 unplaced_by variant.End body = ending

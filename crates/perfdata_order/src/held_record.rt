@@ -17,7 +17,7 @@ use std::snapshot::Snapshot;
 #[derive(Clone, Copy)]
 pub(crate) enum BodyFormat {
     Kernel(usize, RecordType, RecordParseInfo),
-    Tool(UserRecordType, Endianness),
+    User(UserRecordType, Endianness),
 }
 
 // What a record has beside its body.
@@ -31,7 +31,7 @@ pub(crate) struct RecordEnvelope {
 impl RecordEnvelope {
     ghost use Rattle.perfdata_order.specs.HeldRecord.{view_with};
 
-    pub(crate) fn of(place: RecordPlace, record: &PerfFileRecord<'_>) -> RecordEnvelope
+    pub(crate) fn from_record(place: RecordPlace, record: &PerfFileRecord<'_>) -> RecordEnvelope
         ensures { view_with result (bytes_of (file_record_body «record».now))
             ≡ record_view_of place «record».now }
     {
@@ -44,7 +44,7 @@ impl RecordEnvelope {
             PerfFileRecord::UserRecord(user) => RecordEnvelope {
                 place,
                 misc: user.misc,
-                format: BodyFormat::Tool(user.record_type, user.endian),
+                format: BodyFormat::User(user.record_type, user.endian),
             },
         }
     }
@@ -62,7 +62,7 @@ impl RecordEnvelope {
                     parse_info,
                 },
             },
-            BodyFormat::Tool(record_type, endian) => PerfFileRecord::UserRecord(RawUserRecord {
+            BodyFormat::User(record_type, endian) => PerfFileRecord::UserRecord(RawUserRecord {
                 record_type,
                 endian,
                 misc: self.misc,
@@ -77,14 +77,14 @@ impl RecordEnvelope {
 #[derive(Drop)]
 pub(crate) enum HeldFormat {
     Kernel(usize, RecordType, usize, Snapshot<RecordParseInfo>),
-    Tool(UserRecordType, Endianness),
+    User(UserRecordType, Endianness),
 }
 
 impl HeldFormat {
     ghost use Rattle.perfdata_order.specs.HeldRecord.{HoldsFormat};
 
     #[inline(always)]
-    pub(crate) fn of(
+    pub(crate) fn from_body_format(
         format: BodyFormat,
         parse_infos: &mut ParseInfos,
     ) -> Result<HeldFormat, AllocError>
@@ -92,10 +92,10 @@ impl HeldFormat {
     {
         match format {
             BodyFormat::Kernel(attr_index, record_type, parse_info) => {
-                let index = parse_infos.index_of(attr_index, &parse_info)?;
+                let index = parse_infos.find_index(attr_index, &parse_info)?;
                 Ok(HeldFormat::Kernel(attr_index, record_type, index, Snapshot::of(&parse_info)))
             }
-            BodyFormat::Tool(record_type, endian) => Ok(HeldFormat::Tool(record_type, endian)),
+            BodyFormat::User(record_type, endian) => Ok(HeldFormat::User(record_type, endian)),
         }
     }
 }
@@ -122,7 +122,7 @@ impl HeldRecord {
                 Some(parse_info) => BodyFormat::Kernel(attr_index, record_type, parse_info),
                 None => unreachable!(),
             },
-            HeldFormat::Tool(record_type, endian) => BodyFormat::Tool(record_type, endian),
+            HeldFormat::User(record_type, endian) => BodyFormat::User(record_type, endian),
         };
         RecordEnvelope {
             place: self.place,

@@ -80,7 +80,7 @@ impl HeldRecords {
     ) -> Result<(), AllocError>
         ensures { InsertsRecord self.old key envelope (bytes_of body.entry) result self.new }
     {
-        let format = match HeldFormat::of(envelope.format, &mut self.parse_infos) {
+        let format = match HeldFormat::from_body_format(envelope.format, &mut self.parse_infos) {
             Ok(format) => format,
             Err(error) => return Err(error),
         };

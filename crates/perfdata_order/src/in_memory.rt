@@ -11,7 +11,7 @@ use std::mem::replace;
 // What was read from the input, and isn't in the sorter. A record has the time that it is sorted by, if it is
 // timed.
 #[derive(Drop)]
-pub(crate) enum Pending<'a> {
+pub(crate) enum PendingStep<'a> {
     Nothing,
     Record(Option<u64>, RecordPlace, PerfFileRecord<'a>),
     End,
@@ -33,7 +33,7 @@ pub struct InMemoryOrderedRecords<'a> {
     records: InMemoryRecords<'a>,
     sorter: Sorter<u64, (RecordPlace, PerfFileRecord<'a>)>,
     round: u64,
-    pending: Pending<'a>,
+    pending: PendingStep<'a>,
 }
 
 // The time that a record is sorted by. 0 and 2^64 - 1 stand for no time.
@@ -65,7 +65,7 @@ impl<'a> InMemoryOrderedRecords<'a> {
             records,
             sorter: Sorter::new(alloc),
             round: 0,
-            pending: Pending::Nothing,
+            pending: PendingStep::Nothing,
         }
     }
 
@@ -74,18 +74,18 @@ impl<'a> InMemoryOrderedRecords<'a> {
         ensures { ReadsPending self.old perf_file.old self.new perf_file.new }
     {
         match self.pending {
-            Pending::Nothing => {}
+            PendingStep::Nothing => {}
             _ => return,
         }
         match self.records.next_record(perf_file) {
             Ok(Some((place, record))) => {
-                self.pending = Pending::Record(time_key(place), place, record);
+                self.pending = PendingStep::Record(time_key(place), place, record);
             }
             Ok(None) => {
-                self.pending = Pending::End;
+                self.pending = PendingStep::End;
             }
             Err(error) => {
-                self.pending = Pending::Failure(error);
+                self.pending = PendingStep::Failure(error);
             }
         }
     }
@@ -108,13 +108,13 @@ impl<'a> InMemoryOrderedRecords<'a> {
     }
 
     // Inserts the pending timed record into the sorter, after the rounds before its own ended.
-    fn place_record(
+    fn insert_record(
         &mut self,
         key: u64,
         place: RecordPlace,
         record: PerfFileRecord<'a>,
     ) -> Result<(), AllocError>
-        requires { self.old.pending ≡ Pending.Record (Some key) place «record» }
+        requires { self.old.pending ≡ PendingStep.Record (Some key) place «record» }
         ensures { PlacesPending self.old result self.new }
     {
         match self.end_rounds(place.round) {
@@ -123,7 +123,7 @@ impl<'a> InMemoryOrderedRecords<'a> {
         }
         match self.sorter.insert_unordered(key, (place, record)) {
             Ok(()) => {
-                self.pending = Pending::Nothing;
+                self.pending = PendingStep::Nothing;
                 Ok(())
             }
             Err(_) => Err(AllocError),
@@ -132,17 +132,17 @@ impl<'a> InMemoryOrderedRecords<'a> {
 
     // Puts a pending timed record into the sorter. Before one without a time, the rounds before its own end.
     // At the end of the input, all rounds end.
-    fn place_pending(&mut self) -> Result<(), AllocError>
+    fn insert_pending(&mut self) -> Result<(), AllocError>
         ensures { PlacesPending self.old result self.new }
     {
         match self.pending {
-            Pending::Nothing => Ok(()),
-            Pending::Record(key, place, record) => match key {
-                Some(time) => self.place_record(time, place, record),
+            PendingStep::Nothing => Ok(()),
+            PendingStep::Record(key, place, record) => match key {
+                Some(time) => self.insert_record(time, place, record),
                 None => self.end_rounds(place.round),
             },
-            Pending::End => self.sorter.finish(),
-            Pending::Failure(_) => self.sorter.finish(),
+            PendingStep::End => self.sorter.finish(),
+            PendingStep::Failure(_) => self.sorter.finish(),
         }
     }
 
@@ -151,14 +151,14 @@ impl<'a> InMemoryOrderedRecords<'a> {
         ensures { TakesUntimed self.old result self.new }
     {
         match self.pending {
-            Pending::Nothing => None,
-            Pending::Record(Some(_), _, _) => None,
-            Pending::Record(None, place, record) => {
-                self.pending = Pending::Nothing;
+            PendingStep::Nothing => None,
+            PendingStep::Record(Some(_), _, _) => None,
+            PendingStep::Record(None, place, record) => {
+                self.pending = PendingStep::Nothing;
                 Some((place, record))
             }
-            Pending::End => None,
-            Pending::Failure(_) => None,
+            PendingStep::End => None,
+            PendingStep::Failure(_) => None,
         }
     }
 
@@ -167,11 +167,11 @@ impl<'a> InMemoryOrderedRecords<'a> {
         ensures { TakesEnd self.old result self.new }
     {
         match self.pending {
-            Pending::Nothing => None,
-            Pending::Record(_, _, _) => None,
-            Pending::End => Some(Ok(())),
-            Pending::Failure(_) => match replace(&mut self.pending, Pending::Nothing) {
-                Pending::Failure(error) => Some(Err(error)),
+            PendingStep::Nothing => None,
+            PendingStep::Record(_, _, _) => None,
+            PendingStep::End => Some(Ok(())),
+            PendingStep::Failure(_) => match replace(&mut self.pending, PendingStep::Nothing) {
+                PendingStep::Failure(error) => Some(Err(error)),
                 _ => None,
             },
         }
@@ -200,7 +200,7 @@ impl<'a> InMemoryOrderedRecords<'a> {
         }
         'reads: loop {
             self.read(perf_file);
-            match self.place_pending() {
+            match self.insert_pending() {
                 Ok(()) => {}
                 Err(error) => return Err(Error::from(error)),
             }

@@ -1,7 +1,7 @@
 //! The parse infos of held records.
 ghost use Rattle.std.specs.Prelude.{◌≡◌, Some, IsTrue};
 ghost use Rattle.std.proofs.Props.{props};
-ghost use Rattle.perfdata_order.specs.ParseInfoKeys.{key_of, AreIndexed, AreDistinct};
+ghost use Rattle.perfdata_order.specs.ParseInfoKeys.{parse_info_key, AreIndexed, AreDistinct};
 
 use linux_perf_data::Endianness;
 use linux_perf_data::place::RecordParseInfo;
@@ -35,8 +35,8 @@ fn is_same(first: &RecordParseInfo, second: &RecordParseInfo) -> bool
         && first.endian == second.endian
 }
 
-fn key_of(parse_info: &RecordParseInfo) -> ParseInfoKey
-    ensures { result ≡ key_of parse_info.now }
+fn parse_info_key(parse_info: &RecordParseInfo) -> ParseInfoKey
+    ensures { result ≡ parse_info_key parse_info.now }
 {
     let order = match parse_info.endian {
         Endianness::LittleEndian => 0,
@@ -103,7 +103,7 @@ impl ParseInfos {
     fn find_or_add(&mut self, parse_info: &RecordParseInfo) -> Result<usize, AllocError>
         ensures { FindsIndex self.old parse_info.now result self.new }
     {
-        let key = key_of(parse_info);
+        let key = parse_info_key(parse_info);
         match self.indices.get(&key) {
             Some(index) => return Ok(*index),
             None => {}
@@ -134,7 +134,7 @@ impl ParseInfos {
 
     // Returns the index of the parse info of an attribute, which is added if it isn't found.
     #[inline(always)]
-    pub(crate) fn index_of(
+    pub(crate) fn find_index(
         &mut self,
         attr_index: usize,
         parse_info: &RecordParseInfo,

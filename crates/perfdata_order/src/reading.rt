@@ -91,6 +91,6 @@ pub(crate) fn read_record<R: Source>(
     let Some((place, record)) = records.next_record(perf_file)? else {
         return Ok(None);
     };
-    let envelope = RecordEnvelope::of(place, &record);
+    let envelope = RecordEnvelope::from_record(place, &record);
     Ok(Some(hold_or_copy(held, last_round, envelope, record.body(), copy)?))
 }

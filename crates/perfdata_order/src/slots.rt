@@ -27,7 +27,7 @@ impl<V> Slots<V> {
     }
 
     // The first vacant slot from `start` to before `end`.
-    fn search_in(&self, start: usize, end: usize) -> Option<usize>
+    fn find_slot(&self, start: usize, end: usize) -> Option<usize>
         requires { end ≤ length (slots_of self.now) }
         ensures { FindsVacantIn self.now start end result }
     {
@@ -46,9 +46,9 @@ impl<V> Slots<V> {
     {
         let len = self.values.len();
         let next = self.next.min(len);
-        match self.search_in(next, len) {
+        match self.find_slot(next, len) {
             Some(slot) => Some(slot),
-            None => self.search_in(0, next),
+            None => self.find_slot(0, next),
         }
     }
 

@@ -15,7 +15,7 @@ use std::mem::replace;
 // What was read from the source, and isn't in the sorter. A record has the time that it is sorted by, if it
 // is timed. Its body is in `OrderedRecords::body`.
 #[derive(Drop)]
-pub(crate) enum Pending {
+pub(crate) enum PendingStep {
     Nothing,
     Record(Option<u64>, RecordEnvelope),
     End,
@@ -76,7 +76,7 @@ pub struct OrderedRecords<R> {
     records: PerfRecordIter<R>,
     held: HeldRecords,
     round: u64,
-    pending: Pending,
+    pending: PendingStep,
     body: Vec<u8>,
     // The body of the record that was returned last of the held ones.
     returned: BodyRange,
@@ -112,7 +112,7 @@ impl<R> OrderedRecords<R> {
             records,
             held: HeldRecords::new(alloc),
             round: 0,
-            pending: Pending::Nothing,
+            pending: PendingStep::Nothing,
             body: Vec::new(alloc),
             returned: BodyRange::EMPTY,
             budget,
@@ -208,15 +208,15 @@ impl<R> OrderedRecords<R> {
         ensures { TakesUntimed self.old result self.new }
     {
         match self.pending {
-            Pending::Nothing => None,
-            Pending::Record(Some(_), _) => None,
-            Pending::Record(None, envelope) => {
-                self.pending = Pending::Nothing;
+            PendingStep::Nothing => None,
+            PendingStep::Record(Some(_), _) => None,
+            PendingStep::Record(None, envelope) => {
+                self.pending = PendingStep::Nothing;
                 Some(envelope)
             }
-            Pending::End => None,
-            Pending::Failure(_) => None,
-            Pending::Failed => None,
+            PendingStep::End => None,
+            PendingStep::Failure(_) => None,
+            PendingStep::Failed => None,
         }
     }
 
@@ -225,19 +225,19 @@ impl<R> OrderedRecords<R> {
         ensures { TakesEnd self.old result self.new }
     {
         match self.pending {
-            Pending::Nothing => None,
-            Pending::Record(_, _) => None,
-            Pending::End => Some(Ok(())),
-            Pending::Failure(_) => match replace(&mut self.pending, Pending::Failed) {
-                Pending::Failure(error) => Some(Err(error)),
+            PendingStep::Nothing => None,
+            PendingStep::Record(_, _) => None,
+            PendingStep::End => Some(Ok(())),
+            PendingStep::Failure(_) => match replace(&mut self.pending, PendingStep::Failed) {
+                PendingStep::Failure(error) => Some(Err(error)),
                 _ => None,
             },
-            Pending::Failed => Some(Err(Error::Failed)),
+            PendingStep::Failed => Some(Err(Error::Failed)),
         }
     }
 
     // The body of a record to be returned.
-    fn body_of(&self, buffer: BodyBuffer) -> &[u8]
+    fn held_body(&self, buffer: BodyBuffer) -> &[u8]
         ensures { result.now ≡ body_in buffer self.now }
     {
         match buffer {
@@ -251,7 +251,7 @@ impl<R: Source> OrderedRecords<R> {
     ghost use Rattle.std.specs.Io.BufRead.{Rests};
     ghost use Rattle.std.specs.Borrow.{sem};
     ghost use Rattle.perfdata_order.specs.contracts.streaming.OrderedRecords.{the_row};
-    ghost use Rattle.perfdata_order.specs.declared.streaming.Pending.TheVariants.{Record};
+    ghost use Rattle.perfdata_order.specs.declared.streaming.PendingStep.TheVariants.{Record};
     ghost use Rattle.perfdata_order.specs.StreamingOrder.{unplaced_of, AdmitsPending, PlacesPending};
     ghost use Rattle.perfdata_order.specs.StreamingOrder.{ReadsNext, AdvancesInOrder, ReturnsInOrder};
     ghost use Rattle.perfdata_order.specs.StreamingOrder.Unplaced.{waiting};
@@ -264,7 +264,7 @@ impl<R: Source> OrderedRecords<R> {
         ensures { ReadsNext R.state self.old perf_file.old result self.new perf_file.new }
     {
         match self.pending {
-            Pending::Nothing => {}
+            PendingStep::Nothing => {}
             _ => return Ok(()),
         }
         self.body.clear();
@@ -277,21 +277,21 @@ impl<R: Source> OrderedRecords<R> {
             last_round,
             &mut self.body,
         ) {
-            // Most records aren't pending: `Pending` is large, and dear to write.
+            // Most records aren't pending: `PendingStep` is large, and dear to write.
             Ok(Some(NextRecord::Held(size))) => {
                 self.held_bytes = self.held_bytes.saturating_add(size);
                 Ok(())
             }
             Ok(Some(NextRecord::Copied(envelope))) => {
-                self.pending = Pending::Record(time_key(envelope.place), envelope);
+                self.pending = PendingStep::Record(time_key(envelope.place), envelope);
                 Ok(())
             }
             Ok(None) => {
-                self.pending = Pending::End;
+                self.pending = PendingStep::End;
                 Ok(())
             }
             Err(error) => {
-                self.pending = Pending::Failure(error);
+                self.pending = PendingStep::Failure(error);
                 Ok(())
             }
         }
@@ -321,7 +321,7 @@ impl<R: Source> OrderedRecords<R> {
     }
 
     // Inserts the pending timed record into the sorter, if it may be inserted.
-    fn place_record(&mut self, key: u64, envelope: RecordEnvelope) -> Result<(), AllocError>
+    fn insert_record(&mut self, key: u64, envelope: RecordEnvelope) -> Result<(), AllocError>
         requires { self.old.pending ≡ Record (Some key) envelope }
         ensures { PlacesPending R.state self.old result self.new }
     {
@@ -336,7 +336,7 @@ impl<R: Source> OrderedRecords<R> {
             .insert(key, envelope, RawData::Single(self.body.as_slice()))
         {
             Ok(()) => {
-                self.pending = Pending::Nothing;
+                self.pending = PendingStep::Nothing;
                 self.held_bytes = self.held_bytes.saturating_add(size);
                 Ok(())
             }
@@ -346,18 +346,18 @@ impl<R: Source> OrderedRecords<R> {
 
     // Puts a pending timed record into the sorter. Before one without a time, the rounds before its own end.
     // At the end of the source, all rounds end.
-    fn place_pending(&mut self) -> Result<(), AllocError>
+    fn insert_pending(&mut self) -> Result<(), AllocError>
         ensures { PlacesPending R.state self.old result self.new }
     {
         match self.pending {
-            Pending::Nothing => Ok(()),
-            Pending::Record(key, envelope) => match key {
-                Some(time) => self.place_record(time, envelope),
+            PendingStep::Nothing => Ok(()),
+            PendingStep::Record(key, envelope) => match key {
+                Some(time) => self.insert_record(time, envelope),
                 None => self.end_rounds(envelope.place.round),
             },
-            Pending::End => self.held.finish(),
-            Pending::Failure(_) => self.held.finish(),
-            Pending::Failed => self.held.finish(),
+            PendingStep::End => self.held.finish(),
+            PendingStep::Failure(_) => self.held.finish(),
+            PendingStep::Failed => self.held.finish(),
         }
     }
 
@@ -377,7 +377,7 @@ impl<R: Source> OrderedRecords<R> {
                 Ok(()) => {}
                 Err(error) => return Err(Error::from(error)),
             }
-            match self.place_pending() {
+            match self.insert_pending() {
                 Ok(()) => {}
                 Err(error) => return Err(Error::from(error)),
             }
@@ -422,7 +422,7 @@ impl<R: Source> OrderedRecords<R> {
         let Some((envelope, buffer)) = self.advance(perf_file)? else {
             return Ok(None);
         };
-        let body = self.body_of(buffer);
+        let body = self.held_body(buffer);
         Ok(Some((envelope.place, envelope.with_body(body))))
     }
 }

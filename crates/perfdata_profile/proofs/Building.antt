@@ -14,8 +14,8 @@ use Rattle.perfdata_profile.specs.Profiles.{lists_of, valued_entry, valued_sampl
 use Rattle.perfdata_profile.specs.Names.{number_of}
 use Rattle.perfdata_profile.specs.Resolving.{IsIdOf, Meaning}
 use Rattle.perfdata_profile.specs.SampleSums.{TalliesSamples, entries_of, then_counted}
-use Rattle.perfdata_profile.specs.Samples.{AreCounted, AreRelated, IsSample, IsThread, Locates, passed, sample, Given, applied_as, applied_by, applied_in, is_selected, is_selected_as, task_of}
-use Rattle.perfdata_profile.specs.Tables.{stack_number}
+use Rattle.perfdata_profile.specs.Samples.{AreCounted, AreRelated, IsSample, IsThread, Locates, passed, sample, Given, applied_as, applied_by, applied_in, is_selected, is_selected_as, sample_task}
+use Rattle.perfdata_profile.specs.Interned.{stack_number}
 use Rattle.perfdata_profile.specs.Tallies.{Counted, Tallies}
 use Rattle.perfdata_profile.specs.Threads.{pid_of, tid_of}
 use Rattle.perfdata_profile.specs.Values.{AreLocations, AreOnce, AreWithin, IsKey, IsLocation, Lists, ListsGrow, location_at, sample_value, stack_at, thread_key}
@@ -31,7 +31,7 @@ use Rattle.perfdata_profile.specs.declared.sums.SampleKey.{SampleKey}
 use Rattle.perfdata_profile.specs.declared.sums.SampleWeight.{SampleWeight}
 use Rattle.perfdata_profile.specs.declared.sums.Sums.{Sums}
 use Rattle.perfdata_profile.specs.declared.sums.Thread.{Thread}
-use Rattle.perfdata_profile.specs.declared.tables.Tables.{Tables}
+use Rattle.perfdata_profile.specs.declared.interned.Interned.{Interned}
 use Rattle.perfdata_profile.proofs.Counting.{counted_keys, counted_map, counted_number, counted_weaker, related_push}
 use Rattle.perfdata_profile.proofs.Elements.{old_or_last}
 use Rattle.perfdata_profile.proofs.Growing.{key_kept, key_within, lists_trans, locations_kept, locations_within}
@@ -107,7 +107,7 @@ module _ (meaning : Meaning) where
   }
 
   -- The ids of the thread and the stack of a sample.
-  pub has_key : (options : ProfileOptions) (first second : Lists) → ListsGrow first second → AreWithin first → (stacks : List (List LocationId)) (id : StackId) (stack : List LocationId) → slice_get stacks (stack_number id) ≡ Some stack → (before : List Applied) (misc : ℕ) (s : SampleRecord) (column : ℕ) (task : Task) (thread : Thread) (frames : List SampleFrame) → task ≡ task_of s → meaning.has_frames before misc s frames → HasStack meaning first options.detail before task.pid s.timestamp frames stack → HasThread meaning second options.thread_ids before task thread → HasKey meaning (record { names = second.names; ranges = second.ranges; locations = second.locations; stacks = stacks }) options before misc s column (record { thread = thread; stack = id; column = column })
+  pub has_key : (options : ProfileOptions) (first second : Lists) → ListsGrow first second → AreWithin first → (stacks : List (List LocationId)) (id : StackId) (stack : List LocationId) → slice_get stacks (stack_number id) ≡ Some stack → (before : List Applied) (misc : ℕ) (s : SampleRecord) (column : ℕ) (task : Task) (thread : Thread) (frames : List SampleFrame) → task ≡ sample_task s → meaning.has_frames before misc s frames → HasStack meaning first options.detail before task.pid s.timestamp frames stack → HasThread meaning second options.thread_ids before task thread → HasKey meaning (record { names = second.names; ranges = second.ranges; locations = second.locations; stacks = stacks }) options before misc s column (record { thread = thread; stack = id; column = column })
   has_key options first second grows table stacks id stack at before misc s column task thread frames task_is has_frames has_stack has_thread =
       let lists : Lists = record { names = second.names; ranges = second.ranges; locations = second.locations; stacks = stacks } in
       let kept = stack_kept first second grows table options.detail before task.pid s.timestamp frames stack has_stack in
@@ -160,7 +160,7 @@ module _ (meaning : Meaning) where
   pub builds_unselected : {R : Type 0} → (options : ProfileOptions) (given : List Given) (builder : ProfileBuilder R) (misc : ℕ) (s : SampleRecord) → Builds meaning options given builder → Builds meaning options (given ++ record { misc = misc; event = Sample s; weight = None } ∷ []) builder
   builds_unselected options given builder misc s builds = builds_applied options given builder builder builds (record { misc = misc; event = Sample s; weight = None }) refl refl refl refl ([], sym (append-nil (mapping_values builder.spaces))) (subst (λ (r : List Applied). Follows r builder.spaces) (sym (append-nil (applied_in given))) builds.follows)
 
-  once_of : (tables : Tables) → AreOnce (lists_of tables)
+  once_of : (tables : Interned) → AreOnce (lists_of tables)
   once_of tables = record { names = tables.names.once; ranges = tables.mappings.once; locations = tables.locations.once; stacks = tables.stacks.once }
 
   pub profile_of : {R : Type 0} → (options : ProfileOptions) (given : List Given) (builder : ProfileBuilder R) (profile : Profile) → Builds meaning options given builder → profile.tables ≡ builder.locator.tables → profile.sums ≡ builder.sums → IsProfileOf meaning options given profile

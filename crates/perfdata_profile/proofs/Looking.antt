@@ -5,17 +5,17 @@ use Rattle.std.proofs.lemmas.Option.{get_or_from_slice_get, slice_get_within}
 use Rattle.std.specs.Option.{option_map}
 use Rattle.perfdata_profile.specs.Caching.{AddsCached, AllCached}
 use Rattle.perfdata_profile.specs.Interning.{Grows}
-use Rattle.perfdata_profile.specs.Locating.{CacheHolds, HasMapping, IsCached, IsFoundLocation, IsFoundPlace, IsFoundRange, IsNewLocation, LocatorGrows, located_lists}
+use Rattle.perfdata_profile.specs.Locating.{CacheHolds, HasMapping, IsCached, IsFoundLocation, IsFoundKey, IsFoundRange, IsNewLocation, LocatorGrows, located_lists}
 use Rattle.perfdata_profile.specs.Names.{number_of}
 use Rattle.perfdata_profile.specs.Resolving.{AreAtOneAddress, AreFileIds, FrameValue, IsFunctionId, Meaning}
 use Rattle.perfdata_profile.specs.Samples.{IsLocationOf, IsPlace, IsRange, end_of, is_in_range}
-use Rattle.perfdata_profile.specs.Tables.{location_number, mapping_number}
+use Rattle.perfdata_profile.specs.Interned.{location_number, mapping_number}
 use Rattle.perfdata_profile.specs.Values.{AreWithin, Lists, ListsGrow, location_at, location_value, name_at, no_location, no_range, range_at, range_value}
 use Rattle.perfdata_profile.specs.declared.cache.LocationCache.{LocationCache}
 use Rattle.perfdata_profile.specs.declared.cache.MappedAddress.{MappedAddress}
 use Rattle.perfdata_profile.specs.declared.locating.Locator.{Locator}
 use Rattle.perfdata_profile.specs.declared.locating.NewLocation.{NewLocation}
-use Rattle.perfdata_profile.specs.declared.locating.Place.{Place}
+use Rattle.perfdata_profile.specs.declared.locating.LocationKey.{LocationKey}
 use Rattle.perfdata_profile.specs.declared.locations.Location.{Location}
 use Rattle.perfdata_profile.specs.declared.locations.LocationId.{LocationId}
 use Rattle.perfdata_profile.specs.declared.mappings.MappedRange.{MappedRange}
@@ -67,7 +67,7 @@ module _ (meaning : Meaning) where
 
   module _ (detail : Detail) where
     -- A location with a name of a frame, and with its place.
-    module _ (lists : Lists) (frame : FrameValue) (location : Location) (id : LocationId) (at : slice_get lists.locations (location_number id) ≡ Some location) (name : List ℕ) (name_at_id : slice_get lists.names (number_of location.function) ≡ Some name) (place : Place) (mapping_is : location.mapping ≡ place.mapping) (address_is : location.address ≡ place.address) (found : IsFoundPlace meaning detail lists frame place) where
+    module _ (lists : Lists) (frame : FrameValue) (location : Location) (id : LocationId) (at : slice_get lists.locations (location_number id) ≡ Some location) (name : List ℕ) (name_at_id : slice_get lists.names (number_of location.function) ≡ Some name) (place : LocationKey) (mapping_is : location.mapping ≡ place.mapping) (address_is : location.address ≡ place.address) (found : IsFoundKey meaning detail lists frame place) where
       value : location_at lists id ≡ location_value lists location
       value = value_is (location_value lists) lists.locations no_location (location_number id) location at
 

@@ -8,7 +8,7 @@ use Rattle.std.specs.Option.{option_map}
 use Rattle.perfdata_profile.specs.Interning.{IsOnce}
 use Rattle.perfdata_profile.specs.Names.{number_of}
 use Rattle.perfdata_profile.specs.Profiles.{TalliesValues}
-use Rattle.perfdata_profile.specs.Tables.{location_number, mapping_number, stack_number}
+use Rattle.perfdata_profile.specs.Interned.{location_number, mapping_number, stack_number}
 use Rattle.perfdata_profile.specs.Tallies.{Counted, IsSumOf, IsUnder, Tallies, one_sample, weight_of}
 use Rattle.perfdata_profile.specs.Values.{AreLocations, AreOnce, AreWithin, HasFile, HasParts, IsKey, IsLocation, IsMapping, IsName, IsPlaced, IsStack, Lists, LocationValue, RangeValue, SampleValue, location_at, location_value, name_at, no_location, no_range, range_at, range_value, sample_value, stack_at}
 use Rattle.perfdata_profile.specs.declared.locations.Location.{Location}

@@ -9,7 +9,7 @@ pub mod Resolving
 pub mod SampleSums
 pub mod Samples
 pub mod Sums
-pub mod Tables
+pub mod Interned
 pub mod Tallies
 pub mod Threads
 pub mod Values

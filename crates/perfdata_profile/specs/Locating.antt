@@ -9,7 +9,7 @@ use Rattle.perfdata_profile.specs.Values.{IsLocation, IsPlaced, Lists, ListsGrow
 use Rattle.perfdata_profile.specs.declared.cache.MappedAddress.{MappedAddress}
 use Rattle.perfdata_profile.specs.declared.locating.Locator.{Locator}
 use Rattle.perfdata_profile.specs.declared.locating.NewLocation.{NewLocation}
-use Rattle.perfdata_profile.specs.declared.locating.Place.{Place}
+use Rattle.perfdata_profile.specs.declared.locating.LocationKey.{LocationKey}
 use Rattle.perfdata_profile.specs.declared.locations.LocationId.{LocationId}
 use Rattle.perfdata_profile.specs.declared.mappings.MappingId.{MappingId}
 use Rattle.perfdata_profile.specs.declared.options.Detail.{Detail}
@@ -36,7 +36,7 @@ module _ (meaning : Meaning) where
     pub is : IsRangeAt meaning (Some mapping) address (option_map (range_at lists) id)
 
   module _ (detail : Detail) where
-    pub record IsFoundPlace (lists : Lists) (frame : FrameValue) (place : Place) : Type 0 where
+    pub record IsFoundKey (lists : Lists) (frame : FrameValue) (place : LocationKey) : Type 0 where
       pub placed : IsPlaced lists place.mapping place.address
       pub is : IsPlace meaning detail frame.mapping (lookup_address frame.frame) (option_map (range_at lists) place.mapping) place.address
 

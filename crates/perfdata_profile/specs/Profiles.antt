@@ -4,9 +4,9 @@ use Rattle.perfdata_profile.specs.Tallies.{Counted, Tallies}
 use Rattle.perfdata_profile.specs.Values.{AreOnce, AreWithin, IsKey, Lists, SampleValue, lists_in, sample_value}
 use Rattle.perfdata_profile.specs.declared.sums.SampleKey.{SampleKey}
 use Rattle.perfdata_profile.specs.declared.sums.Sums.{Sums}
-use Rattle.perfdata_profile.specs.declared.tables.Tables.{Tables}
+use Rattle.perfdata_profile.specs.declared.interned.Interned.{Interned}
 
-abbrev pub lists_of : Tables → Lists
+abbrev pub lists_of : Interned → Lists
 lists_of tables = lists_in tables.names tables.mappings tables.locations tables.stacks
 
 module _ (lists : Lists) where

@@ -3,8 +3,8 @@ use Rattle.std.specs.Prelude.{◌≡◌, ℕ, ◌≤◌, ◌^◌, ◌⊎◌, Lis
 use Rattle.std.specs.List.{sum_by}
 use Rattle.perfdata_profile.specs.Sums.{sums_after}
 use Rattle.perfdata_profile.specs.Tallies.{Counted, Tallies, weight_of}
-use Rattle.perfdata_profile.specs.declared.error.CountError.{CountError}
-use Rattle.perfdata_profile.specs.declared.error.CountError.TheVariants.{Overflow, Memory}
+use Rattle.perfdata_profile.specs.declared.error.ProfileError.{ProfileError}
+use Rattle.perfdata_profile.specs.declared.error.ProfileError.TheVariants.{Overflow, Memory}
 use Rattle.perfdata_profile.specs.declared.sums.SampleKey.{SampleKey}
 use Rattle.perfdata_profile.specs.declared.sums.SampleSums.{SampleSums}
 use Rattle.perfdata_profile.specs.declared.sums.Sums.{Sums}
@@ -32,7 +32,7 @@ abbrev pub Overflows : Sums → ℕ → Type 0
 Overflows sums weight = (2 ^ 63 ≤ (sums_after sums weight).samples) ⊎ (2 ^ 63 ≤ (sums_after sums weight).weight)
 
 -- Why a sample isn't counted.
-abbrev pub IsCause : Sums → ℕ → CountError → Type 0
+abbrev pub IsCause : Sums → ℕ → ProfileError → Type 0
 IsCause total weight Overflow = Overflows total weight
 IsCause total weight Memory = Unit {0}
 

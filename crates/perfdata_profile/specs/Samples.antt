@@ -51,8 +51,8 @@ abbrev pub is_selected : Given → Bool
 is_selected given = is_selected_as given.event given.weight
 
 -- The process and the thread of a sample. They are -1 for samples without.
-abbrev pub task_of : SampleRecord → Task
-task_of sample = unwrap_or sample.task (record { pid = negsuc 0; tid = negsuc 0 })
+abbrev pub sample_task : SampleRecord → Task
+sample_task sample = unwrap_or sample.task (record { pid = negsuc 0; tid = negsuc 0 })
 
 -- The frames of a sample, the leaf first.
 abbrev pub frames_in : ℕ → SampleRecord → List SampleFrame
@@ -114,10 +114,10 @@ module _ (meaning : Meaning) where
 
   -- The thread, the stack and the column of a sample after records.
   pub record IsSample (options : ProfileOptions) (before : List Applied) (misc : ℕ) (sample : SampleRecord) (column : ℕ) (value : SampleValue) : Type 0 where
-    pub is_thread : IsThread options.thread_ids before (task_of sample) value.thread
+    pub is_thread : IsThread options.thread_ids before (sample_task sample) value.thread
     pub frames : List SampleFrame
     pub has_frames : meaning.has_frames before misc sample frames
-    pub are_located : AreRelated (Locates options.detail before (task_of sample).pid sample.timestamp) frames value.stack
+    pub are_located : AreRelated (Locates options.detail before (sample_task sample).pid sample.timestamp) frames value.stack
     pub is_column : value.column ≡ column
 
 -- What the selected samples of records are counted as, in order. `is_key` says under which keys a sample is counted after records.

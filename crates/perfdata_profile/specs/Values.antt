@@ -3,7 +3,7 @@ use Rattle.std.specs.Prelude.{◌≡◌, ℕ, ℤ, ◌≤◌, ◌<◌, List, [],
 use Rattle.std.specs.Option.{option_map}
 use Rattle.perfdata_profile.specs.Interning.{Grows, IsOnce}
 use Rattle.perfdata_profile.specs.Names.{names_of, number_of}
-use Rattle.perfdata_profile.specs.Tables.{location_number, locations_of, mapping_number, ranges_of, stack_number, stacks_of}
+use Rattle.perfdata_profile.specs.Interned.{location_number, locations_of, mapping_number, ranges_of, stack_number, stacks_of}
 use Rattle.perfdata_profile.specs.declared.locations.Location.{Location}
 use Rattle.perfdata_profile.specs.declared.locations.LocationId.{LocationId}
 use Rattle.perfdata_profile.specs.declared.locations.Locations.{Locations}

@@ -1,7 +1,7 @@
 //! Counts the samples of a recording.
 
 ghost use Rattle.std.specs.Prelude.{◌≡◌, [], ◌∷◌, ◌++◌, ℕ, List, Option, Some, OnErr, OnOk, IfOk};
-ghost use Rattle.perfdata_profile.specs.Samples.{task_of};
+ghost use Rattle.perfdata_profile.specs.Samples.{sample_task};
 ghost use Rattle.perfdata_profile.specs.Values.{AreLocations, IsKey, IsName};
 ghost use Rattle.perfdata_profile.specs.Building.{HasKey, HasStack, HasThread};
 ghost use Rattle.perfdata_profile.specs.Locating.{CacheHolds, LocatorGrows, located_lists};
@@ -9,16 +9,16 @@ ghost use Rattle.perfdata_profile.specs.SampleSums.{KeepsSums};
 ghost use Rattle.perfdata_spaces.specs.AddressSpaces.{Follows, mapping_values};
 ghost use Rattle.perfdata_spaces.specs.Effects.{Applied};
 
-use crate::error::CountError;
-use crate::locating::{Locator, Origin, mapping_at};
+use crate::error::ProfileError;
+use crate::locating::{Locator, Origin, indexed_mapping};
 use crate::locations::LocationId;
 use crate::options::{ProfileOptions, ThreadIds};
 use crate::profile::Profile;
 use crate::resolver::Resolver;
 use crate::sums::{SampleKey, SampleSums, SampleWeight, Thread};
 use perfdata_events::event::EventRecord;
-use perfdata_events::fields::task::Task;
 use perfdata_events::sample::SampleRecord;
+use perfdata_events::sample_id::Task;
 use perfdata_spaces::address_spaces::AddressSpaces;
 use perfdata_stacks::frames::SampleFrame;
 use std::alloc::{AllocError, Global};
@@ -38,8 +38,8 @@ pub struct ProfileBuilder<R> {
 }
 
 // Returns the process and the thread of a sample. They are -1 for samples without.
-fn task_of(sample: &SampleRecord<'_>) -> Task
-    ensures { result ≡ task_of sample.now }
+fn sample_task(sample: &SampleRecord<'_>) -> Task
+    ensures { result ≡ sample_task sample.now }
 {
     sample.task.unwrap_or(Task { pid: -1, tid: -1 })
 }
@@ -71,7 +71,7 @@ fn set_stack<R: Resolver>(
 }
 
 // Returns the thread of a sample.
-fn thread_of<R: Resolver>(
+fn sample_thread<R: Resolver>(
     resolver: &mut R,
     spaces: &AddressSpaces,
     locator: &mut Locator,
@@ -132,7 +132,7 @@ impl<R: Resolver> ProfileBuilder<R> {
             HasKey R.meaning (located_lists self.new.locator) (options_of self.old) before misc sample.now
             column key) }
     {
-        let task = task_of(sample);
+        let task = sample_task(sample);
         let origin = Origin {
             pid: task.pid,
             time: sample.timestamp,
@@ -147,7 +147,7 @@ impl<R: Resolver> ProfileBuilder<R> {
             self.frames.as_slice(),
             &mut self.stack,
         )?;
-        let thread = thread_of(
+        let thread = sample_thread(
             &mut self.resolver,
             &self.spaces,
             &mut self.locator,
@@ -168,7 +168,7 @@ impl<R: Resolver> ProfileBuilder<R> {
         misc: u16,
         sample: &SampleRecord<'_>,
         weight: SampleWeight,
-    ) -> Result<(), CountError>
+    ) -> Result<(), ProfileError>
         ensures ok { OnOk result ((options : ProfileOptions) (given : List Given) →
             Builds R.meaning options given self.old → Builds R.meaning options (given ++ record {
               misc = misc;
@@ -179,7 +179,7 @@ impl<R: Resolver> ProfileBuilder<R> {
     {
         match self.key(misc, sample, weight.column) {
             Ok(key) => self.sums.add(key, weight.weight),
-            Err(AllocError) => Err(CountError::Memory),
+            Err(AllocError) => Err(ProfileError::Memory),
         }
     }
 
@@ -197,20 +197,20 @@ impl<R: Resolver> ProfileBuilder<R> {
     {
         let index = self.spaces.apply(misc, event)?;
         self.resolver
-            .apply(misc, event, mapping_at(&self.spaces, index))
+            .record_applied(misc, event, indexed_mapping(&self.spaces, index))
     }
 
     /// Counts a sample with its weight, if it is selected, or applies another record. `misc` is that of the
     /// record's header. `weight` is `None` for a sample that isn't selected.
     ///
-    /// Fails with [`CountError::Overflow`] if the number of all samples or the sum of all weights exceeds
-    /// 2^63 - 1, and with [`CountError::Memory`] if memory runs out. Then nothing is counted.
+    /// Fails with [`ProfileError::Overflow`] if the number of all samples or the sum of all weights exceeds
+    /// 2^63 - 1, and with [`ProfileError::Memory`] if memory runs out. Then nothing is counted.
     pub fn add_record(
         &mut self,
         misc: u16,
         event: &EventRecord<'_>,
         weight: Option<SampleWeight>,
-    ) -> Result<(), CountError>
+    ) -> Result<(), ProfileError>
         ensures ok { OnOk result ((options : ProfileOptions) (given : List Given) →
             Builds R.meaning options given self.old → Builds R.meaning options (given ++ record {
               misc = misc;
@@ -224,7 +224,7 @@ impl<R: Resolver> ProfileBuilder<R> {
             (EventRecord::Sample(_), None) => Ok(()),
             _ => match self.apply(misc, event) {
                 Ok(()) => Ok(()),
-                Err(AllocError) => Err(CountError::Memory),
+                Err(AllocError) => Err(ProfileError::Memory),
             },
         }
     }

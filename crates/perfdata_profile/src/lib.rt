@@ -2,13 +2,14 @@
 //!
 //! A [`builder::ProfileBuilder`] is given the records of a recording in order of time. A
 //! [`resolver::Resolver`] says which frames a sample has, and names threads, functions and files.
-//! [`tables::Tables`] stores each name, mapping, location and stack once, and [`sums::SampleSums`] adds up
-//! the samples of each thread, stack and event.
+//! [`interned::Interned`] stores each name, mapping, location and stack once, and [`sums::SampleSums`] adds
+//! up the samples of each thread, stack and event.
 #![tactic(auto)]
 
 pub mod builder;
 mod cache;
 pub mod error;
+pub mod interned;
 pub mod laws;
 mod locating;
 pub mod locations;
@@ -19,4 +20,3 @@ pub mod profile;
 pub mod resolver;
 pub mod stacks;
 pub mod sums;
-pub mod tables;

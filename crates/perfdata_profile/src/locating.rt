@@ -12,11 +12,11 @@ ghost use Rattle.perfdata_spaces.specs.Mappings.{MappingValue};
 ghost use Rattle.perfdata_spaces.specs.Mappings.{mapping_value};
 
 use crate::cache::{LocationCache, MappedAddress};
+use crate::interned::Interned;
 use crate::locations::{Location, LocationId};
 use crate::mappings::{MappedRange, MappingId};
 use crate::options::Detail;
 use crate::resolver::{ResolvedFrame, Resolver};
-use crate::tables::Tables;
 use perfdata_spaces::address_spaces::AddressSpaces;
 use perfdata_spaces::mapping::Mapping;
 use perfdata_stacks::frames::SampleFrame;
@@ -31,7 +31,7 @@ pub(crate) struct Origin {
 
 // Where a frame is, without its function.
 #[derive(Clone, Copy)]
-struct Place {
+struct LocationKey {
     mapping: Option<MappingId>,
     address: u64,
 }
@@ -47,14 +47,14 @@ struct NewLocation {
 #[derive(Drop)]
 pub(crate) struct Locator {
     pub(crate) detail: Detail,
-    pub(crate) tables: Tables,
+    pub(crate) tables: Interned,
     pub(crate) cache: LocationCache,
     ghost cached: { AllCached (λ at id.
         IsLocation (lists_in tables.names tables.mappings tables.locations tables.stacks) id) cache },
 }
 
 // Returns the mapping with an index, if there is an index.
-pub(crate) fn mapping_at(spaces: &AddressSpaces, index: Option<usize>) -> Option<&Mapping>
+pub(crate) fn indexed_mapping(spaces: &AddressSpaces, index: Option<usize>) -> Option<&Mapping>
     ensures { option_map (λ m. mapping_value m.now) result ≡ mapping_at spaces.now index }
 {
     match index {
@@ -64,7 +64,7 @@ pub(crate) fn mapping_at(spaces: &AddressSpaces, index: Option<usize>) -> Option
 }
 
 impl Locator {
-    ghost use Rattle.perfdata_profile.specs.Locating.{CacheHolds, HasMapping, IsFoundLocation, IsFoundPlace};
+    ghost use Rattle.perfdata_profile.specs.Locating.{CacheHolds, HasMapping, IsFoundLocation, IsFoundKey};
     ghost use Rattle.perfdata_profile.specs.Locating.{IsFoundRange, IsNewLocation, LocatorGrows, LooksUp};
     ghost use Rattle.perfdata_profile.specs.Locating.{located_lists};
 
@@ -75,13 +75,13 @@ impl Locator {
     {
         Locator {
             detail,
-            tables: Tables::new(alloc),
+            tables: Interned::new(alloc),
             cache: LocationCache::new(alloc),
         }
     }
 
     // Returns the tables.
-    pub(crate) fn into_tables(self) -> Tables
+    pub(crate) fn into_tables(self) -> Interned
         ensures { result ≡ self.tables }
     {
         self.tables
@@ -119,25 +119,25 @@ impl Locator {
         &mut self,
         resolver: &mut R,
         frame: &ResolvedFrame<'_>,
-    ) -> Result<Place, AllocError>
+    ) -> Result<LocationKey, AllocError>
         ensures grows { LocatorGrows self.old self.new }
         ensures cache { self.new.cache ≡ self.old.cache }
-        ensures ok { IfOk result (λ place. IsFoundPlace R.meaning self.old.detail (located_lists self.new)
+        ensures ok { IfOk result (λ place. IsFoundKey R.meaning self.old.detail (located_lists self.new)
             (frame_value frame.now) place) }
     {
         let address = frame.frame.lookup_address();
         match (self.detail, frame.mapping) {
-            (Detail::Functions, _) => Ok(Place {
+            (Detail::Functions, _) => Ok(LocationKey {
                 mapping: None,
                 address: 0,
             }),
-            (Detail::Locations, None) => Ok(Place {
+            (Detail::Locations, None) => Ok(LocationKey {
                 mapping: None,
                 address,
             }),
             (Detail::Locations, Some(mapping)) => {
                 let mapping = self.range(resolver, mapping, address)?;
-                Ok(Place { mapping, address })
+                Ok(LocationKey { mapping, address })
             }
         }
     }
@@ -220,7 +220,7 @@ impl Locator {
             time: origin.time,
             frame,
             index,
-            mapping: mapping_at(spaces, index),
+            mapping: indexed_mapping(spaces, index),
         };
         self.resolved_location(resolver, &resolved)
     }

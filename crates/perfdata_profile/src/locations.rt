@@ -33,7 +33,7 @@ pub struct Locations {
 }
 
 impl LocationId {
-    ghost use Rattle.perfdata_profile.specs.Tables.{location_number};
+    ghost use Rattle.perfdata_profile.specs.Interned.{location_number};
 
     /// Returns the number: how many locations were interned before.
     pub fn number(self) -> usize
@@ -44,7 +44,7 @@ impl LocationId {
 }
 
 impl Locations {
-    ghost use Rattle.perfdata_profile.specs.Tables.{locations_of, location_number};
+    ghost use Rattle.perfdata_profile.specs.Interned.{locations_of, location_number};
 
     /// Creates a table without locations.
     pub fn new(alloc: Global) -> Locations

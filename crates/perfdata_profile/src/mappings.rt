@@ -34,7 +34,7 @@ pub struct Mappings {
 }
 
 impl MappingId {
-    ghost use Rattle.perfdata_profile.specs.Tables.{mapping_number};
+    ghost use Rattle.perfdata_profile.specs.Interned.{mapping_number};
 
     /// Returns the number: how many mappings were interned before.
     pub fn number(self) -> usize
@@ -45,7 +45,7 @@ impl MappingId {
 }
 
 impl Mappings {
-    ghost use Rattle.perfdata_profile.specs.Tables.{ranges_of, mapping_number};
+    ghost use Rattle.perfdata_profile.specs.Interned.{ranges_of, mapping_number};
 
     /// Creates a table without mappings.
     pub fn new(alloc: Global) -> Mappings

@@ -2,7 +2,7 @@
 
 ghost use Rattle.std.specs.Prelude.{◌≡◌};
 
-use perfdata_events::fields::task::Task;
+use perfdata_events::sample_id::Task;
 
 /// What the locations of a profile have.
 #[derive(Clone, Copy, Debug, PartialEq, Eq)]

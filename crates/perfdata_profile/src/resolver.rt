@@ -12,8 +12,8 @@ ghost use Rattle.perfdata_spaces.specs.Mappings.{mapping_value};
 
 use crate::names::{NameId, Names};
 use perfdata_events::event::EventRecord;
-use perfdata_events::fields::task::Task;
 use perfdata_events::sample::SampleRecord;
+use perfdata_events::sample_id::Task;
 use perfdata_spaces::address_spaces::{AddressSpaces, context_of_mode};
 use perfdata_spaces::mapping::Mapping;
 use perfdata_stacks::frames::{SampleFrame, SampleFrames};
@@ -62,7 +62,7 @@ pub trait Resolver {
     /// Is given a record that isn't a sample, and the mapping that it adds, if it adds one.
     ///
     /// Fails if memory runs out.
-    fn apply(
+    fn record_applied(
         &mut self,
         misc: u16,
         record: &EventRecord<'_>,
@@ -70,7 +70,7 @@ pub trait Resolver {
     ) -> Result<(), AllocError>;
 
     /// Sets `frames` to the frames of a sample, the leaf first. `misc` is that of the record's header.
-    /// [`set_frames`] sets those that the sample has without its copy of the stack.
+    /// [`resolve_frames`] sets those that the sample has without its copy of the stack.
     ///
     /// Fails if memory runs out.
     fn frames(
@@ -122,7 +122,7 @@ pub trait Resolver {
 /// instruction. `misc` is that of the record's header.
 ///
 /// Fails if memory runs out.
-pub fn set_frames(
+pub fn resolve_frames(
     misc: u16,
     sample: &SampleRecord<'_>,
     frames: &mut Vec<SampleFrame>,

@@ -22,7 +22,7 @@ pub struct Stacks {
 }
 
 impl StackId {
-    ghost use Rattle.perfdata_profile.specs.Tables.{stack_number};
+    ghost use Rattle.perfdata_profile.specs.Interned.{stack_number};
 
     /// Returns the number: how many stacks were interned before.
     pub fn number(self) -> usize
@@ -33,7 +33,7 @@ impl StackId {
 }
 
 impl Stacks {
-    ghost use Rattle.perfdata_profile.specs.Tables.{stacks_of, stack_number};
+    ghost use Rattle.perfdata_profile.specs.Interned.{stacks_of, stack_number};
 
     /// Creates a table without stacks.
     pub fn new(alloc: Global) -> Stacks

@@ -6,7 +6,7 @@ ghost use Rattle.indexmap.specs.IndexMap.{set_value_at};
 ghost use Rattle.indexmap.specs.IndexMap.{get, index_map_len};
 ghost use Rattle.perfdata_profile.specs.Sums.{sums_after};
 
-use crate::error::CountError;
+use crate::error::ProfileError;
 use crate::names::NameId;
 use crate::stacks::StackId;
 use indexmap::IndexMap;
@@ -131,17 +131,17 @@ impl SampleSums {
 
     /// Counts a sample with a key and a weight.
     ///
-    /// Fails with [`CountError::Overflow`] if the number of all samples or the sum of all weights, whatever
-    /// their columns, exceeds 2^63 - 1, and with [`CountError::Memory`] if memory runs out. Then nothing is
+    /// Fails with [`ProfileError::Overflow`] if the number of all samples or the sum of all weights, whatever
+    /// their columns, exceeds 2^63 - 1, and with [`ProfileError::Memory`] if memory runs out. Then nothing is
     /// counted.
-    pub fn add(&mut self, key: SampleKey, weight: u64) -> Result<(), CountError>
+    pub fn add(&mut self, key: SampleKey, weight: u64) -> Result<(), ProfileError>
         ensures ok { OnOk result ((counted : List (Counted SampleKey)) → TalliesSamples counted self.old →
             TalliesSamples (then_counted counted key weight) self.new) }
         ensures err { OnErr result (KeepsSums self.old self.new) }
         ensures cause { IfErr result (λ error. IsCause (total_of self.old) weight error) }
     {
         let Some(total) = self.total.checked_plus(weight) else {
-            return Err(CountError::Overflow);
+            return Err(ProfileError::Overflow);
         };
         if let Some(index) = self.entries.get_index_of(&key) {
             self.raise(index, weight);
@@ -153,7 +153,7 @@ impl SampleSums {
                 self.total = total;
                 Ok(())
             }
-            Err(_) => Err(CountError::Memory),
+            Err(_) => Err(ProfileError::Memory),
         }
     }
 

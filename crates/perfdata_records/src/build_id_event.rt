@@ -124,7 +124,7 @@ impl BuildIdEvent {
     ///
     /// Fails with an `UnexpectedEof` source error if the entry is truncated. Otherwise fails with
     /// `AppendError::Memory` if memory runs out.
-    pub fn read_from_in(
+    pub fn read_with_endian(
         alloc: Global,
         endian: Endianness,
         bytes: &mut &[u8],

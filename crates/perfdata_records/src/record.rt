@@ -195,7 +195,7 @@ impl From<UserRecordType> for RecordType {
 
 // Returns the name of a type's constant, for the types that perf and simpleperf write.
 #[tactic(auto, unfolding(crate::specs::UserTypeNames::user_type_name))]
-fn type_name_of(number: u32) -> Option<&'static str>
+fn type_name(number: u32) -> Option<&'static str>
     ensures { option_map (λ s. s.now) result ≡ user_type_name number }
 {
     match number {
@@ -238,7 +238,7 @@ impl fmt::Debug for UserRecordType {
 
     fn fmt<W: fmt::Write>(&self, f: &mut fmt::Formatter<W>) -> fmt::Result {
         let number = self.record_type().0;
-        match type_name_of(number) {
+        match type_name(number) {
             Some(name) => write!(f, "\"{name}\""),
             None => write!(f, "Unknown UserRecordType {number}"),
         }

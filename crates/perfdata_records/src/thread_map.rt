@@ -113,7 +113,7 @@ impl<'a> Clone for ThreadMap<'a> {
 }
 
 // Consumes the first eight bytes and returns their number.
-fn read_u64_in(endian: Endianness, bytes: &mut RawData<'_>) -> Result<u64>
+fn take_u64(endian: Endianness, bytes: &mut RawData<'_>) -> Result<u64>
     ensures value { IfOk result (λ number. number ≡ number_in endian 8 (bytes_of bytes.old)) }
     ensures rest { OnOk result (DropsPrefix 8 bytes.old bytes.new) }
     ensures too_short { IfErr result (λ error. EndsBefore 8 (bytes_of bytes.old) error) }
@@ -146,7 +146,7 @@ fn split_first_entry(
     ensures rest { IfSome result (λ parts. bytes_of parts.1 ≡ drop 24 (bytes_of bytes.entry)) }
 {
     let mut rest = bytes;
-    let Ok(tid) = read_u64_in(endian, &mut rest) else {
+    let Ok(tid) = take_u64(endian, &mut rest) else {
         return None;
     };
     match rest.split_off_prefix(NAME_SIZE) {

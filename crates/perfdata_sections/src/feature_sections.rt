@@ -70,7 +70,7 @@ fn read_attr_frame<R: Source, T: FileOrder>(
 }
 
 // Reads the attribute of a frame at the offset `at`.
-fn read_attr_frame_at<C: PlacedSource, T: FileOrder>(
+fn seek_and_read_attr_frame<C: PlacedSource, T: FileOrder>(
     source: &mut C,
     at: u64,
     attr_size: u64,
@@ -163,7 +163,7 @@ impl AttributeDescription {
         let mut all = Vec::new(alloc);
         let mut at = section.offset;
         'frames: while end - at >= attr_size {
-            let attr = read_attr_frame_at::<C, T>(c, at, attr_size)?;
+            let attr = seek_and_read_attr_frame::<C, T>(c, at, attr_size)?;
             let description = AttributeDescription {
                 attr,
                 name: None,

@@ -37,8 +37,8 @@ abbrev pub HasBytes : MappingValue → Type 0
 HasBytes m = (m.build_id ++ m.path) ≢ []
 
 -- The offset of an address in the file of a mapping, modulo 2^64.
-abbrev pub offset_of : MappingValue → ℕ → ℕ
-offset_of m address = (address + (2 ^ 64 - m.start) + m.page_offset) % 2 ^ 64
+abbrev pub file_offset : MappingValue → ℕ → ℕ
+file_offset m address = (address + (2 ^ 64 - m.start) + m.page_offset) % 2 ^ 64
 
 abbrev pub kind_of : Bool → MappingKind
 kind_of is_data = if is_data then Data else Code

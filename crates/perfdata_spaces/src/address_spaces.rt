@@ -35,7 +35,7 @@ use std::alloc::{AllocError, Global};
 ///         spaces.apply(*misc, record)?;
 ///     }
 ///     let mapping = spaces.find(pid, address, CallContext::User);
-///     Ok(mapping.map(|mapping| mapping.offset_of(address)))
+///     Ok(mapping.map(|mapping| mapping.file_offset(address)))
 /// }
 /// ```
 #[derive(Drop)]

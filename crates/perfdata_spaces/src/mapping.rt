@@ -77,7 +77,7 @@ impl MappingKind {
 }
 
 // The inode of a file, if the record has it.
-fn inode_of(file_id: Mmap2FileId<'_>) -> Option<Mmap2InodeAndVersion>
+fn file_inode(file_id: Mmap2FileId<'_>) -> Option<Mmap2InodeAndVersion>
     ensures { result ≡ inode_of file_id.entry }
 {
     match file_id {
@@ -87,7 +87,7 @@ fn inode_of(file_id: Mmap2FileId<'_>) -> Option<Mmap2InodeAndVersion>
 }
 
 // The build id of a file, empty if the record has none.
-fn build_id_of(alloc: Global, file_id: Mmap2FileId<'_>) -> Result<Vec<u8>, AllocError>
+fn file_build_id(alloc: Global, file_id: Mmap2FileId<'_>) -> Result<Vec<u8>, AllocError>
     ensures ok { IfOk result (λ id. id.items ≡ build_id_of file_id.entry) }
     ensures memory { OnErr result (build_id_of file_id.entry ≢ []) }
 {
@@ -99,11 +99,11 @@ fn build_id_of(alloc: Global, file_id: Mmap2FileId<'_>) -> Result<Vec<u8>, Alloc
 
 impl Mapping {
     ghost use Rattle.perfdata_spaces.specs.Mappings.{mapping_value, mapping_of_mmap, mapping_of_mmap2};
-    ghost use Rattle.perfdata_spaces.specs.Mappings.{mapping_of_ksymbol, HasBytes, offset_of};
+    ghost use Rattle.perfdata_spaces.specs.Mappings.{mapping_of_ksymbol, HasBytes, file_offset};
 
     /// Returns the offset of an address in the file, in bytes, modulo 2^64.
-    pub fn offset_of(&self, address: u64) -> u64
-        ensures { result ≡ offset_of (mapping_value self.now) address }
+    pub fn file_offset(&self, address: u64) -> u64
+        ensures { result ≡ file_offset (mapping_value self.now) address }
     {
         address
             .wrapping_sub(self.start)
@@ -142,8 +142,8 @@ impl Mapping {
             kind: MappingKind::new(record.is_data),
             protection: record.protection,
             flags: record.flags,
-            inode: inode_of(record.file_id),
-            build_id: build_id_of(alloc, record.file_id)?,
+            inode: file_inode(record.file_id),
+            build_id: file_build_id(alloc, record.file_id)?,
             path: to_vec(alloc, record.path)?,
         })
     }

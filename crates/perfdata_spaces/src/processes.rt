@@ -49,7 +49,7 @@ impl Processes {
     }
 
     // The values of a process, but those of a range.
-    fn space_with(
+    fn updated_space(
         &self,
         pid: i32,
         range: Option<AddressRange>,
@@ -59,8 +59,8 @@ impl Processes {
             (if covers range address then value else value_in self.now pid address)) }
     {
         match self.space(pid) {
-            Some(space) => space.with(self.alloc, range, value),
-            None => RangeMap::new().with(self.alloc, range, value),
+            Some(space) => space.updated(self.alloc, range, value),
+            None => RangeMap::new().updated(self.alloc, range, value),
         }
     }
 
@@ -76,7 +76,7 @@ impl Processes {
             else value_in self.old other address)) }
         ensures err { OnErr result (KeepsValues self.old self.new) }
     {
-        let space = self.space_with(pid, range, value)?;
+        let space = self.updated_space(pid, range, value)?;
         self.spaces.insert(pid, space)?;
         Ok(())
     }

@@ -282,7 +282,7 @@ impl Tree {
     }
 
     // The same values but in a range.
-    fn with(
+    fn updated(
         &self,
         alloc: Global,
         range: AddressRange,
@@ -330,7 +330,7 @@ impl RangeMap {
     }
 
     // The same values but in a range.
-    pub(crate) fn with(
+    pub(crate) fn updated(
         &self,
         alloc: Global,
         range: Option<AddressRange>,
@@ -341,7 +341,7 @@ impl RangeMap {
     {
         match range {
             Some(range) => {
-                let tree = self.tree.with(alloc, range, value)?;
+                let tree = self.tree.updated(alloc, range, value)?;
                 Ok(RangeMap { tree })
             }
             None => self.share(),

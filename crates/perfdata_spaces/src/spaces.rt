@@ -11,10 +11,10 @@ use crate::processes::Processes;
 use crate::ranges::{AddressRange, RangeMap};
 use bitflags::Flags;
 use perfdata_base::event::CpuMode;
-use perfdata_events::bits::MiscFlags;
 use perfdata_events::call_chain::CallContext;
 use perfdata_events::event::EventRecord;
 use perfdata_events::kernel::KsymbolRecord;
+use perfdata_events::sample_bits::MiscFlags;
 use perfdata_events::task::ForkOrExitRecord;
 use std::alloc::{AllocError, Global};
 
@@ -87,7 +87,7 @@ impl Spaces {
         let index = self.mappings.len();
         let range = AddressRange::new(mapping.start, mapping.length);
         self.mappings.reserve(1)?;
-        let kernel = self.kernel.with(self.alloc, range, Some(index))?;
+        let kernel = self.kernel.updated(self.alloc, range, Some(index))?;
         self.kernel = kernel;
         self.mappings.push_reserved(mapping);
         Ok(Some(index))
@@ -116,7 +116,7 @@ impl Spaces {
         let index = self.mappings.len();
         let range = AddressRange::new(symbol.start, symbol.length);
         self.mappings.reserve(1)?;
-        let symbols = self.symbols.with(self.alloc, range, Some(index))?;
+        let symbols = self.symbols.updated(self.alloc, range, Some(index))?;
         self.symbols = symbols;
         self.mappings.push_reserved(symbol);
         Ok(Some(index))
@@ -127,7 +127,7 @@ impl Spaces {
         ensures { Changes (Removes start length) self.old result self.new }
     {
         let range = AddressRange::new(start, length);
-        let symbols = self.symbols.with(self.alloc, range, None)?;
+        let symbols = self.symbols.updated(self.alloc, range, None)?;
         self.symbols = symbols;
         Ok(None)
     }

@@ -12,18 +12,18 @@ use Rattle.perfdata_arrays.proofs.Arrays.{no_entries}
 use Rattle.perfdata_arrays.specs.Tasks.{one_if_true}
 use Rattle.perfdata_stack_arrays.proofs.ArrayWrites.{count_append, more_at, related_push}
 use Rattle.perfdata_stack_arrays.specs.Arrays.{saturated}
-use Rattle.perfdata_stack_arrays.specs.Frames.{FindsPlace, IsFrameOf, WritesFrames, frame_entry_at, place_at, place_of}
-use Rattle.perfdata_stack_arrays.specs.declared.frame.CodePlace.{CodePlace}
+use Rattle.perfdata_stack_arrays.specs.Frames.{FindsFileOffset, IsFrameOf, WritesFrames, frame_entry_at, mapping_offset, place_of}
+use Rattle.perfdata_stack_arrays.specs.declared.frame.FileOffset.{FileOffset}
 use Rattle.perfdata_stack_arrays.specs.declared.frame.StackFrame.{StackFrame}
 
 -- The place of the mapping with an index.
 pub place_with : (mappings : List MappingValue) (index : Option ℕ) (i address : ℕ) (mapping : Option MappingValue) → index ≡ Some i → mapping ≡ slice_get mappings i
-    → place_of (option_map (λ m. record { index = i; mapping = m }) mapping) address ≡ place_at mappings index address
+    → place_of (option_map (λ m. record { index = i; mapping = m }) mapping) address ≡ mapping_offset mappings index address
 place_with mappings index i address mapping is found =
-    ap (λ o. place_of (option_map (λ m. record { index = i; mapping = m }) o) address) found ∙ ap (λ o. place_at mappings o address) (sym is)
+    ap (λ o. place_of (option_map (λ m. record { index = i; mapping = m }) o) address) found ∙ ap (λ o. mapping_offset mappings o address) (sym is)
 
 -- The entry at the place that was found.
-pub frame_found : (before : List Applied) (pid : ℤ) (frame : SampleFrame) (place : CodePlace) (entry : StackFrame) → FindsPlace before pid (lookup_address frame) frame.frame.context place → entry ≡ frame_entry_at frame place → IsFrameOf before pid frame entry
+pub frame_found : (before : List Applied) (pid : ℤ) (frame : SampleFrame) (place : FileOffset) (entry : StackFrame) → FindsFileOffset before pid (lookup_address frame) frame.frame.context place → entry ≡ frame_entry_at frame place → IsFrameOf before pid frame entry
 frame_found before pid frame place entry (found, is_found, place_is) entry_is = record {
   found = found;
   is_found = is_found;

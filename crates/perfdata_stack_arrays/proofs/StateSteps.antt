@@ -15,9 +15,9 @@ use Rattle.perfdata_stack_arrays.specs.Arrays.{count_of, saturated}
 use Rattle.perfdata_stack_arrays.specs.MappingWrites.{WritesMapping, with_text}
 use Rattle.perfdata_stack_arrays.specs.Mappings.{mapping_entry_of, mappings_from, mappings_in, mappings_of, name_in, path_of, text_in, text_of}
 use Rattle.perfdata_stack_arrays.specs.Names.{FollowsRanges}
-use Rattle.perfdata_stack_arrays.specs.State.{AppliesRecord, FollowsState}
+use Rattle.perfdata_stack_arrays.specs.ProcessState.{AppliesRecord, FollowsState}
 use Rattle.perfdata_stack_arrays.specs.declared.mapping.StackMapping.{StackMapping}
-use Rattle.perfdata_stack_arrays.specs.declared.state.State.{State}
+use Rattle.perfdata_stack_arrays.specs.declared.state.ProcessState.{ProcessState}
 use Rattle.perfdata_stack_arrays.specs.declared.state.TextCounts.{TextCounts}
 
 -- ---- the mapping that a record adds
@@ -87,7 +87,7 @@ writes_mappings (m ∷ []) counts mappings text counts' mappings' text' one few 
 }
 writes_mappings (m ∷ n ∷ more) counts mappings text counts' mappings' text' one few short writes = absurd (omega (arith, one))
 
-pub applies_record : (before : List Applied) (applied : Applied) (old new : State) (name : List ℕ) (middle : TextCounts) (mapping : Option MappingValue) (mappings : List StackMapping) (text text_middle : List ℕ) (mappings' : List StackMapping) (text' : List ℕ)
+pub applies_record : (before : List Applied) (applied : Applied) (old new : ProcessState) (name : List ℕ) (middle : TextCounts) (mapping : Option MappingValue) (mappings : List StackMapping) (text text_middle : List ℕ) (mappings' : List StackMapping) (text' : List ℕ)
     → FollowsState before old → Follows (before ++ applied ∷ []) new.spaces → FollowsRanges (before ++ applied ∷ []) new.names
     → name ≡ name_in (name_effect applied) → middle ≡ with_text old.counts name → text_middle ≡ with_entries_at old.counts.text name text → length text < 2 ^ 63
     → mapping ≡ only_of (added (space_effect applied)) → WritesMapping middle mapping mappings text_middle new.counts mappings' text'

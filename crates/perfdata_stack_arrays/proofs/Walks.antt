@@ -24,14 +24,14 @@ use Rattle.perfdata_stack_arrays.specs.Mappings.{mappings_in, mappings_of, text_
 use Rattle.perfdata_stack_arrays.specs.Reading.{EndsWalk, ReadsEvents, RunsOut, WalksStacks, event_returned, no_calls, other_returned}
 use Rattle.perfdata_stack_arrays.specs.Records.{ReturnsNext}
 use Rattle.perfdata_stack_arrays.specs.Stacks.{AreStacksOf, IsStackOf, applied_as, applied_by, applied_in, none, passed, sampled}
-use Rattle.perfdata_stack_arrays.specs.State.{FollowsState}
+use Rattle.perfdata_stack_arrays.specs.ProcessState.{FollowsState}
 use Rattle.perfdata_stack_arrays.specs.Written.{WritesAll, Written}
 use Rattle.perfdata_stack_arrays.specs.Event.{Event}
 use Rattle.perfdata_stack_arrays.specs.declared.frame.StackFrame.{StackFrame}
 use Rattle.perfdata_stack_arrays.specs.declared.records.Records.{Records}
 use Rattle.perfdata_stack_arrays.specs.declared.stack.Stack.{Stack}
-use Rattle.perfdata_stack_arrays.specs.declared.stacks.StackCounts.{StackCounts}
-use Rattle.perfdata_stack_arrays.specs.declared.state.State.{State}
+use Rattle.perfdata_stack_arrays.specs.declared.stacks.StackArraySizes.{StackArraySizes}
+use Rattle.perfdata_stack_arrays.specs.declared.state.ProcessState.{ProcessState}
 use Rattle.perfdata_stack_arrays.specs.declared.state.TextCounts.{TextCounts}
 use Rattle.perfdata_stack_arrays.specs.declared.totals.StackTotals.{StackTotals}
 
@@ -50,7 +50,7 @@ applied_sample events event s is = applied_push events event ∙ ap (λ r. appli
 abbrev pub written_for : List Event → List Stack → List StackFrame → Written
 written_for events stacks frames = record { stacks = stacks; frames = frames; mappings = mappings_in (applied_in events); text = text_in (applied_in events) }
 
-pub record SoFar (start : Records) (file : PerfFile) (before : Written) (returned : ℕ) (counts : StackCounts) (state : State) (now : Records) (now_file : PerfFile) (arrays : Written) : Type 0 where
+pub record SoFar (start : Records) (file : PerfFile) (before : Written) (returned : ℕ) (counts : StackArraySizes) (state : ProcessState) (now : Records) (now_file : PerfFile) (arrays : Written) : Type 0 where
   pub entries : List Entry
   pub events : List Event
   pub read : ReadsEvents start file entries events now now_file
@@ -63,7 +63,7 @@ pub record SoFar (start : Records) (file : PerfFile) (before : Written) (returne
   pub frames_is : counts.frames ≡ count_of frames
   pub writes : WritesAll (written_for events stacks frames) before arrays
 
-pub nothing_so_far : (start : Records) (file : PerfFile) (before : Written) (state : State) → FollowsState [] state → SoFar start file before 0 (record { stacks = 0; frames = 0 }) state start file before
+pub nothing_so_far : (start : Records) (file : PerfFile) (before : Written) (state : ProcessState) → FollowsState [] state → SoFar start file before 0 (record { stacks = 0; frames = 0 }) state start file before
 nothing_so_far start file before state follows = record {
   entries = [];
   events = [];
@@ -85,12 +85,12 @@ pub record AreShort (arrays : Written) : Type 0 where
   pub mappings : length arrays.mappings < 2 ^ 63
   pub text : length arrays.text < 2 ^ 63
 
-module _ (start : Records) (file : PerfFile) (before : Written) (returned : ℕ) (counts : StackCounts) (state : State) (now : Records) (now_file : PerfFile) (arrays : Written) (so_far : SoFar start file before returned counts state now now_file arrays)
+module _ (start : Records) (file : PerfFile) (before : Written) (returned : ℕ) (counts : StackArraySizes) (state : ProcessState) (now : Records) (now_file : PerfFile) (arrays : Written) (so_far : SoFar start file before returned counts state now now_file arrays)
     (entry : Entry) (new : Records) (new_file : PerfFile) (step : ReturnsNext now now_file (Ok (Some entry)) new new_file) (short : AreShort before) where
   more_returned : returned + 1 ≡ length (so_far.entries ++ entry ∷ [])
   more_returned = (let is = so_far.returned_is in omega (arith, is, length-append so_far.entries (entry ∷ [])))
 
-  passed_one : (more : StackCounts) (state' : State) (arrays' : Written) → PassesRecord (endian_of_file new_file) (attributes_of_file new_file) (record_view_of entry.0 entry.1) state counts arrays more state' arrays'
+  passed_one : (more : StackArraySizes) (state' : ProcessState) (arrays' : Written) → PassesRecord (endian_of_file new_file) (attributes_of_file new_file) (record_view_of entry.0 entry.1) state counts arrays more state' arrays'
       → SoFar start file before (returned + 1) more state' new new_file arrays'
   passed_one more state' arrays' passes = record {
     entries = so_far.entries ++ entry ∷ [];
@@ -101,12 +101,12 @@ module _ (start : Records) (file : PerfFile) (before : Written) (returned : ℕ)
     frames = so_far.frames;
     are = so_far.are;
     follows = subst (FollowsState (applied_in so_far.events)) (sym passes.same_state) so_far.follows;
-    stacks_is = ap (λ (c : StackCounts). c.stacks) passes.same_counts ∙ so_far.stacks_is;
-    frames_is = ap (λ (c : StackCounts). c.frames) passes.same_counts ∙ so_far.frames_is;
+    stacks_is = ap (λ (c : StackArraySizes). c.stacks) passes.same_counts ∙ so_far.stacks_is;
+    frames_is = ap (λ (c : StackArraySizes). c.frames) passes.same_counts ∙ so_far.frames_is;
     writes = subst (WritesAll (written_for so_far.events so_far.stacks so_far.frames) before) (sym passes.same_arrays) so_far.writes;
   }
 
-  sampled_one : (event : Event) (more : StackCounts) (state' : State) (arrays' : Written) → ReadsEvents start file (so_far.entries ++ entry ∷ []) (so_far.events ++ event ∷ []) new new_file → AddsSample event state counts arrays more state' arrays'
+  sampled_one : (event : Event) (more : StackArraySizes) (state' : ProcessState) (arrays' : Written) → ReadsEvents start file (so_far.entries ++ entry ∷ []) (so_far.events ++ event ∷ []) new new_file → AddsSample event state counts arrays more state' arrays'
       → SoFar start file before (returned + 1) more state' new new_file arrays'
   sampled_one event more state' arrays' read adds =
       let earlier = applied_in so_far.events in
@@ -132,7 +132,7 @@ module _ (start : Records) (file : PerfFile) (before : Written) (returned : ℕ)
         };
       }
 
-  applied_one : (event : Event) (more : StackCounts) (state' : State) (arrays' : Written) → ReadsEvents start file (so_far.entries ++ entry ∷ []) (so_far.events ++ event ∷ []) new new_file → AddsApplied event state counts arrays more state' arrays'
+  applied_one : (event : Event) (more : StackArraySizes) (state' : ProcessState) (arrays' : Written) → ReadsEvents start file (so_far.entries ++ entry ∷ []) (so_far.events ++ event ∷ []) new new_file → AddsApplied event state counts arrays more state' arrays'
       → SoFar start file before (returned + 1) more state' new new_file arrays'
   applied_one event more state' arrays' read adds =
       let earlier = applied_in so_far.events in
@@ -148,8 +148,8 @@ module _ (start : Records) (file : PerfFile) (before : Written) (returned : ℕ)
         frames = so_far.frames;
         are = passed so_far.events so_far.stacks so_far.frames event adds.applied so_far.are adds.applied_is;
         follows = subst (λ (b : List Applied). FollowsState b state') (sym next) w.follows;
-        stacks_is = ap (λ (c : StackCounts). c.stacks) adds.same_counts ∙ so_far.stacks_is;
-        frames_is = ap (λ (c : StackCounts). c.frames) adds.same_counts ∙ so_far.frames_is;
+        stacks_is = ap (λ (c : StackArraySizes). c.stacks) adds.same_counts ∙ so_far.stacks_is;
+        frames_is = ap (λ (c : StackArraySizes). c.frames) adds.same_counts ∙ so_far.frames_is;
         writes = record {
           stacks = adds.same_stacks ∙ was.stacks;
           frames = adds.same_frames ∙ was.frames;
@@ -160,7 +160,7 @@ module _ (start : Records) (file : PerfFile) (before : Written) (returned : ℕ)
         };
       }
 
-  event_one : (more : StackCounts) (state' : State) (arrays' : Written) → AddsEvent (endian_of_file new_file) (attributes_of_file new_file) (record_view_of entry.0 entry.1) state counts arrays more state' arrays'
+  event_one : (more : StackArraySizes) (state' : ProcessState) (arrays' : Written) → AddsEvent (endian_of_file new_file) (attributes_of_file new_file) (record_view_of entry.0 entry.1) state counts arrays more state' arrays'
       → SoFar start file before (returned + 1) more state' new new_file arrays'
   event_one more state' arrays' adds = by_kind adds.adds
     where
@@ -171,13 +171,13 @@ module _ (start : Records) (file : PerfFile) (before : Written) (returned : ℕ)
       by_kind (inl sample) = sampled_one adds.event more state' arrays' read sample
       by_kind (inr applied) = applied_one adds.event more state' arrays' read applied
 
-  pub one_more : (more : StackCounts) (state' : State) (arrays' : Written) → AddsRecord (endian_of_file new_file) (attributes_of_file new_file) (record_view_of entry.0 entry.1) state counts arrays (Ok more) state' arrays'
+  pub one_more : (more : StackArraySizes) (state' : ProcessState) (arrays' : Written) → AddsRecord (endian_of_file new_file) (attributes_of_file new_file) (record_view_of entry.0 entry.1) state counts arrays (Ok more) state' arrays'
       → SoFar start file before (returned + 1) more state' new new_file arrays'
   one_more more state' arrays' (inl passes) = passed_one more state' arrays' passes
   one_more more state' arrays' (inr adds) = event_one more state' arrays' adds
 
   -- Memory ran out for the record.
-  pub runs_out : (e : Error) (state' : State) (arrays' : Written) → e ≡ Memory → FailsToAdd (endian_of_file new_file) (attributes_of_file new_file) (record_view_of entry.0 entry.1) state counts arrays state' arrays' → RunsOut now now_file e new new_file
+  pub runs_out : (e : Error) (state' : ProcessState) (arrays' : Written) → e ≡ Memory → FailsToAdd (endian_of_file new_file) (attributes_of_file new_file) (record_view_of entry.0 entry.1) state counts arrays state' arrays' → RunsOut now now_file e new new_file
   runs_out e state' arrays' memory fails = record {
     memory = memory;
     entry = entry;
@@ -190,7 +190,7 @@ module _ (start : Records) (file : PerfFile) (before : Written) (returned : ℕ)
 
 -- ---- the end of a walk
 
-pub walk_ends : (start : Records) (file : PerfFile) (before : Written) (returned : ℕ) (counts : StackCounts) (state : State) (texts : TextCounts) (now : Records) (now_file : PerfFile) (arrays arrays' : Written) (totals : StackTotals) (end : Result (Unit {0}) Error) (new : Records) (file' : PerfFile)
+pub walk_ends : (start : Records) (file : PerfFile) (before : Written) (returned : ℕ) (counts : StackArraySizes) (state : ProcessState) (texts : TextCounts) (now : Records) (now_file : PerfFile) (arrays arrays' : Written) (totals : StackTotals) (end : Result (Unit {0}) Error) (new : Records) (file' : PerfFile)
     → totals ≡ totals_so_far texts counts → SoFar start file before returned counts state now now_file arrays → texts ≡ state.counts → arrays' ≡ arrays → EndsWalk now now_file end new file'
     → WalksStacks start file before (record { totals = totals; end = end }) new file' arrays'
 walk_ends start file before returned counts state texts now now_file arrays arrays' totals end new file' is so_far same_counts same ends = record {

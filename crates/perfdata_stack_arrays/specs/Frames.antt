@@ -9,12 +9,12 @@ use Rattle.perfdata_arrays.specs.Samples.{context_code}
 use Rattle.perfdata_spaces.specs.AddressSpaces.{space_effects}
 use Rattle.perfdata_spaces.specs.Effects.{Applied}
 use Rattle.perfdata_spaces.specs.Histories.{IndexedMapping, IsFound, context_in}
-use Rattle.perfdata_spaces.specs.Mappings.{MappingValue, offset_of}
+use Rattle.perfdata_spaces.specs.Mappings.{MappingValue, file_offset}
 use Rattle.perfdata_spaces.specs.Spaces.{indexed_at}
 use Rattle.perfdata_stacks.specs.Frames.{lookup_address, sample_frames}
 use Rattle.perfdata_stacks.specs.declared.frames.SampleFrame.{SampleFrame}
 use Rattle.perfdata_stack_arrays.specs.Arrays.{AreRelated, count_of}
-use Rattle.perfdata_stack_arrays.specs.declared.frame.CodePlace.{CodePlace}
+use Rattle.perfdata_stack_arrays.specs.declared.frame.FileOffset.{FileOffset}
 use Rattle.perfdata_stack_arrays.specs.declared.frame.StackFrame.{StackFrame}
 
 -- The index of the mapping of a frame that has none: 2^64 - 1.
@@ -22,21 +22,21 @@ abbrev pub no_mapping : ℕ
 no_mapping = 18446744073709551615
 
 -- Where an address is: in the file of what was found there, or nowhere.
-abbrev pub place_of : Option IndexedMapping → ℕ → CodePlace
+abbrev pub place_of : Option IndexedMapping → ℕ → FileOffset
 place_of None address = record { mapping = no_mapping; file_offset = 0 }
-place_of (Some found) address = record { mapping = found.index; file_offset = offset_of found.mapping address }
+place_of (Some found) address = record { mapping = found.index; file_offset = file_offset found.mapping address }
 
--- The place at an address of the mapping with an index, if there is an index.
-abbrev pub place_at : List MappingValue → Option ℕ → ℕ → CodePlace
-place_at mappings index address = place_of (indexed_at mappings index) address
+-- The file offset of an address in the mapping with an index, if there is an index.
+abbrev pub mapping_offset : List MappingValue → Option ℕ → ℕ → FileOffset
+mapping_offset mappings index address = place_of (indexed_at mappings index) address
 
--- The place at an address of a process or of the kernel after records.
-abbrev pub FindsPlace : List Applied → ℤ → ℕ → CallContext → CodePlace → Type 0
-FindsPlace before pid address context place =
+-- The file offset of an address of a process or of the kernel after records.
+abbrev pub FindsFileOffset : List Applied → ℤ → ℕ → CallContext → FileOffset → Type 0
+FindsFileOffset before pid address context place =
     ((found : Option IndexedMapping) × IsFound (space_effects before) pid address context found × (place ≡ place_of found address))
 
 -- The entry of a frame that is looked up at a place.
-abbrev pub frame_entry_at : SampleFrame → CodePlace → StackFrame
+abbrev pub frame_entry_at : SampleFrame → FileOffset → StackFrame
 frame_entry_at frame place = record {
   address = frame.frame.address;
   file_offset = place.file_offset;

@@ -12,5 +12,5 @@ pub mod Names
 pub mod Reading
 pub mod Records
 pub mod Stacks
-pub mod State
+pub mod ProcessState
 pub mod Written

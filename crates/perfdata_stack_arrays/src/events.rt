@@ -6,9 +6,9 @@ use linux_perf_data::PerfFile;
 use perfdata_events::format::EventFormat;
 
 // The format of the records of the attribute with an index; `None` if there is no such attribute.
-pub(crate) fn format_at(perf_file: &PerfFile, attr_index: usize) -> Option<EventFormat>
+pub(crate) fn event_format(perf_file: &PerfFile, attr_index: usize) -> Option<EventFormat>
     ensures { IsFormatAt (endian_of_file perf_file.now) (attributes_of_file perf_file.now) attr_index result }
 {
     let description = perf_file.event_attributes().get(attr_index)?;
-    Some(EventFormat::with_native_flags(description.attributes(), perf_file.endian()))
+    Some(EventFormat::new(description.attributes(), perf_file.endian()))
 }

@@ -2,8 +2,8 @@
 ghost use Rattle.std.specs.Prelude.{◌≡◌, List};
 ghost use Rattle.perfdata_spaces.specs.AddressSpaces.{Follows, mapping_values};
 ghost use Rattle.perfdata_spaces.specs.Effects.{Applied};
-ghost use Rattle.perfdata_stack_arrays.specs.Frames.{FindsPlace, IsFrameOf, WritesFrames, frames_in};
-ghost use Rattle.perfdata_stack_arrays.specs.Frames.{place_at};
+ghost use Rattle.perfdata_stack_arrays.specs.Frames.{FindsFileOffset, IsFrameOf, WritesFrames, frames_in};
+ghost use Rattle.perfdata_stack_arrays.specs.Frames.{mapping_offset};
 
 use crate::array::add_counts;
 use perfdata_arrays::array::write_entry;
@@ -41,51 +41,56 @@ const _: () = prove!(size_of::<StackFrame>() == 32);
 
 // Where the code of a frame is: the index of a mapping and the offset in its file.
 #[derive(Clone, Copy)]
-struct CodePlace {
+struct FileOffset {
     mapping: u64,
     file_offset: u64,
 }
 
 // Nowhere.
-const NO_PLACE: CodePlace = CodePlace {
+const NO_PLACE: FileOffset = FileOffset {
     mapping: NO_MAPPING,
     file_offset: 0,
 };
 
-// The place at an address of the mapping with an index, if there is an index.
-fn place_at(spaces: &AddressSpaces, index: Option<usize>, address: u64) -> CodePlace
-    ensures { result ≡ place_at (mapping_values spaces.now) index address }
+// The file offset of an address in the mapping with an index, if there is an index.
+fn mapping_offset(spaces: &AddressSpaces, index: Option<usize>, address: u64) -> FileOffset
+    ensures { result ≡ mapping_offset (mapping_values spaces.now) index address }
 {
     let Some(index) = index else {
         return NO_PLACE;
     };
     match spaces.mapping(index) {
-        Some(mapping) => CodePlace {
+        Some(mapping) => FileOffset {
             mapping: index as u64,
-            file_offset: mapping.offset_of(address),
+            file_offset: mapping.file_offset(address),
         },
         None => NO_PLACE,
     }
 }
 
-// The place at an address of a process or of the kernel.
-fn find_place(spaces: &AddressSpaces, pid: i32, address: u64, context: CallContext) -> CodePlace
+// The file offset of an address of a process or of the kernel.
+fn find_file_offset(
+    spaces: &AddressSpaces,
+    pid: i32,
+    address: u64,
+    context: CallContext,
+) -> FileOffset
     ensures { (before : List Applied) → Follows before spaces.now →
-        FindsPlace before pid address context result }
+        FindsFileOffset before pid address context result }
 {
     let index = spaces.find_index(pid, address, context);
-    place_at(spaces, index, address)
+    mapping_offset(spaces, index, address)
 }
 
 // The entry of a frame of a process.
 fn frame_entry(spaces: &AddressSpaces, pid: i32, frame: SampleFrame) -> StackFrame
     ensures { (before : List Applied) → Follows before spaces.now → IsFrameOf before pid frame result }
 {
-    let place = find_place(spaces, pid, frame.lookup_address(), frame.frame.context);
+    let offset = find_file_offset(spaces, pid, frame.lookup_address(), frame.frame.context);
     StackFrame {
         address: frame.frame.address,
-        file_offset: place.file_offset,
-        mapping: place.mapping,
+        file_offset: offset.file_offset,
+        mapping: offset.mapping,
         context: FrameEntry::new(frame.frame).context,
         is_caller: frame.is_caller as u32,
     }

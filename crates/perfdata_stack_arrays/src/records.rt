@@ -7,7 +7,7 @@ use bitflags::Flags;
 use linux_perf_data::in_memory::InMemoryRecords;
 use linux_perf_data::raw::Endianness;
 use linux_perf_data::{Error, PerfFile, PerfFileRecord, RecordPlace};
-use perfdata_events::bits::EventFlags;
+use perfdata_events::sample_bits::EventFlags;
 use perfdata_order::in_memory::InMemoryOrderedRecords;
 use perfdata_sections::feature_sections::AttributeDescription;
 use std::alloc::Global;

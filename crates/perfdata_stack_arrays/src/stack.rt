@@ -9,8 +9,8 @@ ghost use Rattle.perfdata_stack_arrays.specs.Stacks.{WritesStack, stack_entry_of
 use crate::frame::{StackFrame, write_frames};
 use crate::names::{NameRanges, TextRange};
 use perfdata_arrays::array::write_entry;
-use perfdata_events::fields::task::Task;
 use perfdata_events::sample::SampleRecord;
+use perfdata_events::sample_id::Task;
 use perfdata_spaces::address_spaces::AddressSpaces;
 
 /// A sample as a stack, as plain numbers. What it doesn't have is 0.
@@ -66,7 +66,7 @@ struct FrameRange {
 }
 
 // The process and the thread of a sample. They are -1 for samples without.
-fn task_of(sample: &SampleRecord<'_>) -> Task
+fn sample_task(sample: &SampleRecord<'_>) -> Task
     ensures { result ≡ task_of sample.now }
 {
     sample.task.unwrap_or(Task { pid: -1, tid: -1 })
@@ -91,7 +91,7 @@ fn stack_entry(
 ) -> Stack
     ensures { result ≡ stack_entry_of envelope sample.now frames name }
 {
-    let task = task_of(sample);
+    let task = sample_task(sample);
     let range = name.unwrap_or(TextRange { offset: 0, size: 0 });
     Stack {
         offset: envelope.offset,
@@ -125,7 +125,7 @@ pub(crate) fn write_stack(
     ensures { (before : List Applied) → Follows before spaces.now → FollowsRanges before names.now →
         WritesStack before envelope sample.now count used stacks.old frames.old result stacks.new frames.new }
 {
-    let task = task_of(sample);
+    let task = sample_task(sample);
     let frames_count = write_frames(spaces, task.pid, envelope.misc, sample, frames, used);
     let range = FrameRange {
         start: used,

@@ -8,12 +8,12 @@ ghost use Rattle.perfdata_stack_arrays.specs.Reading.{WalksStacks};
 ghost use Rattle.perfdata_stack_arrays.specs.Records.{IsStart};
 
 use crate::array::add_counts;
-use crate::events::format_at;
+use crate::events::event_format;
 use crate::frame::StackFrame;
 use crate::mapping::StackMapping;
 use crate::records::Records;
 use crate::stack::{Stack, StackEnvelope, write_stack};
-use crate::state::State;
+use crate::state::ProcessState;
 use crate::totals::StackTotals;
 use linux_perf_data::in_memory::{InMemoryReader, InMemoryRecords};
 use linux_perf_data::{Error, PerfFile, PerfFileRecord, RecordPlace};
@@ -32,7 +32,7 @@ pub struct StacksResult {
 
 // The numbers of samples and frames so far.
 #[derive(Clone, Copy)]
-struct StackCounts {
+struct StackArraySizes {
     stacks: usize,
     frames: usize,
 }
@@ -40,15 +40,15 @@ struct StackCounts {
 // Adds a parsed record: a sample to the samples and frames, another one to what is mapped and to names.
 // Returns the numbers of samples and frames with those that it adds.
 fn add_parsed(
-    state: &mut State,
+    state: &mut ProcessState,
     envelope: StackEnvelope,
     parsed: &EventRecord<'_>,
-    counts: StackCounts,
+    counts: StackArraySizes,
     stacks: &mut [Stack],
     frames: &mut [StackFrame],
     mappings: &mut [StackMapping],
     text: &mut [u8],
-) -> Result<StackCounts, AllocError>
+) -> Result<StackArraySizes, AllocError>
     ensures { AddsParsed (record { envelope = envelope; parsed = parsed.now }) state.old counts
         (record { stacks = stacks.old; frames = frames.old; mappings = mappings.old; text = text.old }) result
         state.new
@@ -65,7 +65,7 @@ fn add_parsed(
             frames,
             counts.frames,
         );
-        return Ok(StackCounts {
+        return Ok(StackArraySizes {
             stacks: add_counts(counts.stacks, 1),
             frames: add_counts(counts.frames, added),
         });
@@ -77,16 +77,16 @@ fn add_parsed(
 // Adds a record, unless it belongs to no attribute or can't be parsed. Returns the numbers of samples and
 // frames with those that it adds.
 fn add_record(
-    state: &mut State,
+    state: &mut ProcessState,
     perf_file: &PerfFile,
     place: RecordPlace,
     returned: &PerfFileRecord<'_>,
-    counts: StackCounts,
+    counts: StackArraySizes,
     stacks: &mut [Stack],
     frames: &mut [StackFrame],
     mappings: &mut [StackMapping],
     text: &mut [u8],
-) -> Result<StackCounts, AllocError>
+) -> Result<StackArraySizes, AllocError>
     ensures { AddsRecord (endian_of_file perf_file.now) (attributes_of_file perf_file.now)
         (record_view_of place returned.now) state.old counts
         (record { stacks = stacks.old; frames = frames.old; mappings = mappings.old; text = text.old }) result
@@ -96,7 +96,7 @@ fn add_record(
     let PerfFileRecord::EventRecord { attr_index, event } = returned else {
         return Ok(counts);
     };
-    let Some(format) = format_at(perf_file, *attr_index) else {
+    let Some(format) = event_format(perf_file, *attr_index) else {
         return Ok(counts);
     };
     // A parsed sample is large, so it is not moved.
@@ -122,7 +122,7 @@ struct StacksWalk {
 }
 
 // The numbers so far.
-fn totals_of(state: &State, counts: StackCounts) -> StackTotals
+fn stack_totals(state: &ProcessState, counts: StackArraySizes) -> StackTotals
     ensures { result ≡ totals_so_far state.now.counts counts }
 {
     StackTotals {
@@ -151,8 +151,8 @@ fn walk_stacks(
 {
     // For the prover: slices are shorter than 2^63 bytes.
     let _capacities = (stacks.len(), frames.len(), mappings.len(), text.len());
-    let mut state = State::new(alloc);
-    let mut counts = StackCounts {
+    let mut state = ProcessState::new(alloc);
+    let mut counts = StackArraySizes {
         stacks: 0,
         frames: 0,
     };
@@ -167,7 +167,7 @@ fn walk_stacks(
                     Ok(more) => counts = more,
                     Err(error) => {
                         return StacksWalk {
-                            totals: totals_of(&state, counts),
+                            totals: stack_totals(&state, counts),
                             end: Err(Error::from(error)),
                         };
                     }
@@ -176,13 +176,13 @@ fn walk_stacks(
             }
             Ok(None) => {
                 return StacksWalk {
-                    totals: totals_of(&state, counts),
+                    totals: stack_totals(&state, counts),
                     end: Ok(()),
                 };
             }
             Err(error) => {
                 return StacksWalk {
-                    totals: totals_of(&state, counts),
+                    totals: stack_totals(&state, counts),
                     end: Err(error),
                 };
             }
@@ -199,7 +199,7 @@ const NO_STACKS: StackTotals = StackTotals {
 };
 
 // Writes the stacks of an opened recording.
-fn stacks_of(
+fn write_stacks(
     alloc: Global,
     opened: Result<InMemoryReader<'_>, Error>,
     stacks: &mut [Stack],
@@ -258,7 +258,7 @@ pub fn file_stacks(
         (record { stacks = stacks.new; frames = frames.new; mappings = mappings.new; text = text.new }) }
 {
     let opened = InMemoryReader::parse_file(alloc, bytes);
-    stacks_of(alloc, opened, stacks, frames, mappings, text)
+    write_stacks(alloc, opened, stacks, frames, mappings, text)
 }
 
 /// Writes the stacks of a perf.data pipe, as `file_stacks` does those of a file.
@@ -277,5 +277,5 @@ pub fn pipe_stacks(
         (record { stacks = stacks.new; frames = frames.new; mappings = mappings.new; text = text.new }) }
 {
     let opened = InMemoryReader::parse_pipe(alloc, bytes);
-    stacks_of(alloc, opened, stacks, frames, mappings, text)
+    write_stacks(alloc, opened, stacks, frames, mappings, text)
 }

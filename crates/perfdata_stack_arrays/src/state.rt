@@ -12,7 +12,7 @@ ghost use Rattle.perfdata_stack_arrays.specs.MappingWrites.{WritesMapping, with_
 use crate::array::add_counts;
 use crate::mapping::{StackMapping, mapping_entry};
 use crate::names::NameRanges;
-use perfdata_arrays::array::{copy_at, write_entry};
+use perfdata_arrays::array::{copy_entries, write_entry};
 use perfdata_events::event::EventRecord;
 use perfdata_spaces::address_spaces::AddressSpaces;
 use perfdata_spaces::mapping::Mapping;
@@ -28,7 +28,7 @@ pub(crate) struct TextCounts {
 
 // What is mapped, and what threads are called, as the records so far say.
 #[derive(Drop)]
-pub(crate) struct State {
+pub(crate) struct ProcessState {
     pub(crate) spaces: AddressSpaces,
     pub(crate) names: NameRanges,
     pub(crate) counts: TextCounts,
@@ -36,7 +36,7 @@ pub(crate) struct State {
 }
 
 // The mapping with an index, if there is an index.
-fn mapping_at(spaces: &AddressSpaces, index: Option<usize>) -> Option<&Mapping>
+fn find_mapping(spaces: &AddressSpaces, index: Option<usize>) -> Option<&Mapping>
     ensures { option_map (λ m. mapping_value m.now) result ≡ mapping_at spaces.now index }
 {
     match index {
@@ -46,7 +46,7 @@ fn mapping_at(spaces: &AddressSpaces, index: Option<usize>) -> Option<&Mapping>
 }
 
 // The name that a record gives to a thread; empty if it gives none.
-fn name_in<'a>(alloc: Global, event: &EventRecord<'a>) -> Result<CowSlice<'a, u8>, AllocError>
+fn event_name<'a>(alloc: Global, event: &EventRecord<'a>) -> Result<CowSlice<'a, u8>, AllocError>
     ensures { IfOk result (λ name. cow_slice_items name ≡ name_in (naming_of event.now)) }
 {
     match event {
@@ -63,7 +63,7 @@ fn write_text(counts: TextCounts, bytes: &[u8], text: &mut [u8]) -> TextCounts
 {
     // For the prover: a slice is shorter than 2^63 bytes.
     let _capacity = text.len();
-    copy_at(text, counts.text as u64, bytes);
+    copy_entries(text, counts.text as u64, bytes);
     TextCounts {
         text: add_counts(counts.text, bytes.len()),
         ..counts
@@ -93,14 +93,14 @@ fn write_mapping(
     write_text(more, mapping.path.as_slice(), text)
 }
 
-impl State {
-    ghost use Rattle.perfdata_stack_arrays.specs.State.{AppliesRecord, FollowsState, KeepsTotals};
+impl ProcessState {
+    ghost use Rattle.perfdata_stack_arrays.specs.ProcessState.{AppliesRecord, FollowsState, KeepsTotals};
 
     // No record was applied.
-    pub(crate) fn new(alloc: Global) -> State
+    pub(crate) fn new(alloc: Global) -> ProcessState
         ensures { FollowsState [] result }
     {
-        State {
+        ProcessState {
             spaces: AddressSpaces::new(alloc),
             names: NameRanges::new(alloc),
             counts: TextCounts {
@@ -126,11 +126,11 @@ impl State {
         ensures err { OnErr result
             (KeepsTotals self.old mappings.old text.old self.new mappings.new text.new) }
     {
-        let name = name_in(self.alloc, event)?;
+        let name = event_name(self.alloc, event)?;
         let index = self.spaces.apply(misc, event)?;
         self.names.apply(event, self.counts.text)?;
         let counts = write_text(self.counts, &name, text);
-        let mapping = mapping_at(&self.spaces, index);
+        let mapping = find_mapping(&self.spaces, index);
         self.counts = write_mapping(counts, mapping, mappings, text);
         Ok(())
     }

@@ -17,8 +17,8 @@ use Rattle.std.proofs.lemmas.List.Sums.{sum_by-cons, sum_by_push}
 use Rattle.std.proofs.lemmas.Map.Entries.{sum_by-insert_entry, btree_map_get_place, place_from_lookup}
 use Rattle.std.proofs.lemmas.Map.Lookups.{exact_bytes}
 use Rattle.perfdata_stacks.specs.Counts.{Added, AddsToLine, Counts, CountsLine, ListsLines, IsAscending, count_of, counted_lines, is_line, line_cmp, sum_of, weights_of}
-use Rattle.perfdata_stacks.specs.declared.counts.CountError.{CountError}
-use Rattle.perfdata_stacks.specs.declared.counts.StackCounts.{StackCounts}
+use Rattle.perfdata_stacks.specs.declared.counts.LineCountError.{LineCountError}
+use Rattle.perfdata_stacks.specs.declared.counts.LineCounts.{LineCounts}
 
 unwrap_or_same : (old : Option ℕ) → unwrap_or (option_map (λ count. count) old) 0 ≡ unwrap_or old 0
 unwrap_or_same None = refl
@@ -65,7 +65,7 @@ weights_push : (line : List ℕ) (added : List Added) (one : Added) → weights_
 weights_push line added one =
     ap (map (λ (a : Added). a.weight)) (filter-append (λ (a : Added). is_line line a.line) added (one ∷ [])) ∙ map-append (λ (a : Added). a.weight) (filter (λ (a : Added). is_line line a.line) added) (cond (is_line line one.line) (one ∷ []) [])
 
-module _ (old new : StackCounts) (line : List ℕ) (weight : ℕ) (added : List Added) (counts : Counts added old) (counted : CountsLine old line weight new) where
+module _ (old new : LineCounts) (line : List ℕ) (weight : ℕ) (added : List Added) (counts : Counts added old) (counted : CountsLine old line weight new) where
   line_counted : (other : List ℕ) (same : Bool) → is_line other line ≡ same → count_of new other ≡ sum_of (weights_of other (added ++ record { line = line; weight = weight } ∷ []))
   line_counted other true is =
       let Counted : List ℕ → Type 0 = λ l. count_of new l ≡ Some (unwrap_or (count_of old l) 0 + weight) in
@@ -83,7 +83,7 @@ module _ (old new : StackCounts) (line : List ℕ) (weight : ℕ) (added : List 
     sum = counted.sum ∙ ap (λ n. n + weight) counts.sum ∙ sym (sum_by_push (λ a. a.weight) added (record { line = line; weight = weight }));
   }
 
-pub lists_lines : (counts : StackCounts) (added : List Added) → IsAscending counts → Counts added counts → ListsLines added (counted_lines counts)
+pub lists_lines : (counts : LineCounts) (added : List Added) → IsAscending counts → Counts added counts → ListsLines added (counted_lines counts)
 lists_lines counts added ascending is = record {
   each = λ index line count at. sym (is.lines line.items) ∙ btree_map_get_place (on_total (λ (v : Vec ℕ Global). v.items) nat_list_cmp_total) counts.counts index line count ascending at;
   all = λ line count sum.
@@ -91,6 +91,6 @@ lists_lines counts added ascending is = record {
       (place.0, place.1, place.2, sym (same_line line place.1.items place.3));
 }
 
-pub counts_after : (old new : StackCounts) (line : List ℕ) (weight : ℕ) (result : Result (Unit {0}) CountError) → AddsToLine old line weight result new → OnOk result ((added : List Added) → Counts added old → Counts (added ++ record { line = line; weight = weight } ∷ []) new)
+pub counts_after : (old new : LineCounts) (line : List ℕ) (weight : ℕ) (result : Result (Unit {0}) LineCountError) → AddsToLine old line weight result new → OnOk result ((added : List Added) → Counts added old → Counts (added ++ record { line = line; weight = weight } ∷ []) new)
 counts_after old new line weight (Ok done) adds = λ added counts. counts_more old new line weight added counts adds
 counts_after old new line weight (Err error) adds = tt

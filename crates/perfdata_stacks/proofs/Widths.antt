@@ -6,7 +6,7 @@ use Rattle.std.proofs.lemmas.List.Sums.{sum_by_push}
 use Rattle.perfdata_stacks.specs.BoxWidths.{FillsBox, begins, opens, adds, closes, closes_inner, WidthsFit, width_of}
 use Rattle.perfdata_stacks.specs.OpenBoxes.{position_of, starts_of}
 use Rattle.perfdata_stacks.specs.declared.flame.open_boxes.OpenBoxes.{OpenBoxes}
-use Rattle.perfdata_stacks.specs.declared.flame.span.Span.{Span}
+use Rattle.perfdata_stacks.specs.declared.flame.span.WidthSpan.{WidthSpan}
 
 -- The start of the outermost of the boxes in a box or, if there are none, the position.
 abbrev first_of : List ℕ → ℕ → ℕ
@@ -14,7 +14,7 @@ first_of [] position = position
 first_of (start ∷ starts) position = start
 
 -- The closed boxes in a box lie before the open one in it, or before the position.
-record Fits (around : List ℕ) (start : ℕ) (spans : List Span) (boxes : OpenBoxes) : Type 0 where
+record Fits (around : List ℕ) (start : ℕ) (spans : List WidthSpan) (boxes : OpenBoxes) : Type 0 where
   inner : List ℕ
   starts : starts_of boxes ≡ around ++ start ∷ inner
   before : start + sum_by width_of spans ≤ first_of inner (position_of boxes)
@@ -40,7 +40,7 @@ same_inner : (around : List ℕ) (start : ℕ) (inner : List ℕ) (starts others
 same_inner around start inner starts others is other =
     append_cancel_left (start ∷ []) inner others (append_cancel_left around (start ∷ inner) (start ∷ others) (sym is ∙ other))
 
-fits : (around : List ℕ) (start : ℕ) (spans : List Span) (boxes : OpenBoxes) → FillsBox around start spans boxes → Fits around start spans boxes
+fits : (around : List ℕ) (start : ℕ) (spans : List WidthSpan) (boxes : OpenBoxes) → FillsBox around start spans boxes → Fits around start spans boxes
 fits around start spans boxes (begins _ _ _ starts position) = record {
   inner = [];
   starts = starts;
@@ -90,7 +90,7 @@ fits around start spans boxes (closes_inner _ _ _ span old _ inner others before
     }
 
 -- The box is the innermost one when it is closed.
-closed : (around : List ℕ) (start : ℕ) (spans : List Span) (old : OpenBoxes) (span : Span) (inner : List ℕ) → start ∷ inner ≡ span.start ∷ []
+closed : (around : List ℕ) (start : ℕ) (spans : List WidthSpan) (old : OpenBoxes) (span : WidthSpan) (inner : List ℕ) → start ∷ inner ≡ span.start ∷ []
     → start + sum_by width_of spans ≤ first_of inner (position_of old) → first_of inner (position_of old) ≤ position_of old → span.end ≡ position_of old → sum_by width_of spans ≤ width_of span
 closed around start spans old span inner is before within end =
     let starts : start ≡ span.start = ap (λ xs. first_of xs start) is in

@@ -8,9 +8,9 @@ use Rattle.std.specs.declared.cmp.Ordering.{Ordering}
 use Rattle.std.specs.Cmp.Lexicographic.{slice_cmp}
 use Rattle.std.specs.Map.{values_of}
 use Rattle.std.specs.BTreeMap.{get_by, IsOrdered}
-use Rattle.perfdata_stacks.specs.declared.counts.StackCounts.{StackCounts}
-use Rattle.perfdata_stacks.specs.declared.counts.CountError.{CountError}
-use Rattle.perfdata_stacks.specs.declared.counts.CountError.TheVariants.{Overflow, Memory}
+use Rattle.perfdata_stacks.specs.declared.counts.LineCounts.{LineCounts}
+use Rattle.perfdata_stacks.specs.declared.counts.LineCountError.{LineCountError}
+use Rattle.perfdata_stacks.specs.declared.counts.LineCountError.TheVariants.{Overflow, Memory}
 
 -- The order of lines: by their bytes.
 abbrev pub line_cmp : Vec ℕ Global → Vec ℕ Global → Ordering
@@ -21,33 +21,33 @@ abbrev pub is_line : List ℕ → List ℕ → Bool
 is_line line other = is_eq (slice_cmp nat_cmp line other)
 
 -- The lines with their counts, in the order of the iterator.
-abbrev pub counted_lines : StackCounts → List (Vec ℕ Global × ℕ)
+abbrev pub counted_lines : LineCounts → List (Vec ℕ Global × ℕ)
 counted_lines counts = counts.counts.entries
 
 -- The lines ascend by bytes, and each is there once.
-abbrev pub IsAscending : StackCounts → Type 0
+abbrev pub IsAscending : LineCounts → Type 0
 IsAscending counts = IsOrdered line_cmp counts.counts
 
 -- The count of a line, if it is counted.
-abbrev pub count_of : StackCounts → List ℕ → Option ℕ
+abbrev pub count_of : LineCounts → List ℕ → Option ℕ
 count_of counts line = get_by (λ (counted : Vec ℕ Global). slice_cmp nat_cmp line counted.items) counts.counts
 
 -- The sum of all counts.
-abbrev pub sum_of_counts : StackCounts → ℕ
+abbrev pub sum_of_counts : LineCounts → ℕ
 sum_of_counts counts = sum_by (λ count. count) (values_of counts.counts.entries)
 
 -- The weight is added to the count of a line, and to no other.
-pub record CountsLine (old : StackCounts) (line : List ℕ) (weight : ℕ) (new : StackCounts) : Type 0 where
+pub record CountsLine (old : LineCounts) (line : List ℕ) (weight : ℕ) (new : LineCounts) : Type 0 where
   pub counted : count_of new line ≡ Some (unwrap_or (count_of old line) 0 + weight)
   pub others : (other : List ℕ) → is_line line other ≡ false → count_of new other ≡ count_of old other
   pub sum : sum_of_counts new ≡ sum_of_counts old + weight
 
 -- Why a weight isn't added. No memory is needed for an empty line that is counted already.
-abbrev pub IsCause : StackCounts → List ℕ → ℕ → CountError → Type 0
+abbrev pub IsCause : LineCounts → List ℕ → ℕ → LineCountError → Type 0
 IsCause old line weight Overflow = 2 ^ 64 ≤ sum_of_counts old + weight
 IsCause old line weight Memory = (0 < length line) ⊎ (count_of old line ≡ None)
 
-abbrev pub AddsToLine : StackCounts → List ℕ → ℕ → Result (Unit {0}) CountError → StackCounts → Type 0
+abbrev pub AddsToLine : LineCounts → List ℕ → ℕ → Result (Unit {0}) LineCountError → LineCounts → Type 0
 AddsToLine old line weight (Ok done) new = CountsLine old line weight new
 AddsToLine old line weight (Err error) new = (counted_lines new ≡ counted_lines old) × IsCause old line weight error
 
@@ -66,7 +66,7 @@ abbrev pub weights_of : List ℕ → List Added → List ℕ
 weights_of line added = map (λ a. a.weight) (filter (λ a. is_line line a.line) added)
 
 -- Each line has the sum of its weights as its count, and the sum of all counts is that of all weights.
-pub record Counts (added : List Added) (counts : StackCounts) : Type 0 where
+pub record Counts (added : List Added) (counts : LineCounts) : Type 0 where
   pub lines : (line : List ℕ) → count_of counts line ≡ sum_of (weights_of line added)
   pub sum : sum_of_counts counts ≡ sum_by (λ a. a.weight) added
 

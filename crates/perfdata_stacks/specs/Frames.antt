@@ -1,6 +1,6 @@
 -- The frames of a sample, leaf first.
 use Rattle.std.specs.Prelude.{◌≡◌, ℕ, ◌-◌, Bool, true, false, List, [], ◌∷◌, map, Option, None, Some, if◌then◌else◌}
-use Rattle.perfdata_events.specs.CallChain.{chain_values_of, context_of, frames_of, is_context_change}
+use Rattle.perfdata_events.specs.CallChain.{chain_values_of, call_context, frames_of, is_context_change}
 use Rattle.perfdata_events.specs.Words.{remaining_u64s}
 use Rattle.perfdata_events.specs.declared.fields.call_chain.CallChain.{CallChain}
 use Rattle.perfdata_events.specs.declared.fields.call_chain.CallContext.{CallContext}
@@ -18,7 +18,7 @@ frame_of context is_caller address = record { frame = record { address = address
 unfoldable pub chain_frames : CallContext → Bool → List ℕ → List SampleFrame
 chain_frames context after_frame [] = []
 chain_frames context after_frame (value ∷ values) = if is_context_change value
-    then chain_frames (context_of value) false values
+    then chain_frames (call_context value) false values
     else frame_of context after_frame value ∷ chain_frames context true values
 
 -- The frame of an instruction at an address.

@@ -10,7 +10,7 @@ use thiserror::Error;
 
 /// Why a sample isn't counted.
 #[derive(Clone, Copy, Debug, Drop, PartialEq, Eq, Error)]
-pub enum CountError {
+pub enum LineCountError {
     /// The sum of all weights is 2^64 or more.
     #[error("the sum of all weights is 2^64 or more")]
     Overflow,
@@ -21,23 +21,23 @@ pub enum CountError {
 
 /// The sum of the weights of each line.
 #[derive(Drop)]
-pub struct StackCounts {
+pub struct LineCounts {
     counts: BTreeMap<Vec<u8>, u64>,
     total: u64,
     alloc: Global,
     ghost summed: { total ≡ sum_by (λ count. count) (values_of counts.entries) },
 }
 
-impl StackCounts {
+impl LineCounts {
     ghost use Rattle.perfdata_stacks.specs.Counts.{Added, AddsToLine, Counts, ListsLines, IsAscending};
     ghost use Rattle.perfdata_stacks.specs.Counts.{counted_lines, sum_of_counts};
 
     /// Creates counts without lines.
-    pub fn new(alloc: Global) -> StackCounts
+    pub fn new(alloc: Global) -> LineCounts
         ensures none { counted_lines result ≡ [] }
         ensures counts { Counts [] result }
     {
-        StackCounts {
+        LineCounts {
             counts: BTreeMap::new(alloc),
             total: 0,
             alloc,
@@ -46,20 +46,20 @@ impl StackCounts {
 
     /// Adds a weight to the count of a line.
     ///
-    /// Fails with [`CountError::Overflow`] if the sum of all weights exceeds 2^64 - 1, and with
-    /// [`CountError::Memory`] if memory runs out. Then nothing is counted.
-    pub fn add(&mut self, line: &[u8], weight: u64) -> Result<(), CountError>
+    /// Fails with [`LineCountError::Overflow`] if the sum of all weights exceeds 2^64 - 1, and with
+    /// [`LineCountError::Memory`] if memory runs out. Then nothing is counted.
+    pub fn add(&mut self, line: &[u8], weight: u64) -> Result<(), LineCountError>
         ensures line { AddsToLine self.old line.now weight result self.new }
         ensures counts { OnOk result ((added : List Added) → Counts added self.old →
             Counts (added ++ record { line = line.now; weight = weight } ∷ []) self.new) }
         ensures err { OnErr result ((added : List Added) → Counts added self.old → Counts added self.new) }
     {
         let Some(total) = self.total.checked_add(weight) else {
-            return Err(CountError::Overflow);
+            return Err(LineCountError::Overflow);
         };
         let mut key = Vec::new(self.alloc);
         if key.extend_from_slice(line).is_err() {
-            return Err(CountError::Memory);
+            return Err(LineCountError::Memory);
         }
         let old = self.counts.get(&key).copied().unwrap_or(0);
         match self.counts.insert(key, old + weight) {
@@ -67,7 +67,7 @@ impl StackCounts {
                 self.total = total;
                 Ok(())
             }
-            Err(_) => Err(CountError::Memory),
+            Err(_) => Err(LineCountError::Memory),
         }
     }
 

@@ -2,7 +2,7 @@
 ghost use Rattle.std.specs.Prelude.{◌≡◌};
 ghost use Rattle.std.specs.Iterator.{YieldsFirstBy, item_count};
 
-use perfdata_events::call_chain::{CallContext, Frame, context_of, is_context_change};
+use perfdata_events::call_chain::{CallContext, ChainFrame, call_context, is_context_change};
 use perfdata_events::sample::SampleRecord;
 use perfdata_events::u64s::RawDataU64Iter;
 
@@ -10,7 +10,7 @@ use perfdata_events::u64s::RawDataU64Iter;
 #[derive(Clone, Copy, Debug, PartialEq, Eq)]
 pub struct SampleFrame {
     /// The address and its context.
-    pub frame: Frame,
+    pub frame: ChainFrame,
     /// Whether the address is the one that a call returns to: the frame is in a call chain, and the value
     /// before it in the chain is a frame. Otherwise it is the address of an instruction.
     pub is_caller: bool,
@@ -63,13 +63,13 @@ impl<'a> Iterator for ChainFrames<'a> {
     fn next(&mut self) -> Option<SampleFrame> {
         'values: while let Some(value) = self.values.next() {
             if is_context_change(value) {
-                let context = context_of(value);
+                let context = call_context(value);
                 self.context = context;
                 self.after_frame = false;
             } else {
                 let is_caller = self.after_frame;
                 self.after_frame = true;
-                let frame = Frame {
+                let frame = ChainFrame {
                     address: value,
                     context: self.context,
                 };
@@ -98,7 +98,7 @@ impl<'a> SampleFrames<'a> {
             },
             instruction: match sample.ip {
                 Some(address) => Some(SampleFrame {
-                    frame: Frame { address, context },
+                    frame: ChainFrame { address, context },
                     is_caller: false,
                 }),
                 None => None,

@@ -9,14 +9,14 @@ use linux_perf_data::raw::{Endianness, RawData};
 use linux_perf_data::{
     Error, PerfFile, PerfFileRecord, PerfRecordIter, RawUserRecord, RecordPlace, UserRecordType,
 };
-use perfdata_events::bits::EventFlags;
 use perfdata_events::format::EventFormat;
 use perfdata_events::formats::EventFormats;
+use perfdata_events::sample_bits::EventFlags;
 use perfdata_order::sorter::Sorter;
 use std::alloc::{AllocError, Global};
 
 /// Returns the flags of an attribute.
-pub(crate) fn flags_of(perf_file: &PerfFile, attr: &PerfEventAttr) -> EventFlags {
+pub(crate) fn event_flags(perf_file: &PerfFile, attr: &PerfEventAttr) -> EventFlags {
     EventFlags::from_bits_retain(match perf_file.endian() {
         Endianness::LittleEndian => attr.flags.0,
         Endianness::BigEndian => attr.flags.0.reverse_bits(),
@@ -32,14 +32,14 @@ pub(crate) fn find_format<'a>(
 ) -> Result<Option<&'a EventFormat>, AllocError> {
     let added = perf_file.event_attributes().get(formats.len()..);
     for event in added.unwrap_or(&[]) {
-        formats.push_with_native_flags(event.attributes(), perf_file.endian())?;
+        formats.push(event.attributes(), perf_file.endian())?;
     }
     Ok(formats.get(index))
 }
 
 // A record without its body, and a copy of the body.
 #[derive(Drop)]
-struct HeldRecord {
+struct TimedRecord {
     place: RecordPlace,
     record: PerfFileRecord<'static>,
     body: Vec<u8>,
@@ -51,9 +51,9 @@ pub(crate) struct BigEndianRecords {
     alloc: Global,
     records: PerfRecordIter<Source>,
     formats: EventFormats,
-    sorter: Sorter<u64, HeldRecord>,
+    sorter: Sorter<u64, TimedRecord>,
     /// The record that was returned last.
-    returned: Option<HeldRecord>,
+    returned: Option<TimedRecord>,
     has_ended: bool,
     /// The error at the end of the records.
     failure: Option<Error>,
@@ -92,7 +92,7 @@ fn with_body<'a>(record: &PerfFileRecord<'_>, body: &'a [u8]) -> PerfFileRecord<
 }
 
 // Returns the time of a record, if it has one. 0 and 2^64 - 1 stand for no time.
-fn time_of(
+fn record_time(
     formats: &mut EventFormats,
     perf_file: &PerfFile,
     record: &PerfFileRecord<'_>,
@@ -109,16 +109,16 @@ fn time_of(
     }
 }
 
-impl HeldRecord {
+impl TimedRecord {
     // Copies a record.
-    fn of(
+    fn from_record(
         alloc: Global,
         place: RecordPlace,
         record: &PerfFileRecord<'_>,
-    ) -> Result<HeldRecord, AllocError> {
+    ) -> Result<TimedRecord, AllocError> {
         let mut body = Vec::new(alloc);
         record.body().append_to(&mut body)?;
-        Ok(HeldRecord {
+        Ok(TimedRecord {
             place,
             record: with_body(record, &[]),
             body,
@@ -149,9 +149,9 @@ impl BigEndianRecords {
     // Holds a record. Returns it if it has no time.
     fn hold(
         &mut self,
-        held: HeldRecord,
+        held: TimedRecord,
         time: Option<u64>,
-    ) -> Result<Option<HeldRecord>, AllocError> {
+    ) -> Result<Option<TimedRecord>, AllocError> {
         match time {
             Some(time) => match self.sorter.insert_unordered(time, held) {
                 Ok(()) => Ok(None),
@@ -167,11 +167,11 @@ impl BigEndianRecords {
     }
 
     // Reads the next record. Returns it if it has no time.
-    fn read_next(&mut self, perf_file: &mut PerfFile) -> Result<Option<HeldRecord>, Error> {
+    fn read_next(&mut self, perf_file: &mut PerfFile) -> Result<Option<TimedRecord>, Error> {
         match self.records.next_record(perf_file) {
             Ok(Some((place, record))) => {
-                let time = time_of(&mut self.formats, perf_file, &record)?;
-                let held = HeldRecord::of(self.alloc, place, &record)?;
+                let time = record_time(&mut self.formats, perf_file, &record)?;
+                let held = TimedRecord::from_record(self.alloc, place, &record)?;
                 Ok(self.hold(held, time)?)
             }
             Ok(None) => {
@@ -187,7 +187,7 @@ impl BigEndianRecords {
     }
 
     // Takes the next record, or `None` at the end. An error of the records comes after those before it.
-    fn take_next(&mut self, perf_file: &mut PerfFile) -> Result<Option<HeldRecord>, Error> {
+    fn take_next(&mut self, perf_file: &mut PerfFile) -> Result<Option<TimedRecord>, Error> {
         for _ in 0..u64::MAX {
             if let Some(next) = self.sorter.get_next() {
                 return Ok(Some(next));

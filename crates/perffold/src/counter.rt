@@ -1,23 +1,23 @@
 //! Counts the samples of a recording.
 
-use crate::big_endian::{find_format, flags_of};
-use crate::options::{Options, Weight};
+use crate::big_endian::{event_flags, find_format};
+use crate::options::{Options, WeightKind};
 use crate::records::Records;
 use crate::resolver::FrameResolver;
+use crate::sample_summary::SampleSummary;
 use crate::selection::Selection;
-use crate::span::Span;
 use bitflags::Flags;
 use linux_perf_data::attr::PerfEventAttr;
 use linux_perf_data::event::{RawEventRecord, RecordType};
 use linux_perf_data::{Error, PerfFile, PerfFileRecord, UserRecordType};
 use perfdata_cli::error::InputError;
 use perfdata_cli::position::Position;
-use perfdata_events::bits::EventFlags;
 use perfdata_events::event::EventRecord;
 use perfdata_events::formats::EventFormats;
 use perfdata_events::sample::SampleRecord;
+use perfdata_events::sample_bits::EventFlags;
 use perfdata_profile::builder::ProfileBuilder;
-use perfdata_profile::error::CountError;
+use perfdata_profile::error::ProfileError;
 use perfdata_profile::options::{Detail, ProfileOptions};
 use perfdata_profile::profile::Profile;
 use perfdata_profile::sums::SampleWeight;
@@ -30,13 +30,13 @@ pub(crate) struct SampleCounter<'a> {
     builder: ProfileBuilder<FrameResolver<'a>>,
     formats: EventFormats,
     selection: Selection<'a>,
-    weight: Weight,
+    weight: WeightKind,
     /// Whether the metadata of the recording was read for its symbols.
     has_metadata: bool,
     records: u64,
     other_events: u64,
     undecoded: u64,
-    span: Span,
+    sample_summary: SampleSummary,
 }
 
 /// What was counted.
@@ -52,30 +52,30 @@ pub(crate) struct CountedSamples<'a> {
     /// The number of samples with fields that aren't known.
     pub(crate) undecoded: u64,
     /// The times of the samples, and their weight.
-    pub(crate) span: Span,
+    pub(crate) sample_summary: SampleSummary,
 }
 
 // Returns what a sample counts.
-fn weight_of(
-    weight: Weight,
+fn sample_weight(
+    weight: WeightKind,
     perf_file: &PerfFile,
     attr: &PerfEventAttr,
     sample: &SampleRecord<'_>,
 ) -> u64 {
-    let is_frequency = flags_of(perf_file, attr).contains(EventFlags::FREQ);
+    let is_frequency = event_flags(perf_file, attr).contains(EventFlags::FREQ);
     match (weight, sample.period) {
-        (Weight::Samples, _) => 1,
-        (Weight::Period, Some(period)) => period,
-        (Weight::Period, None) if is_frequency => 1,
-        (Weight::Period, None) => attr.period_or_freq,
+        (WeightKind::Samples, _) => 1,
+        (WeightKind::Period, Some(period)) => period,
+        (WeightKind::Period, None) if is_frequency => 1,
+        (WeightKind::Period, None) => attr.period_or_freq,
     }
 }
 
 // Returns the error of a sample that can't be counted.
-fn error_of(error: CountError) -> Error {
+fn count_error(error: ProfileError) -> Error {
     match error {
-        CountError::Memory => Error::Memory,
-        CountError::Overflow => io::Error::other("the sum of all weights is 2^63 or more").into(),
+        ProfileError::Memory => Error::Memory,
+        ProfileError::Overflow => io::Error::other("the sum of all weights is 2^63 or more").into(),
     }
 }
 
@@ -99,7 +99,7 @@ impl<'a> SampleCounter<'a> {
             records: 0,
             other_events: 0,
             undecoded: 0,
-            span: Span::new(),
+            sample_summary: SampleSummary::new(),
         }
     }
 
@@ -134,8 +134,8 @@ impl<'a> SampleCounter<'a> {
                     return Ok(());
                 }
                 self.read_metadata(perf_file)?;
-                self.builder.resolver.set_event(event)?;
-                let weight = weight_of(self.weight, perf_file, attr, sample);
+                self.builder.resolver.select_event(event)?;
+                let weight = sample_weight(self.weight, perf_file, attr, sample);
                 Some(SampleWeight {
                     column: index,
                     weight,
@@ -149,9 +149,9 @@ impl<'a> SampleCounter<'a> {
         };
         self.builder
             .add_record(raw.misc, &record, weight)
-            .map_err(error_of)?;
+            .map_err(count_error)?;
         if let (EventRecord::Sample(sample), Some(counted)) = (&record, weight) {
-            self.span.add(sample.timestamp, counted.weight);
+            self.sample_summary.add(sample.timestamp, counted.weight);
         }
         Ok(())
     }
@@ -198,7 +198,7 @@ impl<'a> SampleCounter<'a> {
                 Ok(true)
             }
             Ok(None) => Ok(false),
-            Err(cause) => Err(InputError::at(self.position(None), cause)),
+            Err(cause) => Err(InputError::with_position(self.position(None), cause)),
         }
     }
 
@@ -223,7 +223,7 @@ impl<'a> SampleCounter<'a> {
             selection,
             other_events,
             undecoded,
-            span,
+            sample_summary,
             ..
         } = self;
         let (profile, resolver) = builder.finish();
@@ -233,7 +233,7 @@ impl<'a> SampleCounter<'a> {
             selection,
             other_events,
             undecoded,
-            span,
+            sample_summary,
         }
     }
 }

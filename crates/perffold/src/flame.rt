@@ -1,12 +1,12 @@
 //! The stacks of a profile's flame graph.
 
 use crate::lines::set_thread;
-use crate::resolver::codes::Codes;
+use crate::resolver::function_kinds::FunctionKinds;
 use perfdata_profile::locations::LocationId;
 use perfdata_profile::names::NameId;
 use perfdata_profile::profile::Profile;
 use perfdata_profile::sums::{SampleKey, Thread};
-use perfdata_stacks::flame::stacks::{FlameStack, FlameStacks, FrameKind, FrameName};
+use perfdata_stacks::flame::stacks::{FlameName, FlameStack, FlameStacks, FrameKind};
 use perfdata_stacks::flame::svg::{Caption, write_flame_graph};
 use std::alloc::{AllocError, Global};
 use std::collections::HashMap;
@@ -19,7 +19,7 @@ struct Drawing<'a> {
     alloc: Global,
     profile: &'a Profile,
     /// What code functions are, if it is known.
-    codes: Option<&'a Codes>,
+    function_kinds: Option<&'a FunctionKinds>,
     stacks: FlameStacks,
     /// The number of the name of each location's function.
     functions: Vec<Option<usize>>,
@@ -31,12 +31,12 @@ impl<'a> Drawing<'a> {
     fn new(
         alloc: Global,
         profile: &'a Profile,
-        codes: Option<&'a Codes>,
+        function_kinds: Option<&'a FunctionKinds>,
     ) -> Result<Drawing<'a>, AllocError> {
         Ok(Drawing {
             alloc,
             profile,
-            codes,
+            function_kinds,
             stacks: FlameStacks::new(alloc),
             functions: vec![in alloc; None; profile.tables.locations.len()]?,
             threads: HashMap::new(alloc),
@@ -50,7 +50,7 @@ impl<'a> Drawing<'a> {
         }
         let mut text = Vec::new(self.alloc);
         set_thread(&mut text, self.profile, thread)?;
-        let number = self.stacks.push_name(FrameName {
+        let number = self.stacks.push_name(FlameName {
             kind: FrameKind::Thread,
             text,
             file: Vec::new(self.alloc),
@@ -62,11 +62,11 @@ impl<'a> Drawing<'a> {
     // Appends the name of a function. Returns its number.
     fn add_function(&mut self, function: NameId) -> Result<usize, AllocError> {
         let text = self.profile.tables.names.get(function).unwrap_or(b"");
-        let (kind, file) = match self.codes {
-            Some(codes) => (codes.kind(function), codes.path(function)),
+        let (kind, file) = match self.function_kinds {
+            Some(function_kinds) => (function_kinds.kind(function), function_kinds.path(function)),
             None => (FrameKind::Unknown, b"".as_slice()),
         };
-        self.stacks.push_name(FrameName {
+        self.stacks.push_name(FlameName {
             kind,
             text: text.to_vec(self.alloc)?,
             file: file.to_vec(self.alloc)?,
@@ -105,12 +105,12 @@ impl<'a> Drawing<'a> {
 }
 
 // Returns the stacks of a profile.
-fn stacks_of(
+fn profile_stacks(
     alloc: Global,
     profile: &Profile,
-    codes: Option<&Codes>,
+    function_kinds: Option<&FunctionKinds>,
 ) -> Result<FlameStacks, AllocError> {
-    let mut drawing = Drawing::new(alloc, profile, codes)?;
+    let mut drawing = Drawing::new(alloc, profile, function_kinds)?;
     for index in 0..profile.sums.len() {
         if let Some((key, sums)) = profile.sums.get(index) {
             drawing.add(&key, sums.weight)?;
@@ -123,9 +123,14 @@ fn stacks_of(
 pub(crate) fn write_svg<W: Write>(
     alloc: Global,
     profile: &Profile,
-    codes: Option<&Codes>,
+    function_kinds: Option<&FunctionKinds>,
     caption: Caption<'_>,
     out: &mut W,
 ) -> io::Result<()> {
-    write_flame_graph(alloc, &stacks_of(alloc, profile, codes)?, caption, out)
+    write_flame_graph(
+        alloc,
+        &profile_stacks(alloc, profile, function_kinds)?,
+        caption,
+        out,
+    )
 }

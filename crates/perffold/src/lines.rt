@@ -2,7 +2,7 @@
 
 use perfdata_profile::profile::Profile;
 use perfdata_profile::sums::{SampleKey, Thread};
-use perfdata_stacks::counts::{CountError, StackCounts};
+use perfdata_stacks::counts::{LineCountError, LineCounts};
 use perfdata_stacks::line::push_comm;
 use std::alloc::{AllocError, Global};
 use std::io;
@@ -46,15 +46,15 @@ fn set_line(line: &mut Vec<u8>, profile: &Profile, key: &SampleKey) -> Result<()
 }
 
 // Adds up the weights of each line.
-fn count_lines(alloc: Global, profile: &Profile) -> Result<StackCounts, CountError> {
-    let mut counts = StackCounts::new(alloc);
+fn count_lines(alloc: Global, profile: &Profile) -> Result<LineCounts, LineCountError> {
+    let mut counts = LineCounts::new(alloc);
     let mut line = Vec::new(alloc);
     for index in 0..profile.sums.len() {
         let Some((key, sums)) = profile.sums.get(index) else {
             break;
         };
         if set_line(&mut line, profile, &key).is_err() {
-            return Err(CountError::Memory);
+            return Err(LineCountError::Memory);
         }
         counts.add(line.as_slice(), sums.weight)?;
     }
@@ -62,11 +62,11 @@ fn count_lines(alloc: Global, profile: &Profile) -> Result<StackCounts, CountErr
 }
 
 // Returns the lines of a profile with their counts, each once, ascending by bytes.
-fn lines_of(alloc: Global, profile: &Profile) -> io::Result<StackCounts> {
+fn profile_lines(alloc: Global, profile: &Profile) -> io::Result<LineCounts> {
     match count_lines(alloc, profile) {
         Ok(counts) => Ok(counts),
-        Err(CountError::Memory) => Err(ErrorKind::OutOfMemory.into()),
-        Err(CountError::Overflow) => Err(io::Error::other(
+        Err(LineCountError::Memory) => Err(ErrorKind::OutOfMemory.into()),
+        Err(LineCountError::Overflow) => Err(io::Error::other(
             "the sum of all weights is 2^64 or more",
         )),
     }
@@ -78,7 +78,7 @@ pub(crate) fn write_lines<W: Write>(
     profile: &Profile,
     out: &mut W,
 ) -> io::Result<()> {
-    for (line, count) in lines_of(alloc, profile)?.iter() {
+    for (line, count) in profile_lines(alloc, profile)?.iter() {
         out.write_all(line.as_slice())?;
         writeln!(out, " {count}")?;
     }

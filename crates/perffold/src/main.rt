@@ -5,15 +5,15 @@ mod big_endian;
 mod counter;
 mod flame;
 mod lines;
+mod mapping_names;
 mod options;
 mod output;
-mod pprof;
+mod pprof_output;
 mod records;
 mod resolver;
+mod sample_summary;
 mod selection;
-mod span;
 mod symbols;
-mod text;
 mod title;
 mod top;
 mod unwinding;
@@ -22,13 +22,14 @@ use counter::SampleCounter;
 use linux_perf_data::{Error, PerfFileReader};
 use options::{Arguments, Options, OutputFormat, parse};
 use output::{
-    FoldError, detail_of, format_of, is_for_terminal, print_notes, weight_in, write_counted,
+    FoldError, format_detail, format_weight, is_for_terminal, output_format, print_notes,
+    write_counted,
 };
 use perfdata_cli::command_line::{
     SUCCESS, USAGE_ERROR, arguments, print_argument_error, print_clap_error,
 };
 use perfdata_cli::error::{InputError, ProgramError, print_error};
-use perfdata_cli::input::{Input, display_name, path_of};
+use perfdata_cli::input::{OpenInput, display_name, input_path};
 use records::{Records, Source};
 use resolver::FrameResolver;
 use std::alloc::Global;
@@ -69,7 +70,7 @@ fn open_source(
 
 // Opens the input at a path.
 fn open_input(rt: &HostRuntime, path: &str) -> Result<PerfFileReader<Source>, InputError> {
-    let input = Input::open(rt, path).map_err(InputError::Io)?;
+    let input = OpenInput::open(rt, path).map_err(InputError::Io)?;
     let is_pipe = input.is_pipe()?;
     let source = input.into_source(rt.alloc()).map_err(InputError::Io)?;
     open_source(rt.alloc(), source, is_pipe)
@@ -85,24 +86,24 @@ fn open_resolver<'a>(
     match format {
         OutputFormat::Frames => resolver.list_frames(rt.alloc()),
         OutputFormat::Pprof | OutputFormat::Html => resolver.keep_files(rt.alloc()),
-        OutputFormat::Svg => resolver.keep_codes(rt.alloc()),
+        OutputFormat::Svg => resolver.keep_function_kinds(rt.alloc()),
         OutputFormat::Lines | OutputFormat::Top => {}
     }
     Ok(resolver)
 }
 
 // Creates what counts the samples for a format.
-fn counter_for<'a>(
+fn new_counter<'a>(
     alloc: Global,
     options: &Options<'a>,
     format: OutputFormat,
     resolver: FrameResolver<'a>,
 ) -> SampleCounter<'a> {
     let options = Options {
-        weight: weight_in(format, options.weight),
+        weight: format_weight(format, options.weight),
         ..*options
     };
-    SampleCounter::new(alloc, &options, detail_of(format), resolver)
+    SampleCounter::new(alloc, &options, format_detail(format), resolver)
 }
 
 // Writes the profile of an input: also of the samples before an error.
@@ -115,7 +116,7 @@ fn fold_records<'a>(
 ) -> Result<(), FoldError<'a>> {
     let mut perf_file = reader.perf_file;
     let mut records = Records::new(rt.alloc(), &perf_file, reader.record_iter);
-    let mut counter = counter_for(rt.alloc(), &arguments.options, format, resolver);
+    let mut counter = new_counter(rt.alloc(), &arguments.options, format, resolver);
     let read = counter.add_all(&mut records, &mut perf_file);
     let counted = counter.finish();
     write_counted(rt, arguments, format, &perf_file, &counted)?;
@@ -130,7 +131,7 @@ fn fold<'a>(
     arguments: &Arguments<'a>,
     path: &str,
 ) -> Result<(), FoldError<'a>> {
-    let format = format_of(rt, arguments);
+    let format = output_format(rt, arguments);
     let resolver = open_resolver(rt, &arguments.options, format)?;
     let reader = open_input(rt, path)?;
     fold_records(rt, arguments, format, reader, resolver)
@@ -142,7 +143,7 @@ fn run(rt: &HostRuntime, arguments: &Arguments<'_>) -> u8 {
         let _ = eprintln!(rt; "{NAME}: a profile isn't written to a terminal: name a file with -o");
         return USAGE_ERROR;
     }
-    let path = path_of(rt, arguments.options.file);
+    let path = input_path(rt, arguments.options.file);
     match fold(rt, arguments, path) {
         Ok(()) => SUCCESS,
         Err(FoldError::Program(error)) => print_error(rt, NAME, display_name(path), &error),

@@ -2,8 +2,8 @@
 
 use crate::selection::Selection;
 use clap::{Arg, ArgAction, ArgMatches, Command, Error};
+use demangle::Style;
 use perfdata_cli::command_line::{FILE, RECORDING_HELP, command};
-use perfdata_demangle::Style;
 use perfdata_profile::options::ThreadIds;
 use std::alloc::{AllocError, Global};
 
@@ -207,7 +207,7 @@ const OPTIONS: &[OptionText] = &[
 
 /// What a sample counts.
 #[derive(Clone, Copy, PartialEq, Eq)]
-pub(crate) enum Weight {
+pub(crate) enum WeightKind {
     /// One.
     Samples,
     /// Its period.
@@ -276,7 +276,7 @@ pub(crate) struct Options<'a> {
     /// The input, if one is named.
     pub(crate) file: Option<&'a str>,
     pub(crate) selection: Selection<'a>,
-    pub(crate) weight: Weight,
+    pub(crate) weight: WeightKind,
     /// Which ids follow the name of a thread.
     pub(crate) thread_ids: ThreadIds,
     pub(crate) name_kind: NameKind,
@@ -330,26 +330,26 @@ fn command_with_options<'a>(alloc: Global, name: &'a str) -> Result<Command<'a>,
 }
 
 // Returns which samples are counted.
-fn selection_of<'a>(matches: &ArgMatches<'a>) -> Selection<'a> {
+fn parse_selection<'a>(matches: &ArgMatches<'a>) -> Selection<'a> {
     if matches.get_flag(ALL_EVENTS) {
         return Selection::All;
     }
     match matches.get_str(EVENT) {
-        Some(text) => Selection::of_text(text),
+        Some(text) => Selection::from_text(text),
         None => Selection::First,
     }
 }
 
 // Returns what a sample counts.
-fn weight_of(matches: &ArgMatches<'_>) -> Weight {
+fn parse_weight(matches: &ArgMatches<'_>) -> WeightKind {
     match matches.get_str(WEIGHT) {
-        Some(PERIOD) => Weight::Period,
-        _ => Weight::Samples,
+        Some(PERIOD) => WeightKind::Period,
+        _ => WeightKind::Samples,
     }
 }
 
 // Returns which ids follow the name of a thread.
-fn thread_ids_of(matches: &ArgMatches<'_>) -> ThreadIds {
+fn parse_thread_ids(matches: &ArgMatches<'_>) -> ThreadIds {
     if matches.get_flag(TID) {
         ThreadIds::Thread
     } else if matches.get_flag(PID) {
@@ -360,7 +360,7 @@ fn thread_ids_of(matches: &ArgMatches<'_>) -> ThreadIds {
 }
 
 // Returns which name a frame has.
-fn name_kind_of(matches: &ArgMatches<'_>) -> NameKind {
+fn parse_name_kind(matches: &ArgMatches<'_>) -> NameKind {
     if matches.get_flag(RAW) {
         NameKind::Address
     } else if matches.get_flag(NO_SYMBOLS) {
@@ -371,7 +371,7 @@ fn name_kind_of(matches: &ArgMatches<'_>) -> NameKind {
 }
 
 // Returns the style of the texts of mangled names, unless these stay.
-fn demangling_of(matches: &ArgMatches<'_>) -> Option<Style> {
+fn parse_demangling(matches: &ArgMatches<'_>) -> Option<Style> {
     if matches.get_flag(NO_DEMANGLE) {
         None
     } else if matches.get_flag(PARAMETERS) {
@@ -382,7 +382,7 @@ fn demangling_of(matches: &ArgMatches<'_>) -> Option<Style> {
 }
 
 // Returns which list names the kernel's functions.
-fn kernel_list_of<'a>(matches: &ArgMatches<'a>) -> KernelList<'a> {
+fn parse_kernel_list<'a>(matches: &ArgMatches<'a>) -> KernelList<'a> {
     match (matches.get_str(KALLSYMS), matches.get_str(SYMFS)) {
         (Some(NO_LIST), _) => KernelList::Nothing,
         (Some(path), _) => KernelList::File(path),
@@ -392,18 +392,18 @@ fn kernel_list_of<'a>(matches: &ArgMatches<'a>) -> KernelList<'a> {
 }
 
 // Returns where symbols are.
-fn symbols_of<'a>(matches: &ArgMatches<'a>) -> SymbolOptions<'a> {
+fn parse_symbols<'a>(matches: &ArgMatches<'a>) -> SymbolOptions<'a> {
     SymbolOptions {
         symfs: matches.get_str(SYMFS),
         debug_dir: matches.get_str(DEBUG_DIR),
-        kernel_list: kernel_list_of(matches),
+        kernel_list: parse_kernel_list(matches),
         maps: matches.get_str(MAPS),
         vdso: matches.get_str(VDSO),
     }
 }
 
 // Returns what is written, if an argument says so.
-fn format_of(matches: &ArgMatches<'_>) -> Option<OutputFormat> {
+fn parse_format(matches: &ArgMatches<'_>) -> Option<OutputFormat> {
     if matches.get_flag(SVG) {
         return Some(OutputFormat::Svg);
     }
@@ -418,15 +418,15 @@ fn format_of(matches: &ArgMatches<'_>) -> Option<OutputFormat> {
 }
 
 // Returns what the arguments select.
-fn options_of<'a>(matches: &ArgMatches<'a>) -> Options<'a> {
+fn parse_options<'a>(matches: &ArgMatches<'a>) -> Options<'a> {
     Options {
         file: matches.get_str(FILE),
-        selection: selection_of(matches),
-        weight: weight_of(matches),
-        thread_ids: thread_ids_of(matches),
-        name_kind: name_kind_of(matches),
-        demangling: demangling_of(matches),
-        symbols: symbols_of(matches),
+        selection: parse_selection(matches),
+        weight: parse_weight(matches),
+        thread_ids: parse_thread_ids(matches),
+        name_kind: parse_name_kind(matches),
+        demangling: parse_demangling(matches),
+        symbols: parse_symbols(matches),
         unwinds: !matches.get_flag(NO_UNWIND),
     }
 }
@@ -439,8 +439,8 @@ pub(crate) fn parse<'a>(
 ) -> Result<Arguments<'a>, Error> {
     let matches = command_with_options(alloc, name)?.try_get_matches_from(words)?;
     Ok(Arguments {
-        options: options_of(&matches),
-        format: format_of(&matches),
+        options: parse_options(&matches),
+        format: parse_format(&matches),
         output: matches.get_str(OUTPUT),
     })
 }

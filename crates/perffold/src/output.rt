@@ -3,12 +3,12 @@
 use crate::counter::CountedSamples;
 use crate::flame::write_svg;
 use crate::lines::write_lines;
-use crate::options::{Arguments, OutputFormat, Weight};
-use crate::pprof::{Recorded, write_page, write_pprof};
-use crate::resolver::codes::Codes;
+use crate::options::{Arguments, OutputFormat, WeightKind};
+use crate::pprof_output::{ProfileInput, write_page, write_pprof};
+use crate::resolver::function_kinds::FunctionKinds;
 use crate::symbols::FileCounts;
 use crate::symbols::directories::PathError;
-use crate::title::title_of;
+use crate::title::graph_title;
 use crate::top::write_top;
 use crate::unwinding::EndCounts;
 use linux_perf_data::PerfFile;
@@ -49,26 +49,26 @@ impl<'a> From<PathError<'a>> for FoldError<'a> {
 
 // What is written: a profile in a format, and what a picture says of itself.
 #[derive(Clone, Copy)]
-struct Outcome<'a> {
+struct FoldResult<'a> {
     format: OutputFormat,
-    recorded: Recorded<'a>,
+    recorded: ProfileInput<'a>,
     caption: Caption<'a>,
     /// What code functions are, if it is shown.
-    codes: Option<&'a Codes>,
+    function_kinds: Option<&'a FunctionKinds>,
     /// The lines of the frames of each sample, if they are written.
     frames: &'a [u8],
 }
 
 // Returns what weights count.
-fn unit_of(weight: Weight) -> &'static str {
+fn weight_unit(weight: WeightKind) -> &'static str {
     match weight {
-        Weight::Samples => "samples",
-        Weight::Period => "events",
+        WeightKind::Samples => "samples",
+        WeightKind::Period => "events",
     }
 }
 
 // Returns the format of a file by the end of its name.
-fn format_of_file(path: &str) -> OutputFormat {
+fn file_format(path: &str) -> OutputFormat {
     match FORMATS.iter().find(|(suffix, _)| path.ends_with(*suffix)) {
         Some((_, format)) => *format,
         None => OutputFormat::Lines,
@@ -76,10 +76,10 @@ fn format_of_file(path: &str) -> OutputFormat {
 }
 
 /// Returns what is written.
-pub(crate) fn format_of(rt: &HostRuntime, arguments: &Arguments<'_>) -> OutputFormat {
+pub(crate) fn output_format(rt: &HostRuntime, arguments: &Arguments<'_>) -> OutputFormat {
     match (arguments.format, arguments.output) {
         (Some(format), _) => format,
-        (None, Some(path)) => format_of_file(path),
+        (None, Some(path)) => file_format(path),
         (None, None) if rt.stdout().is_terminal() => OutputFormat::Top,
         (None, None) => OutputFormat::Lines,
     }
@@ -88,21 +88,21 @@ pub(crate) fn format_of(rt: &HostRuntime, arguments: &Arguments<'_>) -> OutputFo
 /// Returns whether a profile for pprof is to be written to a terminal.
 pub(crate) fn is_for_terminal(rt: &HostRuntime, arguments: &Arguments<'_>) -> bool {
     arguments.output.is_none()
-        && format_of(rt, arguments) == OutputFormat::Pprof
+        && output_format(rt, arguments) == OutputFormat::Pprof
         && rt.stdout().is_terminal()
 }
 
 /// Returns what a sample counts in a format.
-pub(crate) fn weight_in(format: OutputFormat, weight: Weight) -> Weight {
+pub(crate) fn format_weight(format: OutputFormat, weight: WeightKind) -> WeightKind {
     match format {
-        OutputFormat::Pprof | OutputFormat::Html => Weight::Period,
+        OutputFormat::Pprof | OutputFormat::Html => WeightKind::Period,
         OutputFormat::Lines | OutputFormat::Svg | OutputFormat::Top | OutputFormat::Frames =>
             weight,
     }
 }
 
 /// Returns what the locations of a profile have that is written in a format.
-pub(crate) fn detail_of(format: OutputFormat) -> Detail {
+pub(crate) fn format_detail(format: OutputFormat) -> Detail {
     match format {
         OutputFormat::Pprof | OutputFormat::Html => Detail::Locations,
         OutputFormat::Lines | OutputFormat::Svg | OutputFormat::Top | OutputFormat::Frames => {
@@ -112,19 +112,23 @@ pub(crate) fn detail_of(format: OutputFormat) -> Detail {
 }
 
 // Writes a profile.
-fn write_profile<W: Write>(rt: &HostRuntime, outcome: Outcome<'_>, out: &mut W) -> io::Result<()> {
+fn write_profile<W: Write>(
+    rt: &HostRuntime,
+    outcome: FoldResult<'_>,
+    out: &mut W,
+) -> io::Result<()> {
     let alloc = rt.alloc();
-    let Outcome {
+    let FoldResult {
         format,
         recorded,
         caption,
-        codes,
+        function_kinds,
         frames,
     } = outcome;
     let profile = recorded.profile;
     match format {
         OutputFormat::Lines => write_lines(alloc, profile, out)?,
-        OutputFormat::Svg => write_svg(alloc, profile, codes, caption, out)?,
+        OutputFormat::Svg => write_svg(alloc, profile, function_kinds, caption, out)?,
         OutputFormat::Pprof => write_pprof(alloc, recorded, out)?,
         OutputFormat::Html => write_page(alloc, recorded, out)?,
         OutputFormat::Top => write_top(alloc, profile, caption.unit, out)?,
@@ -134,20 +138,20 @@ fn write_profile<W: Write>(rt: &HostRuntime, outcome: Outcome<'_>, out: &mut W) 
 }
 
 // Writes standard output.
-fn write_stdout(rt: &HostRuntime, outcome: Outcome<'_>) -> io::Result<()> {
+fn write_stdout(rt: &HostRuntime, outcome: FoldResult<'_>) -> io::Result<()> {
     let mut out = BufWriter::new(rt.alloc(), rt.stdout())?;
     write_profile(rt, outcome, &mut out)
 }
 
 // Writes a file, which then replaces the one at a path.
-fn write_file(rt: &HostRuntime, part: &str, path: &str, outcome: Outcome<'_>) -> io::Result<()> {
+fn write_file(rt: &HostRuntime, part: &str, path: &str, outcome: FoldResult<'_>) -> io::Result<()> {
     let mut out = BufWriter::new(rt.alloc(), File::create(rt, part)?)?;
     write_profile(rt, outcome, &mut out)?;
     fs::rename(rt, part, path)
 }
 
 // Writes the file at a path: first one beside it, so that it is either as before or whole.
-fn replace_file(rt: &HostRuntime, path: &str, outcome: Outcome<'_>) -> io::Result<()> {
+fn replace_file(rt: &HostRuntime, path: &str, outcome: FoldResult<'_>) -> io::Result<()> {
     let part = format!(in rt.alloc(); "{path}.part")?;
     let written = write_file(rt, part.as_str(), path, outcome);
     if written.is_err() {
@@ -160,7 +164,7 @@ fn replace_file(rt: &HostRuntime, path: &str, outcome: Outcome<'_>) -> io::Resul
 fn write_outcome<'a>(
     rt: &HostRuntime,
     path: Option<&'a str>,
-    outcome: Outcome<'_>,
+    outcome: FoldResult<'_>,
 ) -> Result<(), FoldError<'a>> {
     match path {
         Some(path) => replace_file(rt, path, outcome).map_err(|error| FoldError::File(PathError {
@@ -182,26 +186,26 @@ pub(crate) fn write_counted<'a>(
     counted: &CountedSamples<'_>,
 ) -> Result<(), FoldError<'a>> {
     let profile = &counted.profile;
-    let unit = unit_of(arguments.options.weight);
+    let unit = weight_unit(arguments.options.weight);
     let total = profile.sums.total().weight;
-    let title = title_of(rt.alloc(), perf_file, counted.selection, total, unit);
+    let title = graph_title(rt.alloc(), perf_file, counted.selection, total, unit);
     let title = title.map_err(|error| FoldError::Program(ProgramError::Output(error)))?;
     let caption = Caption {
         title: title.as_slice(),
         unit,
     };
-    let recorded = Recorded {
+    let recorded = ProfileInput {
         perf_file,
         profile,
         files: counted.resolver.files(),
-        span: counted.span,
-        shows_weights: arguments.options.weight == Weight::Period,
+        sample_summary: counted.sample_summary,
+        shows_weights: arguments.options.weight == WeightKind::Period,
     };
-    let outcome = Outcome {
+    let outcome = FoldResult {
         format,
         recorded,
         caption,
-        codes: counted.resolver.codes(),
+        function_kinds: counted.resolver.function_kinds(),
         frames: counted.resolver.listed_frames(),
     };
     write_outcome(rt, arguments.output, outcome)

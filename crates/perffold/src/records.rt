@@ -1,12 +1,12 @@
 //! The records in the order in which they apply.
 
-use crate::big_endian::{BigEndianRecords, flags_of};
+use crate::big_endian::{BigEndianRecords, event_flags};
 use bitflags::Flags;
 use linux_perf_data::raw::Endianness;
 use linux_perf_data::{Error, PerfFile, PerfFileRecord, PerfRecordIter, RecordPlace};
 use perfdata_base::source::CountedBuffer;
 use perfdata_cli::input_bytes::InputBytes;
-use perfdata_events::bits::EventFlags;
+use perfdata_events::sample_bits::EventFlags;
 use perfdata_order::streaming::OrderedRecords;
 use std::alloc::Global;
 
@@ -27,7 +27,7 @@ pub(crate) enum Records {
 // Returns whether the records that aren't samples have times.
 fn has_times(perf_file: &PerfFile) -> bool {
     for event in perf_file.event_attributes() {
-        let flags = flags_of(perf_file, event.attributes());
+        let flags = event_flags(perf_file, event.attributes());
         if flags.contains(EventFlags::SAMPLE_ID_ALL) {
             return true;
         }

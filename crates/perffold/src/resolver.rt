@@ -5,19 +5,21 @@ ghost use Rattle.perfdata_profile.specs.Interning.{Grows};
 ghost use Rattle.perfdata_profile.specs.Names.{names_of};
 ghost use Rattle.perfdata_profile.specs.Resolving.{IsIdOf, Meaning};
 
+use crate::mapping_names::{push_address, push_file_name, push_path, push_thread_id};
 use crate::options::{NameKind, Options};
 use crate::symbols::directories::PathError;
-use crate::symbols::kernel_list::NoList;
+use crate::symbols::kernel_list::MissingKernelSymbols;
 use crate::symbols::{FileCounts, SymbolId, SymbolName, Symbols};
-use crate::text::{push_address, push_file_name, push_path, push_thread_id};
 use crate::unwinding::{EndCounts, Unwinding};
+use demangle::{Demangler, Style};
 use linux_perf_data::{AttributeDescription, Error, PerfFile, RawUserRecord};
-use perfdata_demangle::{Demangler, Style};
 use perfdata_events::event::EventRecord;
-use perfdata_events::fields::task::Task;
 use perfdata_events::sample::SampleRecord;
+use perfdata_events::sample_id::Task;
 use perfdata_profile::names::{NameId, Names};
-use perfdata_profile::resolver::{FileNames, FunctionName, ResolvedFrame, Resolver, set_frames};
+use perfdata_profile::resolver::{
+    FileNames, FunctionName, ResolvedFrame, Resolver, resolve_frames,
+};
 use perfdata_spaces::address_spaces::AddressSpaces;
 use perfdata_spaces::mapping::{Mapping, MappingKind};
 use perfdata_stacks::frames::SampleFrame;
@@ -25,12 +27,12 @@ use perfdata_stacks::line::push_name;
 use std::alloc::{AllocError, Global};
 use std::collections::HashMap;
 
-pub(crate) mod codes;
-mod listing;
+mod frame_listing;
+pub(crate) mod function_kinds;
 pub(crate) mod mapped_files;
 
-use codes::Codes;
-use listing::Listing;
+use frame_listing::FrameListing;
+use function_kinds::FunctionKinds;
 use mapped_files::MappedFiles;
 
 // The name of the idle task, whose thread id is 0.
@@ -52,17 +54,17 @@ enum NameSource<'a> {
 
 // What is kept of frames beside their names.
 #[derive(Drop)]
-enum Kept {
+enum FormatData {
     Nothing,
     /// What a profile says of the mapped files.
     Files(MappedFiles),
     /// What code the functions are.
-    Codes(Codes),
+    FunctionKinds(FunctionKinds),
 }
 
 // What names a frame.
 #[derive(Clone, Copy, PartialEq, Eq, Hash)]
-enum FrameName {
+enum SourceName {
     /// A symbol.
     Symbol(SymbolId),
     /// The mapping with an index.
@@ -81,13 +83,13 @@ pub(crate) struct FrameResolver<'a> {
     /// The style of the texts of mangled names, unless these stay.
     style: Option<Style>,
     /// The ids of the names of frames.
-    ids: HashMap<FrameName, NameId>,
+    ids: HashMap<SourceName, NameId>,
     text: Vec<u8>,
     /// What unwinds samples, unless an option says that none is unwound.
     unwinding: Option<Unwinding<'a>>,
     /// The lines of the frames of each sample, if they are written.
-    listing: Option<Listing>,
-    kept: Kept,
+    frame_listing: Option<FrameListing>,
+    format_data: FormatData,
 }
 
 // Returns which names frames have.
@@ -150,33 +152,33 @@ impl<'a> FrameResolver<'a> {
             ids: HashMap::new(alloc),
             text: Vec::new(alloc),
             unwinding: open_unwinding(rt, options)?,
-            listing: None,
-            kept: Kept::Nothing,
+            frame_listing: None,
+            format_data: FormatData::Nothing,
         })
     }
 
     /// Keeps from now on what a profile says of mapped files.
     pub(crate) fn keep_files(&mut self, alloc: Global) {
-        self.kept = Kept::Files(MappedFiles::new(alloc));
+        self.format_data = FormatData::Files(MappedFiles::new(alloc));
     }
 
     /// Returns what a profile says of mapped files, if it is kept.
     pub(crate) fn files(&self) -> Option<&MappedFiles> {
-        match &self.kept {
-            Kept::Files(files) => Some(files),
+        match &self.format_data {
+            FormatData::Files(files) => Some(files),
             _ => None,
         }
     }
 
     /// Keeps from now on what code functions are.
-    pub(crate) fn keep_codes(&mut self, alloc: Global) {
-        self.kept = Kept::Codes(Codes::new(alloc));
+    pub(crate) fn keep_function_kinds(&mut self, alloc: Global) {
+        self.format_data = FormatData::FunctionKinds(FunctionKinds::new(alloc));
     }
 
     /// Returns what code functions are, if it is kept.
-    pub(crate) fn codes(&self) -> Option<&Codes> {
-        match &self.kept {
-            Kept::Codes(codes) => Some(codes),
+    pub(crate) fn function_kinds(&self) -> Option<&FunctionKinds> {
+        match &self.format_data {
+            FormatData::FunctionKinds(function_kinds) => Some(function_kinds),
             _ => None,
         }
     }
@@ -187,12 +189,12 @@ impl<'a> FrameResolver<'a> {
     }
 
     /// Sets the event of the sample that comes next.
-    pub(crate) fn set_event(&mut self, event: &AttributeDescription) -> Result<(), AllocError> {
+    pub(crate) fn select_event(&mut self, event: &AttributeDescription) -> Result<(), AllocError> {
         if let Some(unwinding) = &mut self.unwinding {
-            unwinding.set_event(event.attributes());
+            unwinding.select_event(event.attributes());
         }
-        match &mut self.listing {
-            Some(listing) => listing.set_event(event.name()),
+        match &mut self.frame_listing {
+            Some(frame_listing) => frame_listing.select_event(event.name()),
             None => Ok(()),
         }
     }
@@ -215,7 +217,7 @@ impl<'a> FrameResolver<'a> {
 
     /// Returns why frames of the kernel have no names of symbols, if there are such frames and no option asks
     /// for it.
-    pub(crate) fn missing_kernel_list(&self) -> Option<&NoList> {
+    pub(crate) fn missing_kernel_list(&self) -> Option<&MissingKernelSymbols> {
         self.symbols()?.missing_kernel_list()
     }
 
@@ -224,7 +226,7 @@ impl<'a> FrameResolver<'a> {
         if let Some(unwinding) = &mut self.unwinding {
             unwinding.read_metadata(perf_file)?;
         }
-        if let Kept::Files(files) = &mut self.kept {
+        if let FormatData::Files(files) = &mut self.format_data {
             files.read_metadata(perf_file)?;
         }
         match &mut self.source {
@@ -238,7 +240,7 @@ impl<'a> FrameResolver<'a> {
         if let Some(unwinding) = &mut self.unwinding {
             unwinding.add_build_id(record)?;
         }
-        if let Kept::Files(files) = &mut self.kept {
+        if let FormatData::Files(files) = &mut self.format_data {
             files.add_build_id(record)?;
         }
         match &mut self.source {
@@ -248,16 +250,16 @@ impl<'a> FrameResolver<'a> {
     }
 
     // Returns what names a frame.
-    fn find(&mut self, frame: &ResolvedFrame<'_>) -> Result<FrameName, AllocError> {
+    fn find(&mut self, frame: &ResolvedFrame<'_>) -> Result<SourceName, AllocError> {
         let symbol = match &mut self.source {
             NameSource::Symbols(symbols) => symbols.find(frame)?,
             NameSource::Files => None,
-            NameSource::Addresses => return Ok(FrameName::Address),
+            NameSource::Addresses => return Ok(SourceName::Address),
         };
         Ok(match (symbol, frame.index) {
-            (Some(symbol), _) => FrameName::Symbol(symbol),
-            (None, Some(index)) => FrameName::Mapping(index),
-            (None, None) => FrameName::Unknown,
+            (Some(symbol), _) => SourceName::Symbol(symbol),
+            (None, Some(index)) => SourceName::Mapping(index),
+            (None, None) => SourceName::Unknown,
         })
     }
 
@@ -295,18 +297,22 @@ impl<'a> FrameResolver<'a> {
     }
 
     // Sets the text to the name of a frame.
-    fn set_text(&mut self, name: FrameName, frame: &ResolvedFrame<'_>) -> Result<(), AllocError> {
+    fn write_name(
+        &mut self,
+        name: SourceName,
+        frame: &ResolvedFrame<'_>,
+    ) -> Result<(), AllocError> {
         self.text.clear();
         match (name, frame.mapping) {
-            (FrameName::Symbol(symbol), _) => self.push_symbol(symbol),
-            (FrameName::Mapping(_), Some(mapping)) => self.push_mapping(mapping),
-            (FrameName::Address, _) => push_address(&mut self.text, frame.frame.frame.address),
+            (SourceName::Symbol(symbol), _) => self.push_symbol(symbol),
+            (SourceName::Mapping(_), Some(mapping)) => self.push_mapping(mapping),
+            (SourceName::Address, _) => push_address(&mut self.text, frame.frame.frame.address),
             _ => self.text.extend_from_slice(UNKNOWN),
         }
     }
 
     // Returns the id of a name that was interned.
-    fn known_id(&self, name: FrameName, names: &Names) -> Option<NameId>
+    fn cached_name(&self, name: SourceName, names: &Names) -> Option<NameId>
         ensures { IfSome result (λ id. IsIdOf (λ text. Unit {0}) (names_of names.now) id) }
     {
         let id = *self.ids.get(&name)?;
@@ -317,22 +323,22 @@ impl<'a> FrameResolver<'a> {
     }
 
     // Interns the name of a frame. Returns its id.
-    fn new_id(
+    fn intern_name(
         &mut self,
-        name: FrameName,
+        name: SourceName,
         frame: &ResolvedFrame<'_>,
         names: &mut Names,
     ) -> Result<NameId, AllocError>
         ensures grows { Grows (names_of names.old) (names_of names.new) }
         ensures named { IfOk result (λ id. IsIdOf (λ text. Unit {0}) (names_of names.new) id) }
     {
-        self.set_text(name, frame)?;
+        self.write_name(name, frame)?;
         let id = intern(names, self.text.as_slice())?;
-        if name != FrameName::Address {
+        if name != SourceName::Address {
             self.ids.insert(name, id)?;
         }
-        if let Kept::Codes(codes) = &mut self.kept {
-            codes.add(id, frame)?;
+        if let FormatData::FunctionKinds(function_kinds) = &mut self.format_data {
+            function_kinds.add(id, frame)?;
         }
         Ok(id)
     }
@@ -359,13 +365,13 @@ impl Resolver for FrameResolver<'_> {
       has_frames = λ before misc sample frames. Unit {0};
     } };
 
-    fn apply(
+    fn record_applied(
         &mut self,
         misc: u16,
         record: &EventRecord<'_>,
         mapping: Option<&Mapping>,
     ) -> Result<(), AllocError> {
-        if let (Kept::Files(files), Some(mapping)) = (&mut self.kept, mapping) {
+        if let (FormatData::Files(files), Some(mapping)) = (&mut self.format_data, mapping) {
             files.add_mapping(mapping)?;
         }
         match &mut self.source {
@@ -382,10 +388,10 @@ impl Resolver for FrameResolver<'_> {
         frames: &mut Vec<SampleFrame>,
     ) -> Result<(), AllocError> {
         match &mut self.unwinding {
-            Some(unwinding) => unwinding.set_frames(spaces, misc, sample, frames)?,
-            None => set_frames(misc, sample, frames)?,
+            Some(unwinding) => unwinding.unwind_frames(spaces, misc, sample, frames)?,
+            None => resolve_frames(misc, sample, frames)?,
         }
-        match self.listing {
+        match self.frame_listing {
             Some(_) => self.list_sample(spaces, sample, frames.as_slice()),
             None => Ok(()),
         }
@@ -408,16 +414,16 @@ impl Resolver for FrameResolver<'_> {
     ) -> Result<FunctionName, AllocError> {
         let name = self.find(frame)?;
         let is_fixed = self.is_fixed(frame);
-        let id = match self.known_id(name, names) {
+        let id = match self.cached_name(name, names) {
             Some(id) => id,
-            None => self.new_id(name, frame, names)?,
+            None => self.intern_name(name, frame, names)?,
         };
         Ok(FunctionName { id, is_fixed })
     }
 
     fn file(&mut self, mapping: &Mapping, names: &mut Names) -> Result<FileNames, AllocError> {
-        let build_id = match &self.kept {
-            Kept::Files(files) => files.build_id(mapping),
+        let build_id = match &self.format_data {
+            FormatData::Files(files) => files.build_id(mapping),
             _ => mapping.build_id.as_slice(),
         };
         self.text.clear();

@@ -19,7 +19,7 @@ pub(crate) enum Selection<'a> {
 
 impl<'a> Selection<'a> {
     /// Returns what the value of `--event` selects.
-    pub(crate) fn of_text(text: &'a str) -> Selection<'a> {
+    pub(crate) fn from_text(text: &'a str) -> Selection<'a> {
         match text.parse::<usize>() {
             Ok(index) => Selection::Index(index),
             Err(_) => Selection::Named(text),
@@ -38,7 +38,7 @@ impl<'a> Selection<'a> {
             Selection::Index(selected) => selected == index,
             Selection::Named(selected) => has_name(perf_file, index, Some(selected)),
             Selection::NameOf(first) => {
-                first == index || has_name(perf_file, index, name_of(perf_file, first))
+                first == index || has_name(perf_file, index, event_name(perf_file, first))
             }
             Selection::First => {
                 *self = Selection::NameOf(index);
@@ -49,13 +49,13 @@ impl<'a> Selection<'a> {
 }
 
 // Returns the name of an event.
-fn name_of(perf_file: &PerfFile, index: usize) -> Option<&str> {
+fn event_name(perf_file: &PerfFile, index: usize) -> Option<&str> {
     perf_file.event_attributes().get(index)?.name()
 }
 
 // Returns whether an event has a name, and this one.
 fn has_name(perf_file: &PerfFile, index: usize, name: Option<&str>) -> bool {
-    match (name, name_of(perf_file, index)) {
+    match (name, event_name(perf_file, index)) {
         (Some(name), Some(found)) => found == name,
         _ => false,
     }

@@ -1,7 +1,8 @@
 //! The symbols of frames: of mapped files, of the recording itself, of generated code and of the kernel.
 
+use crate::mapping_names::{is_anonymous, is_generated};
 use crate::options::SymbolOptions;
-use crate::text::{is_anonymous, is_generated};
+use code_symbols::{SymbolTable, parse_perf_map, table_of_record};
 use linux_perf_data::{
     Error, PerfFile, RawUserRecord, SimpleperfFileRecord, SimpleperfTypeSpecificInfo,
 };
@@ -10,7 +11,6 @@ use perfdata_events::event::EventRecord;
 use perfdata_profile::resolver::ResolvedFrame;
 use perfdata_spaces::address_spaces::context_of_mode;
 use perfdata_spaces::mapping::{Mapping, MappingKind};
-use perfdata_symbols::{SymbolTable, parse_perf_map, table_of_record};
 use std::alloc::AllocError;
 use std::collections::{BTreeMap, HashMap};
 use std::fs::File;
@@ -26,12 +26,12 @@ pub(crate) mod kernel;
 pub(crate) mod kernel_list;
 
 use build_ids::BuildIds;
-use directories::{Directories, PathError, found};
+use directories::{Directories, PathError, none_if_missing};
 use elf_files::ElfFiles;
 pub(crate) use elf_files::FileCounts;
 use jitdumps::JitDumps;
 use kernel::KERNEL_PATH;
-use kernel_list::{ListedSymbols, NoList};
+use kernel_list::{KernelListSymbols, MissingKernelSymbols};
 
 /// A table of symbols.
 #[derive(Clone, Copy, PartialEq, Eq, Hash)]
@@ -61,7 +61,7 @@ pub(crate) struct SymbolName<'a> {
 
 // Where the symbols of a table start.
 #[derive(Clone, Copy)]
-enum Starts {
+enum AddressBase {
     /// At offsets in the file.
     FileOffsets,
     /// At offsets from the start of the mapping.
@@ -74,7 +74,7 @@ enum Starts {
 #[derive(Drop)]
 struct FileTable {
     table: SymbolTable,
-    starts: Starts,
+    address_base: AddressBase,
     /// Whether names may be mangled.
     are_mangled: bool,
 }
@@ -84,18 +84,18 @@ struct FileTable {
 pub(crate) struct Symbols<'a> {
     rt: &'a HostRuntime,
     elf_files: ElfFiles<'a>,
-    kernel: ListedSymbols<'a>,
+    kernel: KernelListSymbols<'a>,
     jitdumps: JitDumps,
     build_ids: BuildIds,
     tables: Vec<FileTable>,
     /// The tables of mappings, by their indices.
-    of_mappings: HashMap<usize, Option<TableId>>,
+    mapping_tables: HashMap<usize, Option<TableId>>,
     /// The indices of the tables of the recording, by path.
     recorded: HashMap<Vec<u8>, usize>,
     /// The indices of the tables of files, by path and build id with a NUL between them.
-    of_files: HashMap<Vec<u8>, Option<usize>>,
+    file_tables: HashMap<Vec<u8>, Option<usize>>,
     /// The indices of the tables of processes.
-    of_processes: BTreeMap<i32, Option<usize>>,
+    process_tables: BTreeMap<i32, Option<usize>>,
 }
 
 // Reads a file into memory.
@@ -106,32 +106,32 @@ fn read_all(rt: &HostRuntime, mut file: File) -> io::Result<Option<Vec<u8>>> {
 }
 
 // Returns where the symbols of a file of the recording start.
-fn starts_of(record: &SimpleperfFileRecord) -> Starts {
+fn record_address_base(record: &SimpleperfFileRecord) -> AddressBase {
     match &record.type_specific_msg {
         Some(
             SimpleperfTypeSpecificInfo::ElfFile(_)
             | SimpleperfTypeSpecificInfo::SimpleperfDexFileInfo(_),
-        ) => Starts::FileOffsets,
-        Some(SimpleperfTypeSpecificInfo::KernelModule(_)) => Starts::MappingOffsets,
-        None => Starts::Addresses,
+        ) => AddressBase::FileOffsets,
+        Some(SimpleperfTypeSpecificInfo::KernelModule(_)) => AddressBase::MappingOffsets,
+        None => AddressBase::Addresses,
     }
 }
 
-impl Starts {
+impl AddressBase {
     // Returns the address in a table for one in a mapping, modulo 2^64.
-    fn address_of(self, address: u64, mapping: &Mapping) -> u64 {
+    fn table_address(self, address: u64, mapping: &Mapping) -> u64 {
         match self {
-            Starts::FileOffsets => address
+            AddressBase::FileOffsets => address
                 .wrapping_sub(mapping.start)
                 .wrapping_add(mapping.page_offset),
-            Starts::MappingOffsets => address.wrapping_sub(mapping.start),
-            Starts::Addresses => address,
+            AddressBase::MappingOffsets => address.wrapping_sub(mapping.start),
+            AddressBase::Addresses => address,
         }
     }
 }
 
 // Returns the process whose jitdump describes the code of a frame: the one that made its mapping.
-fn generator_of(frame: &ResolvedFrame<'_>) -> i32 {
+fn code_generator(frame: &ResolvedFrame<'_>) -> i32 {
     match frame.mapping {
         Some(mapping) => mapping.pid,
         None => frame.pid,
@@ -139,7 +139,7 @@ fn generator_of(frame: &ResolvedFrame<'_>) -> i32 {
 }
 
 // Returns the name of the symbol with an index, if there is one.
-fn name_at(table: Option<&SymbolTable>, index: usize) -> Option<&[u8]> {
+fn symbol_name(table: Option<&SymbolTable>, index: usize) -> Option<&[u8]> {
     let table = table?;
     Some(table.name(table.symbols().get(index)?))
 }
@@ -152,7 +152,7 @@ impl<'a> Symbols<'a> {
     ) -> Result<Symbols<'a>, PathError<'a>> {
         let alloc = rt.alloc();
         let directories = Directories::open(rt, options)?;
-        let kernel = ListedSymbols::open(rt, options.kernel_list)?;
+        let kernel = KernelListSymbols::open(rt, options.kernel_list)?;
         Ok(Symbols {
             rt,
             elf_files: ElfFiles::new(rt, directories),
@@ -160,10 +160,10 @@ impl<'a> Symbols<'a> {
             jitdumps: JitDumps::new(alloc),
             build_ids: BuildIds::new(alloc),
             tables: Vec::new(alloc),
-            of_mappings: HashMap::new(alloc),
+            mapping_tables: HashMap::new(alloc),
             recorded: HashMap::new(alloc),
-            of_files: HashMap::new(alloc),
-            of_processes: BTreeMap::new(alloc),
+            file_tables: HashMap::new(alloc),
+            process_tables: BTreeMap::new(alloc),
         })
     }
 
@@ -173,7 +173,7 @@ impl<'a> Symbols<'a> {
     }
 
     /// Returns why frames of the kernel have no names, if there are such frames and no option asks for it.
-    pub(crate) fn missing_kernel_list(&self) -> Option<&NoList> {
+    pub(crate) fn missing_kernel_list(&self) -> Option<&MissingKernelSymbols> {
         self.kernel.missing()
     }
 
@@ -189,7 +189,7 @@ impl<'a> Symbols<'a> {
         let alloc = self.rt.alloc();
         let index = self.add_table(FileTable {
             table: table_of_record(alloc, record)?,
-            starts: starts_of(record),
+            address_base: record_address_base(record),
             are_mangled: true,
         })?;
         let path = record.path.as_bytes().to_vec(alloc)?;
@@ -238,16 +238,16 @@ impl<'a> Symbols<'a> {
     }
 
     // Returns the key of a mapping's file: its path and its build id.
-    fn key_of(&self, mapping: &Mapping) -> Result<Vec<u8>, AllocError> {
+    fn file_key(&self, mapping: &Mapping) -> Result<Vec<u8>, AllocError> {
         let mut key = mapping.path.to_vec(self.rt.alloc())?;
         key.push(0)?;
-        key.extend_from_slice(self.build_ids.of_mapping(mapping))?;
+        key.extend_from_slice(self.build_ids.mapping_build_id(mapping))?;
         Ok(key)
     }
 
     // Reads the symbols of a mapped file.
     fn read_file(&mut self, mapping: &Mapping) -> Result<Option<usize>, AllocError> {
-        let recorded = self.build_ids.of_mapping(mapping);
+        let recorded = self.build_ids.mapping_build_id(mapping);
         let Ok(path) = str::from_utf8(mapping.path.as_slice()) else {
             return Ok(None);
         };
@@ -256,10 +256,10 @@ impl<'a> Symbols<'a> {
         }
         match self.elf_files.table(path, recorded)? {
             Some(table) => {
-                let (starts, are_mangled) = (Starts::FileOffsets, true);
+                let (address_base, are_mangled) = (AddressBase::FileOffsets, true);
                 Ok(Some(self.add_table(FileTable {
                     table,
-                    starts,
+                    address_base,
                     are_mangled,
                 })?))
             }
@@ -268,13 +268,13 @@ impl<'a> Symbols<'a> {
     }
 
     // Returns the index of the table of a mapped file.
-    fn of_file(&mut self, mapping: &Mapping) -> Result<Option<usize>, AllocError> {
-        let key = self.key_of(mapping)?;
-        if let Some(index) = self.of_files.get(key.as_slice()) {
+    fn file_table(&mut self, mapping: &Mapping) -> Result<Option<usize>, AllocError> {
+        let key = self.file_key(mapping)?;
+        if let Some(index) = self.file_tables.get(key.as_slice()) {
             return Ok(*index);
         }
         let index = self.read_file(mapping)?;
-        self.of_files.insert(key, index)?;
+        self.file_tables.insert(key, index)?;
         Ok(index)
     }
 
@@ -289,13 +289,13 @@ impl<'a> Symbols<'a> {
         else {
             return Ok(None);
         };
-        match found(read_all(self.rt, file))? {
+        match none_if_missing(read_all(self.rt, file))? {
             Some(text) => {
                 let table = parse_perf_map(self.rt.alloc(), text)?;
-                let (starts, are_mangled) = (Starts::Addresses, false);
+                let (address_base, are_mangled) = (AddressBase::Addresses, false);
                 Ok(Some(self.add_table(FileTable {
                     table,
-                    starts,
+                    address_base,
                     are_mangled,
                 })?))
             }
@@ -304,23 +304,23 @@ impl<'a> Symbols<'a> {
     }
 
     // Returns the index of the table of a process.
-    fn of_process(&mut self, pid: i32) -> Result<Option<usize>, AllocError> {
-        if let Some(index) = self.of_processes.get(&pid) {
+    fn process_table(&mut self, pid: i32) -> Result<Option<usize>, AllocError> {
+        if let Some(index) = self.process_tables.get(&pid) {
             return Ok(*index);
         }
         let index = self.read_map(pid)?;
-        self.of_processes.insert(pid, index)?;
+        self.process_tables.insert(pid, index)?;
         Ok(index)
     }
 
     // Returns the index of the table of a mapping of a process.
-    fn of_process_mapping(&mut self, mapping: &Mapping) -> Result<Option<usize>, AllocError> {
+    fn process_mapping_table(&mut self, mapping: &Mapping) -> Result<Option<usize>, AllocError> {
         if is_generated(mapping) {
-            self.of_process(mapping.pid)
+            self.process_table(mapping.pid)
         } else if is_anonymous(mapping) {
             Ok(None)
         } else {
-            self.of_file(mapping)
+            self.file_table(mapping)
         }
     }
 
@@ -337,33 +337,33 @@ impl<'a> Symbols<'a> {
             return Ok(Some(TableId::File(*index)));
         }
         match context {
-            CallContext::User => Ok(self.of_process_mapping(mapping)?.map(TableId::File)),
+            CallContext::User => Ok(self.process_mapping_table(mapping)?.map(TableId::File)),
             _ => Ok(Some(TableId::Kernel)),
         }
     }
 
     // Returns the table of the mapping with an index.
-    fn table_of(
+    fn mapping_table(
         &mut self,
         index: usize,
         mapping: &Mapping,
         context: CallContext,
     ) -> Result<Option<TableId>, AllocError> {
-        if let Some(table) = self.of_mappings.get(&index) {
+        if let Some(table) = self.mapping_tables.get(&index) {
             return Ok(*table);
         }
         let table = self.new_table(mapping, context)?;
-        self.of_mappings.insert(index, table)?;
+        self.mapping_tables.insert(index, table)?;
         Ok(table)
     }
 
     // Returns a symbol, if it has a name.
-    fn named(&self, id: SymbolId) -> Option<SymbolId> {
+    fn named_symbol(&self, id: SymbolId) -> Option<SymbolId> {
         Some(id).filter(|id| !self.name(*id).name.is_empty())
     }
 
     // Returns the index of the symbol of a table at an address of a mapping, or `None` if there is none.
-    fn find_in(
+    fn find_in_table(
         &mut self,
         table: TableId,
         mapping: &Mapping,
@@ -371,13 +371,13 @@ impl<'a> Symbols<'a> {
     ) -> Result<Option<usize>, AllocError> {
         match table {
             TableId::Kernel => {
-                let recorded = self.build_ids.of_path(KERNEL_PATH);
+                let recorded = self.build_ids.path_build_id(KERNEL_PATH);
                 self.kernel.find_index(recorded, mapping, address)
             }
             TableId::File(index) => match self.tables.get(index) {
                 Some(file) => Ok(
                     file.table
-                        .find_index(file.starts.address_of(address, mapping)),
+                        .find_index(file.address_base.table_address(address, mapping)),
                 ),
                 None => Ok(None),
             },
@@ -390,11 +390,11 @@ impl<'a> Symbols<'a> {
         let (Some(index), Some(mapping)) = (frame.index, frame.mapping) else {
             return Ok(None);
         };
-        let Some(table) = self.table_of(index, mapping, frame.frame.frame.context)? else {
+        let Some(table) = self.mapping_table(index, mapping, frame.frame.frame.context)? else {
             return Ok(None);
         };
-        let index = self.find_in(table, mapping, frame.frame.lookup_address())?;
-        Ok(index.and_then(|index| self.named(SymbolId { table, index })))
+        let index = self.find_in_table(table, mapping, frame.frame.lookup_address())?;
+        Ok(index.and_then(|index| self.named_symbol(SymbolId { table, index })))
     }
 
     // Returns the code that the process of a frame loaded at its address up to its time, or `None` if there
@@ -404,8 +404,8 @@ impl<'a> Symbols<'a> {
         let time = frame.time.unwrap_or(u64::MAX);
         let symbol = self
             .jitdumps
-            .find(&mut self.elf_files, generator_of(frame), address, time)?;
-        Ok(symbol.and_then(|symbol| self.named(symbol)))
+            .find(&mut self.elf_files, code_generator(frame), address, time)?;
+        Ok(symbol.and_then(|symbol| self.named_symbol(symbol)))
     }
 
     /// Returns the symbol of a frame, or `None` if there is none with a name.
@@ -428,8 +428,10 @@ impl<'a> Symbols<'a> {
             return false;
         };
         frame.frame.frame.context != CallContext::User
-            || matches!(self.of_mappings.get(&index), Some(Some(TableId::File(_))))
-                && !is_anonymous(mapping)
+            || matches!(
+                self.mapping_tables.get(&index),
+                Some(Some(TableId::File(_)))
+            ) && !is_anonymous(mapping)
                 && !self.jitdumps.contains(mapping.pid)
     }
 
@@ -444,13 +446,13 @@ impl<'a> Symbols<'a> {
             },
         };
         SymbolName {
-            name: name_at(table, id.index).unwrap_or(b""),
+            name: symbol_name(table, id.index).unwrap_or(b""),
             is_mangled,
         }
     }
 
     // Returns how far an address is after the start of the symbol of a table with an index, modulo 2^64.
-    fn offset_in(table: &SymbolTable, index: usize, address: u64) -> Option<u64> {
+    fn symbol_offset(table: &SymbolTable, index: usize, address: u64) -> Option<u64> {
         Some(address.wrapping_sub(table.symbols().get(index)?.start))
     }
 
@@ -461,12 +463,12 @@ impl<'a> Symbols<'a> {
         match id.table {
             TableId::Kernel => self.kernel.offset(id.index, address),
             TableId::Code { pid, .. } => {
-                Symbols::offset_in(self.jitdumps.table(pid)?, id.index, address)
+                Symbols::symbol_offset(self.jitdumps.table(pid)?, id.index, address)
             }
             TableId::File(index) => {
                 let file = self.tables.get(index)?;
-                let address = file.starts.address_of(address, frame.mapping?);
-                Symbols::offset_in(&file.table, id.index, address)
+                let address = file.address_base.table_address(address, frame.mapping?);
+                Symbols::symbol_offset(&file.table, id.index, address)
             }
         }
     }

@@ -54,7 +54,7 @@ fn push_command(alloc: Global, title: &mut Vec<u8>, perf_file: &PerfFile) -> io:
 
 /// Returns the title: the event whose samples are counted, the sum of their weights with its unit, and the
 /// command that recorded.
-pub(crate) fn title_of(
+pub(crate) fn graph_title(
     alloc: Global,
     perf_file: &PerfFile,
     selection: Selection<'_>,

@@ -109,7 +109,7 @@ impl<'a> Functions<'a> {
 }
 
 // Returns the weights of the functions of a profile.
-fn functions_of(alloc: Global, profile: &Profile) -> Result<Functions<'_>, AllocError> {
+fn function_weights(alloc: Global, profile: &Profile) -> Result<Functions<'_>, AllocError> {
     let mut functions = Functions {
         profile,
         weights: HashMap::new(alloc),
@@ -155,7 +155,7 @@ pub(crate) fn write_top<W: Write>(
     unit: &str,
     out: &mut W,
 ) -> io::Result<()> {
-    let functions = functions_of(alloc, profile)?;
+    let functions = function_weights(alloc, profile)?;
     let total = profile.sums.total().weight;
     writeln!(
         out,

@@ -4,18 +4,18 @@ use crate::options::Options;
 use crate::symbols::FileCounts;
 use crate::symbols::directories::PathError;
 use bitflags::Flags;
+use code_unwind::{ChainEnd, FrameOrigin, FrameRegisters, Machine, StackCopy, Unwinder};
 use linux_perf_data::attr::PerfEventAttr;
 use linux_perf_data::raw::{Endianness, RawData};
 use linux_perf_data::{Error, PerfFile, RawUserRecord};
-use perfdata_events::bits::{EventFlags, SampleFields};
-use perfdata_events::call_chain::{CallContext, Frame};
-use perfdata_events::fields::registers::Registers as SampleRegisters;
+use perfdata_events::call_chain::{CallContext, ChainFrame};
+use perfdata_events::registers::SampleRegisters;
 use perfdata_events::sample::SampleRecord;
+use perfdata_events::sample_bits::{EventFlags, SampleFields};
 use perfdata_events::sample_parts::UserStack;
-use perfdata_profile::resolver::set_frames;
+use perfdata_profile::resolver::resolve_frames;
 use perfdata_spaces::address_spaces::{AddressSpaces, context_of_mode};
 use perfdata_stacks::frames::SampleFrame;
-use perfdata_unwind::{ChainEnd, FrameOrigin, Machine, Registers, StackCopy, Unwinder};
 use std::alloc::AllocError;
 
 mod code;
@@ -52,7 +52,7 @@ enum SampleMachine {
 
 /// The chain of a sample.
 #[derive(Clone, Copy)]
-pub(crate) struct Chain {
+pub(crate) struct CopiedChain {
     /// The number of its frames.
     pub(crate) size: usize,
     /// Why it ends.
@@ -60,7 +60,7 @@ pub(crate) struct Chain {
 }
 
 /// The chain of a sample that isn't unwound.
-pub(crate) const NO_CHAIN: Chain = Chain {
+pub(crate) const NO_CHAIN: CopiedChain = CopiedChain {
     size: 0,
     end: ChainEnd::None,
 };
@@ -75,7 +75,7 @@ pub(crate) struct Unwinding<'a> {
     /// The mask of the registers in samples of the event whose record is next, if they are unwound.
     mask: Option<u64>,
     /// The chain of the last sample.
-    chain: Chain,
+    chain: CopiedChain,
     counts: EndCounts,
 }
 
@@ -105,7 +105,7 @@ fn machine_of_name(name: &str) -> SampleMachine {
 }
 
 // Returns the machine of a recording.
-fn machine_of(perf_file: &PerfFile) -> Result<SampleMachine, Error> {
+fn recording_machine(perf_file: &PerfFile) -> Result<SampleMachine, Error> {
     if perf_file.endian() == Endianness::BigEndian {
         return Ok(SampleMachine::Other);
     }
@@ -118,7 +118,7 @@ fn machine_of(perf_file: &PerfFile) -> Result<SampleMachine, Error> {
 // Returns the frame of a sample for a frame of user code.
 fn sample_frame(address: u64) -> SampleFrame {
     SampleFrame {
-        frame: Frame {
+        frame: ChainFrame {
             address,
             context: CallContext::User,
         },
@@ -136,14 +136,14 @@ fn set_kernel_frames(
     if sample.call_chain.is_some() || context_of_mode(misc) == CallContext::User {
         own.ip = None;
     }
-    set_frames(misc, &own, frames)
+    resolve_frames(misc, &own, frames)
 }
 
 // Returns the program counter in the registers of a sample, also of a process of 32 bits.
-fn pc_of(machine: Machine, mask: u64, registers: &SampleRegisters<'_>) -> Option<u64> {
+fn sample_pc(machine: Machine, mask: u64, registers: &SampleRegisters<'_>) -> Option<u64> {
     let mut wide = *registers;
     wide.abi = ABI_64;
-    Registers::of_sample(machine, mask, &wide)?.get(pc_number(machine))
+    FrameRegisters::from_sample(machine, mask, &wide)?.get(pc_number(machine))
 }
 
 // Returns the bytes of the stack that were copied.
@@ -207,7 +207,7 @@ impl<'a> Unwinding<'a> {
 
     /// Reads the machine and the build ids of the recording.
     pub(crate) fn read_metadata(&mut self, perf_file: &PerfFile) -> Result<(), Error> {
-        self.machine = machine_of(perf_file)?;
+        self.machine = recording_machine(perf_file)?;
         self.files.read_metadata(perf_file)
     }
 
@@ -217,7 +217,7 @@ impl<'a> Unwinding<'a> {
     }
 
     /// Sets the event of the sample that comes next.
-    pub(crate) fn set_event(&mut self, attr: &PerfEventAttr) {
+    pub(crate) fn select_event(&mut self, attr: &PerfEventAttr) {
         self.mask = if has_copies(attr) {
             Some(attr.sample_regs_user)
         } else {
@@ -236,7 +236,7 @@ impl<'a> Unwinding<'a> {
     }
 
     /// Returns the chain of the last sample.
-    pub(crate) fn chain(&self) -> Chain {
+    pub(crate) fn chain(&self) -> CopiedChain {
         self.chain
     }
 
@@ -246,7 +246,7 @@ impl<'a> Unwinding<'a> {
     }
 
     // Returns the machine of a sample: of the file at its program counter if the recording doesn't say it.
-    fn machine_of(
+    fn sample_machine(
         &mut self,
         spaces: &AddressSpaces,
         pid: i32,
@@ -259,9 +259,9 @@ impl<'a> Unwinding<'a> {
             SampleMachine::OfFile => {}
         }
         for machine in [Machine::X86_64, Machine::AArch64] {
-            if let Some(pc) = pc_of(machine, mask, registers) {
+            if let Some(pc) = sample_pc(machine, mask, registers) {
                 let mut code = ProcessCode::new(&mut self.files, spaces, pid, machine);
-                if code.machine_at(pc)? == Some(machine) {
+                if code.find_machine(pc)? == Some(machine) {
                     return Ok(Some(machine));
                 }
             }
@@ -275,7 +275,7 @@ impl<'a> Unwinding<'a> {
         spaces: &AddressSpaces,
         pid: i32,
         machine: Machine,
-        registers: &Registers,
+        registers: &FrameRegisters,
         stack: Option<UserStack<'_>>,
     ) -> Result<ChainEnd, AllocError> {
         let bytes = match stack {
@@ -300,7 +300,7 @@ impl<'a> Unwinding<'a> {
         for frame in self.unwinder.frames() {
             frames.push(sample_frame(frame.address))?;
         }
-        self.chain = Chain {
+        self.chain = CopiedChain {
             size: self.unwinder.frames().len(),
             end,
         };
@@ -318,15 +318,15 @@ impl<'a> Unwinding<'a> {
         registers: &SampleRegisters<'_>,
         frames: &mut Vec<SampleFrame>,
     ) -> Result<(), AllocError> {
-        if let Some(values) = Registers::of_sample(machine, mask, registers) {
+        if let Some(values) = FrameRegisters::from_sample(machine, mask, registers) {
             let pid = sample.task.map_or(-1, |task| task.pid);
             let end = self.unwind(spaces, pid, machine, &values, sample.user_stack)?;
             return self.push_chain(end, frames);
         }
         if registers.abi == ABI_32 {
-            if let Some(pc) = pc_of(machine, mask, registers) {
+            if let Some(pc) = sample_pc(machine, mask, registers) {
                 frames.push(sample_frame(pc))?;
-                self.chain = Chain {
+                self.chain = CopiedChain {
                     size: 1,
                     end: ChainEnd::OtherAbi,
                 };
@@ -338,7 +338,7 @@ impl<'a> Unwinding<'a> {
     /// Sets `frames` to the frames of a sample, the leaf first: those of the kernel, and those of the user
     /// code that its copy of the stack shows. A sample that isn't unwound has the frames of its chain or its
     /// instruction.
-    pub(crate) fn set_frames(
+    pub(crate) fn unwind_frames(
         &mut self,
         spaces: &AddressSpaces,
         misc: u16,
@@ -348,7 +348,7 @@ impl<'a> Unwinding<'a> {
         self.chain = NO_CHAIN;
         if let (Some(mask), Some(registers)) = (self.mask, sample.user_registers) {
             let pid = sample.task.map_or(-1, |task| task.pid);
-            if let Some(machine) = self.machine_of(spaces, pid, mask, &registers)? {
+            if let Some(machine) = self.sample_machine(spaces, pid, mask, &registers)? {
                 set_kernel_frames(misc, sample, frames)?;
                 self.push_user_frames(spaces, machine, mask, sample, &registers, frames)?;
                 if !frames.is_empty() {
@@ -356,6 +356,6 @@ impl<'a> Unwinding<'a> {
                 }
             }
         }
-        set_frames(misc, sample, frames)
+        resolve_frames(misc, sample, frames)
     }
 }

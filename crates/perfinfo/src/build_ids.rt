@@ -1,5 +1,5 @@
 //! Prints the build ids of the mapped objects, and simpleperf's symbol files.
-use crate::escape::{Escaped, Hex};
+use crate::escaped_text::{Escaped, Hex};
 use crate::report::{Report, Spaced};
 use linux_perf_data::simpleperf_dso_type::{
     DSO_DEX_FILE, DSO_ELF_FILE, DSO_KERNEL, DSO_KERNEL_MODULE, DSO_SYMBOL_MAP_FILE,

@@ -1,12 +1,12 @@
 //! Prints the events: the fields of their attributes and the counts of their records.
-use crate::escape::Escaped;
+use crate::escaped_text::Escaped;
 use crate::names::{FlagNames, event_type_name};
 use crate::records::{EventCounts, RecordCounts};
 use crate::report::{Report, Spaced};
 use bitflags::Flags;
 use linux_perf_data::attr::PerfEventAttr;
 use linux_perf_data::{AttributeDescription, PerfFile};
-use perfdata_events::bits::{EventFlags, ReadFields, SampleFields};
+use perfdata_events::sample_bits::{EventFlags, ReadFields, SampleFields};
 use std::fmt;
 use std::fmt::{Display, Write};
 

@@ -1,5 +1,5 @@
 //! Prints the machine and the recording from the feature sections of a file or pipe.
-use crate::escape::Escaped;
+use crate::escaped_text::Escaped;
 use crate::names::clock_name;
 use crate::report::Report;
 use linux_perf_data::feature_sections::PmuMappings;

@@ -1,7 +1,7 @@
 //! Prints a jitdump file: its header, its records by type, and its code.
 
 use crate::counting::{count_one, show_types, to_vec};
-use crate::escape::Escaped;
+use crate::escaped_text::Escaped;
 use crate::header_info::byte_order_name;
 use crate::names::RecordTypes;
 use crate::report::Report;

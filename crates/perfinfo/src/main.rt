@@ -3,14 +3,14 @@
 #![tactic(auto)]
 
 mod build_ids;
-mod contents;
 mod counting;
-mod escape;
+mod escaped_text;
 mod events;
 mod header_info;
 mod jit;
 mod name_records;
 mod names;
+mod record_statistics;
 mod records;
 mod report;
 
@@ -24,7 +24,7 @@ use perfdata_cli::command_line::{
     print_clap_error,
 };
 use perfdata_cli::error::{InputError, ProgramError, print_error};
-use perfdata_cli::input::{Input, InputKind, display_name, path_of};
+use perfdata_cli::input::{InputKind, OpenInput, display_name, input_path};
 use perfdata_cli::input_bytes::InputBytes;
 use perfdata_cli::progress::Progress;
 use records::RecordCounts;
@@ -79,7 +79,7 @@ fn print_report(
     header_info::show(rt.alloc(), perf_file, &mut report);
     events::show(perf_file, counts, &mut report);
     records::show(counts, &mut report);
-    contents::show(rt.alloc(), &counts.contents, &mut report);
+    record_statistics::show(rt.alloc(), &counts.statistics, &mut report);
     build_ids::show(rt.alloc(), perf_file, &mut report);
     report.finish()
 }
@@ -120,7 +120,7 @@ fn print_jit_report(
 
 // Prints the report on the input at a path.
 fn report_input(rt: &HostRuntime, path: &str) -> Result<(), ProgramError> {
-    let input = Input::open(rt, path).map_err(InputError::Io)?;
+    let input = OpenInput::open(rt, path).map_err(InputError::Io)?;
     let kind = input.kind.ok_or(InputError::UnknownFormat)?;
     let size = input.size;
     let source = input.into_source(rt.alloc()).map_err(InputError::Io)?;
@@ -146,7 +146,7 @@ fn parse(alloc: Global, words: &[String]) -> Result<ArgMatches<'_>, Error> {
 
 // Reports on the input that the arguments name. Returns the exit status.
 fn run(rt: &HostRuntime, matches: &ArgMatches<'_>) -> u8 {
-    let path = path_of(rt, matches.get_str(FILE));
+    let path = input_path(rt, matches.get_str(FILE));
     match report_input(rt, path) {
         Ok(()) => SUCCESS,
         Err(error) => print_error(rt, NAME, display_name(path), &error),

@@ -2,7 +2,7 @@
 use crate::counting::to_vec;
 use linux_perf_data::raw::RawData;
 use perfdata_events::event::EventRecord;
-use perfdata_events::fields::task::Task;
+use perfdata_events::sample_id::Task;
 use perfdata_events::task::{CommOrExecRecord, ForkOrExitRecord};
 use std::alloc::{AllocError, Global};
 
@@ -48,7 +48,7 @@ impl NameRecord {
 }
 
 // Returns the time of a record.
-fn time_of(record: &NameRecord) -> u64 {
+fn record_time(record: &NameRecord) -> u64 {
     record.time
 }
 
@@ -116,7 +116,7 @@ impl NameRecords {
     /// Returns the records in order of time. Those with equal times have the order in which they were added.
     pub(crate) fn into_order(self) -> Result<Vec<NameRecord>, AllocError> {
         let NameRecords { mut records, .. } = self;
-        records.sort_by_key(time_of)?;
+        records.sort_by_key(record_time)?;
         Ok(records)
     }
 }

@@ -1,8 +1,8 @@
 //! Counts the records by event and by type.
 
-use crate::contents::Contents;
 use crate::counting::{count_one, show_types};
 use crate::names::RecordTypes;
+use crate::record_statistics::RecordStatistics;
 use crate::report::Report;
 use linux_perf_data::event::{RawEventRecord, RecordType};
 use linux_perf_data::source::Source;
@@ -63,7 +63,7 @@ pub struct RecordCounts {
     aux_bytes: u64,
     end: u64,
     /// What the bodies of kernel records contain.
-    pub contents: Contents,
+    pub statistics: RecordStatistics,
 }
 
 impl RecordCounts {
@@ -77,7 +77,7 @@ impl RecordCounts {
             rounds: 0,
             aux_bytes: 0,
             end: 0,
-            contents: Contents::new(alloc),
+            statistics: RecordStatistics::new(alloc),
         }
     }
 
@@ -110,7 +110,8 @@ impl RecordCounts {
     fn add_formats(&mut self, perf_file: &PerfFile) -> Result<(), AllocError> {
         let added = perf_file.event_attributes().get(self.formats.len()..);
         for event in added.unwrap_or(&[]) {
-            self.formats.push(event.attributes(), perf_file.endian())?;
+            self.formats
+                .push_with_little_endian_flags(event.attributes(), perf_file.endian())?;
         }
         Ok(())
     }
@@ -124,7 +125,7 @@ impl RecordCounts {
         record: &RawEventRecord<'_>,
     ) -> Result<(), AllocError> {
         if let Some(format) = self.formats.get(index) {
-            self.contents.add(alloc, format, timestamp, record)?;
+            self.statistics.add(alloc, format, timestamp, record)?;
         }
         self.count_for_event(index, record.record_type, timestamp)
     }
@@ -191,7 +192,7 @@ impl RecordCounts {
         progress: &mut Progress<'_>,
     ) -> Result<(), Error> {
         let added = self.add_all(alloc, reader, progress);
-        self.contents.name_threads(alloc)?;
+        self.statistics.name_threads(alloc)?;
         added
     }
 
@@ -209,7 +210,7 @@ impl RecordCounts {
         };
         match read {
             Ok(()) => Ok(()),
-            Err(cause) => Err(InputError::at(position, cause)),
+            Err(cause) => Err(InputError::with_position(position, cause)),
         }
     }
 }

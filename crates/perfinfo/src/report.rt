@@ -1,5 +1,5 @@
 //! Writes the report: one `name: value` pair a line, with indented lists.
-use crate::escape::Escaped;
+use crate::escaped_text::Escaped;
 use linux_perf_data::Error;
 use perfdata_cli::error::{InputError, ProgramError};
 use std::alloc::Global;

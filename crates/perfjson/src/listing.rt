@@ -2,12 +2,12 @@
 use crate::options::Options;
 use crate::tracked_line::TrackedLine;
 use perfdata_cli::error::{InputError, ProgramError};
-use perfdata_cli::input::{Input, open_in_memory};
+use perfdata_cli::input::{OpenInput, open_in_memory};
 use perfdata_cli::position::Position;
 use perfdata_cli::progress::Progress;
 use perfdata_json::JsonLine;
 use perfdata_listing::{
-    CountingBufWriter, ListCause, ListFault, list_by_time, list_file_by, list_live_pipe_by,
+    CountingBufWriter, ListCause, ListFault, list_by_time, list_file_lines, list_live_pipe_lines,
 };
 use std::io::Write;
 use std::rt::Stdout;
@@ -21,7 +21,7 @@ pub(crate) fn list_input(
     options: &Options<'_>,
     path: &str,
 ) -> Result<(), ProgramError> {
-    let input = Input::open(rt, path).map_err(InputError::Io)?;
+    let input = OpenInput::open(rt, path).map_err(InputError::Io)?;
     let is_pipe = input.is_pipe()?;
     if options.is_by_time {
         list_input_by_time(rt, options.byte_limit, input, is_pipe)
@@ -39,7 +39,7 @@ fn output(rt: &HostRuntime) -> Result<Output, InputError> {
 fn list_in_place(
     rt: &HostRuntime,
     byte_limit: usize,
-    input: Input,
+    input: OpenInput,
     is_pipe: bool,
 ) -> Result<(), ProgramError> {
     let progress = Progress::beside_output(rt, input.size);
@@ -47,9 +47,9 @@ fn list_in_place(
     let mut out = output(rt)?;
     let source = input.into_source(rt.alloc()).map_err(InputError::Io)?;
     let listed = if is_pipe {
-        list_live_pipe_by(rt.alloc(), source, &mut line, &mut out)
+        list_live_pipe_lines(rt.alloc(), source, &mut line, &mut out)
     } else {
-        list_file_by(rt.alloc(), source, &mut line, &mut out)
+        list_file_lines(rt.alloc(), source, &mut line, &mut out)
     };
     let position = line.finish();
     finish(listed, position, &mut out)
@@ -59,7 +59,7 @@ fn list_in_place(
 fn list_input_by_time(
     rt: &HostRuntime,
     byte_limit: usize,
-    input: Input,
+    input: OpenInput,
     is_pipe: bool,
 ) -> Result<(), ProgramError> {
     let bytes = input.into_bytes().map_err(InputError::Io)?;
@@ -68,14 +68,14 @@ fn list_input_by_time(
     let mut line = JsonLine::new(rt.alloc(), byte_limit);
     let listed = list_by_time(rt.alloc(), reader, &mut line, &mut out);
     let position = Position {
-        records: lines_of(&listed),
+        records: line_count(&listed),
         offset: None,
     };
     finish(listed, position, &mut out)
 }
 
 // Returns the number of lines of a listing.
-fn lines_of(listed: &Result<u64, ListFault>) -> u64 {
+fn line_count(listed: &Result<u64, ListFault>) -> u64 {
     match listed {
         Ok(lines) => *lines,
         Err(fault) => fault.lines,
@@ -93,7 +93,7 @@ fn finish(
         Ok(_) => out.flush().map_err(ProgramError::Output),
         Err(fault) => match fault.cause {
             ListCause::Write(error) => Err(ProgramError::Output(error)),
-            ListCause::Perf(error) => flush_before(InputError::at(position, error), out),
+            ListCause::Perf(error) => flush_before(InputError::with_position(position, error), out),
             ListCause::Jit(error) => flush_before(InputError::JitHeader(error), out),
             ListCause::Read(error) => flush_before(InputError::Io(error), out),
         },

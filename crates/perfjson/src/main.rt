@@ -9,7 +9,7 @@ use listing::list_input;
 use options::{Options, parse};
 use perfdata_cli::command_line::{SUCCESS, arguments, print_argument_error, print_clap_error};
 use perfdata_cli::error::print_error;
-use perfdata_cli::input::{display_name, path_of};
+use perfdata_cli::input::{display_name, input_path};
 use std::process::ExitCode;
 
 // The program's name.
@@ -17,7 +17,7 @@ const NAME: &str = "perfjson";
 
 // Lists the input that the options name. Returns the exit status.
 fn run(rt: &HostRuntime, options: &Options<'_>) -> u8 {
-    let path = path_of(rt, options.file);
+    let path = input_path(rt, options.file);
     match list_input(rt, options, path) {
         Ok(()) => SUCCESS,
         Err(error) => print_error(rt, NAME, display_name(path), &error),

@@ -6,7 +6,7 @@ use linux_perf_data::{Error, PerfFile, PerfFileRecord, RecordPlace};
 use perfdata_cli::position::Position;
 use perfdata_cli::progress::Progress;
 use perfdata_json::JsonLine;
-use perfdata_listing::RecordLine;
+use perfdata_listing::LineFormat;
 
 /// The line of a record as JSON, which remembers where the record ends.
 #[derive(Drop)]
@@ -33,7 +33,7 @@ impl<'a> TrackedLine<'a> {
     }
 }
 
-impl RecordLine for TrackedLine<'_> {
+impl LineFormat for TrackedLine<'_> {
     ghost is_line = { IsLineOf };
 
     ghost allocates = { true };

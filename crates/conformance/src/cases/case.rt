@@ -46,32 +46,32 @@ impl<'a> Case<'a> {
     pub fn number(&self, name: &str) -> CaseResult<Option<u64>> {
         match self.option(name) {
             None => Ok(None),
-            Some(value) => Ok(Some(number_of(value)?)),
+            Some(value) => Ok(Some(parse_number(value)?)),
         }
     }
 
     /// The value of an option as a size; `default` if there is no such option.
     pub fn size(&self, name: &str, default: usize) -> CaseResult<usize> {
-        self.option(name).map_or(Ok(default), size_of)
+        self.option(name).map_or(Ok(default), parse_size)
     }
 
     /// The value of an option as a number of 32 bits; 0 if there is no such option.
     pub fn u32(&self, name: &str) -> CaseResult<u32> {
-        u32_of(self.number(name)?.unwrap_or(0))
+        to_u32(self.number(name)?.unwrap_or(0))
     }
 
     /// The value of an option as numbers with a comma between them; none if there is no such option.
     pub fn numbers(&self, alloc: Global, name: &str) -> CaseResult<Vec<u64>> {
         let mut numbers = Vec::new(alloc);
         for value in self.option(name).unwrap_or("").split_terminator(',') {
-            numbers.push(number_of(value)?)?;
+            numbers.push(parse_number(value)?)?;
         }
         Ok(numbers)
     }
 }
 
 /// A number, decimal or hexadecimal after `0x`.
-pub fn number_of(word: &str) -> CaseResult<u64> {
+pub fn parse_number(word: &str) -> CaseResult<u64> {
     let number = match word.strip_prefix("0x") {
         Some(digits) => u64::from_str_radix(digits, 16),
         None => word.parse::<u64>(),
@@ -80,8 +80,8 @@ pub fn number_of(word: &str) -> CaseResult<u64> {
 }
 
 /// A number as a size; the largest size if the number is larger.
-pub fn size_of(word: &str) -> CaseResult<usize> {
-    Ok(usize::try_from(number_of(word)?).unwrap_or(usize::MAX))
+pub fn parse_size(word: &str) -> CaseResult<usize> {
+    Ok(usize::try_from(parse_number(word)?).unwrap_or(usize::MAX))
 }
 
 /// The name and the argument of `NAME(ARGUMENT)`. The argument is empty if there are no parentheses.
@@ -93,10 +93,10 @@ pub fn split_argument(word: &str) -> (&str, &str) {
 /// The number and the rest of `N*REST`. The number is 1 if there is none.
 pub fn split_count(word: &str) -> CaseResult<(usize, &str)> {
     let (count, rest) = word.split_once('*').unwrap_or(("1", word));
-    Ok((size_of(count)?, rest))
+    Ok((parse_size(count)?, rest))
 }
 
 /// A number of 32 bits.
-pub fn u32_of(number: u64) -> CaseResult<u32> {
+pub fn to_u32(number: u64) -> CaseResult<u32> {
     u32::try_from(number).map_err(|_| CaseError::Invalid("a number above 32 bits"))
 }

@@ -1,10 +1,10 @@
 //! The result of a case, whose call is made once, or once for each length, read, seek or split of its input.
-use crate::cases::case::{Case, number_of, split_argument};
+use crate::cases::case::{Case, parse_number, split_argument};
 use crate::cases::case_error::{CaseError, CaseResult};
-use crate::cases::ranges::lines_of;
+use crate::cases::ranges::result_lines;
 use crate::cases::source_steps::{error_kind, parse_steps};
 use crate::cases::text::Output;
-use crate::cases::values::{Scope, Value, values_of};
+use crate::cases::values::{Scope, Value, parse_values};
 use crate::{formats, reader};
 use perfdata_base::raw::{Endianness, RawData};
 use perfdata_base::source::{Script, Step};
@@ -153,13 +153,13 @@ fn call_each(call: &Call<'_>, how: Variation) -> CaseResult<String> {
         }
         results.push((number as u64, outcome))?;
     }
-    lines_of(alloc, &results)
+    result_lines(alloc, &results)
 }
 
 // The results of a case for one byte order and turn.
 fn outcome_in(case: Case<'_>, scope: Scope<'_>) -> CaseResult<String> {
     let alloc = scope.alloc;
-    let values = values_of(scope, case.input)?;
+    let values = parse_values(scope, case.input)?;
     let steps = case.option("each-read").or(case.option("source"));
     let steps = parse_steps(alloc, steps.unwrap_or(""))?;
     let Some((first, others)) = values.split_first() else {
@@ -191,19 +191,19 @@ fn outcomes_in(case: Case<'_>, mut scope: Scope<'_>) -> CaseResult<String> {
     };
     let (first, last) = range.split_once("..").unwrap_or((range, range));
     let mut results = Vec::new(scope.alloc);
-    for number in number_of(first)?..=number_of(last)? {
+    for number in parse_number(first)?..=parse_number(last)? {
         scope.turn = number;
         let ending = format!(in scope.alloc; " {number}\n")?;
         let outcome = outcome_in(case, scope)?;
         let outcome = outcome.replace(scope.alloc, ending.as_str(), " N\n")?;
         results.push((number, outcome))?;
     }
-    lines_of(scope.alloc, &results)
+    result_lines(scope.alloc, &results)
 }
 
 /// The result of a case. With the option `each-order` it is the result for both byte orders, or both results
 /// if they differ.
-pub fn outcome_of(case: Case<'_>, mut scope: Scope<'_>) -> CaseResult<String> {
+pub fn case_outcome(case: Case<'_>, mut scope: Scope<'_>) -> CaseResult<String> {
     if case.has("big-endian") {
         scope.endian = Endianness::BigEndian;
     }

@@ -4,7 +4,7 @@ use std::alloc::Global;
 use std::fmt::Write;
 
 /// The results of numbers as lines `FIRST..LAST: RESULT`, where `; ` stands between the lines of a result.
-pub fn lines_of(alloc: Global, results: &[(u64, String)]) -> CaseResult<String> {
+pub fn result_lines(alloc: Global, results: &[(u64, String)]) -> CaseResult<String> {
     let mut text = String::new(alloc);
     for range in results.chunk_by(|one, next| one.1 == next.1) {
         if let [(first, outcome), ..] = range {

@@ -1,7 +1,7 @@
 //! Runs the cases of the files that the arguments name, and compares their results.
 use crate::cases::case::Case;
 use crate::cases::case_error::CaseResult;
-use crate::cases::outcome::outcome_of;
+use crate::cases::outcome::case_outcome;
 use crate::cases::values::{Definition, Scope};
 use perfdata_base::raw::Endianness;
 use std::process::ExitCode;
@@ -71,7 +71,7 @@ impl<'a> Runner<'a> {
             endian: Endianness::LittleEndian,
             turn: 0,
         };
-        let outcome = match outcome_of(case, scope) {
+        let outcome = match case_outcome(case, scope) {
             Ok(outcome) => outcome,
             Err(error) => format!(in rt.alloc(); "invalid case: {}\n", error.reason())?,
         };

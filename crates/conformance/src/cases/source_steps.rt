@@ -1,5 +1,5 @@
 //! The steps of a source, as text.
-use crate::cases::case::{size_of, split_argument, split_count};
+use crate::cases::case::{parse_size, split_argument, split_count};
 use crate::cases::case_error::{CaseError, CaseResult};
 use perfdata_base::source::Step;
 use std::alloc::Global;
@@ -25,9 +25,9 @@ pub fn error_kind(name: &str) -> CaseResult<ErrorKind> {
 fn step_of(word: &str) -> CaseResult<Step> {
     match split_argument(word) {
         ("fail", kind) => Ok(Step::Fault(error_kind(kind)?)),
-        ("grow", count) => Ok(Step::Grow(size_of(count)?)),
+        ("grow", count) => Ok(Step::Grow(parse_size(count)?)),
         ("pause" | "stop", _) => Ok(Step::Pause),
-        _ => Ok(Step::Give(size_of(word)?)),
+        _ => Ok(Step::Give(parse_size(word)?)),
     }
 }
 

@@ -1,5 +1,5 @@
 //! The values of an input: bytes and numbers, which its words stand for.
-use crate::cases::case::{number_of, split_argument};
+use crate::cases::case::{parse_number, split_argument};
 use crate::cases::case_error::{CaseError, CaseResult};
 use perfdata_base::raw::Endianness;
 use std::alloc::Global;
@@ -71,7 +71,7 @@ impl Value {
                 value.number = word.parse::<u64>().ok();
                 Ok(value)
             }
-            _ => Ok(Value::of_number(alloc, number_of(word)?)),
+            _ => Ok(Value::of_number(alloc, parse_number(word)?)),
         }
     }
 
@@ -344,7 +344,7 @@ impl<'a> Reader<'a> {
 }
 
 /// The values of a text, between which commas stand. A text without a comma has one.
-pub fn values_of(scope: Scope<'_>, text: &str) -> CaseResult<Vec<Value>> {
+pub fn parse_values(scope: Scope<'_>, text: &str) -> CaseResult<Vec<Value>> {
     let mut reader = Reader {
         scope,
         parameters: "",

@@ -17,7 +17,10 @@ pub fn period_sum<C: PlacedSource + Drop>(alloc: Global, file: C) -> Result<u64,
         if let PerfFileRecord::EventRecord { attr_index, event } = record
             && let Some(description) = perf_file.event_attributes().get(attr_index)
         {
-            let format = EventFormat::new(description.attributes(), perf_file.endian());
+            let format = EventFormat::with_little_endian_flags(
+                description.attributes(),
+                perf_file.endian(),
+            );
             if let EventRecord::Sample(sample) = format.parse(&event)? {
                 sum = sum.saturating_add(sample.period.unwrap_or(0));
             }

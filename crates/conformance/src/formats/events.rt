@@ -45,7 +45,7 @@ fn push_event(alloc: Global, out: &mut Output, event: &io::Result<EventRecord<'_
 /// Makes the call of a case, if this module has it. The input is the body of a record, or numbers.
 pub fn call(call: &Call<'_>, out: &mut Output) -> CaseResult<bool> {
     let attr = attr_of(call)?;
-    let format = EventFormat::new(&attr, call.input.endian);
+    let format = EventFormat::with_little_endian_flags(&attr, call.input.endian);
     let record = RawEventRecord {
         record_type: RecordType(call.case.u32("type")?),
         misc: (call.case.u32("misc")? & 0xffff) as u16,

@@ -1,5 +1,5 @@
 //! Lists of calls, and results that several calls print.
-use crate::cases::{Call, CaseError, CaseResult, Output, size_of, split_argument, split_count};
+use crate::cases::{Call, CaseError, CaseResult, Output, parse_size, split_argument, split_count};
 use std::alloc::Global;
 use std::hash::{DefaultHasher, Hash, Hasher};
 
@@ -29,7 +29,7 @@ impl<'a> Step<'a> {
 
     /// The argument as a number.
     pub fn number(&self) -> CaseResult<usize> {
-        size_of(self.argument)
+        parse_size(self.argument)
     }
 }
 

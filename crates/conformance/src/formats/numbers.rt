@@ -1,6 +1,6 @@
 //! Values that are made of numbers: record types, CPU modes, features and their sets, sample formats, and the
 //! id cache.
-use crate::cases::{Call, CaseError, CaseResult, Output, number_of, size_of, u32_of};
+use crate::cases::{Call, CaseError, CaseResult, Output, parse_number, parse_size, to_u32};
 use crate::formats::lists::{Step, UNKNOWN_CALL, equalities, steps};
 use bitflags::Flags;
 use perfdata_base::attr::{AttrFlags, SampleFormat};
@@ -20,9 +20,9 @@ pub fn call(call: &Call<'_>, out: &mut Output) -> CaseResult<bool> {
         "SampleFormat" => push_format(call, out)?,
         name => {
             let numbers = call.case.numbers(call.alloc, "numbers")?;
-            let first = u32_of(numbers.first().copied().unwrap_or(0))?;
+            let first = to_u32(numbers.first().copied().unwrap_or(0))?;
             for number in numbers.iter() {
-                if !push_of_number(name, first, u32_of(*number)?, out) {
+                if !push_of_number(name, first, to_u32(*number)?, out) {
                     return Ok(false);
                 }
             }
@@ -81,7 +81,7 @@ fn push_set(call: &Call<'_>, out: &mut Output) -> CaseResult {
             out.push_line(&members.next());
             continue;
         }
-        let feature = Feature(u32_of(number_of(step.argument)?)?);
+        let feature = Feature(to_u32(parse_number(step.argument)?)?);
         match step.name {
             "has_feature" => out.push_line(&set.has_feature(feature)),
             "insert" => {
@@ -101,8 +101,8 @@ fn push_cached(call: &Call<'_>, out: &mut Output) -> CaseResult {
         let step = Step::parse(call.alloc, word)?;
         let (id, index) = step.argument.split_once(',').unwrap_or((step.argument, ""));
         match step.name {
-            "put" => cache.put(number_of(id)?, size_of(index)?),
-            "get" => out.push_line(&cache.get(number_of(id)?)),
+            "put" => cache.put(parse_number(id)?, parse_size(index)?),
+            "get" => out.push_line(&cache.get(parse_number(id)?)),
             "clear" => cache.clear(),
             _ => return Err(UNKNOWN_CALL),
         }

@@ -77,10 +77,10 @@ fn push_info<T: FileOrder>(call: &Call<'_>, out: &mut Output) -> CaseResult<bool
         ("get_record_identifier", _) => get_record_identifier::<T>(record_type, body, has_ids),
         ("get_record_timestamp", Ok(info)) => get_record_timestamp::<T>(record_type, body, &info),
         ("get_record_id", Ok(info)) => get_record_id::<T>(record_type, body, &info.id_parse_info),
-        ("time_of", Ok(info)) => info.time_of(record_type, bytes),
-        ("identifier_of", Ok(info)) => {
+        ("read_time", Ok(info)) => info.read_time(record_type, bytes),
+        ("read_identifier", Ok(info)) => {
             let ids = info.id_parse_info;
-            ids.identifier_of(info.endian, record_type, bytes)
+            ids.read_identifier(info.endian, record_type, bytes)
         }
         _ => return Ok(false),
     };

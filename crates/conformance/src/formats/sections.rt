@@ -133,9 +133,9 @@ fn push_parsed<T: FileOrder>(call: &Call<'_>, out: &mut Output) -> CaseResult<bo
         },
         "RawUserRecord::parse" => push_user_record(call, out)?,
         "before_nul" => out.push_line(&before_nul(call.input.bytes)),
-        "BuildIdEvent::read_from_in" => {
+        "BuildIdEvent::read_with_endian" => {
             let mut bytes = call.input.bytes;
-            let entry = BuildIdEvent::read_from_in(call.alloc, call.input.endian, &mut bytes);
+            let entry = BuildIdEvent::read_with_endian(call.alloc, call.input.endian, &mut bytes);
             out.push_io_result(&entry.map_err(io::Error::from));
             push_left(out, bytes.len() as u64);
         }

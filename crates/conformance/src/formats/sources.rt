@@ -1,5 +1,5 @@
 //! Bytes in one slice or in two, and sources of each type.
-use crate::cases::{Call, CaseError, CaseResult, Output, number_of, size_of};
+use crate::cases::{Call, CaseError, CaseResult, Output, parse_number, parse_size};
 use crate::formats::lists::{Step, UNKNOWN_CALL, steps};
 use perfdata_base::raw::{FileOrder, RawData};
 use perfdata_base::source::*;
@@ -50,7 +50,10 @@ fn push_raw_call<T: FileOrder>(
         "as_slice" => out.push_raw(step.alloc, Ok(Some(*bytes))),
         "get" => {
             let (start, end) = step.argument.split_once("..").unwrap_or(("", ""));
-            out.push_raw(step.alloc, Ok(bytes.get(size_of(start)?..size_of(end)?)));
+            out.push_raw(
+                step.alloc,
+                Ok(bytes.get(parse_size(start)?..parse_size(end)?)),
+            );
         }
         "split_off_prefix" => {
             let prefix = bytes.split_off_prefix(step.number()?);
@@ -158,7 +161,7 @@ fn push_placed<S: PlacedSource>(call: &Call<'_>, source: &mut S, out: &mut Outpu
 // The target of a seek: `start(N)`, `current(N)` or `end(N)`.
 fn seek_of(step: Step<'_>) -> CaseResult<Option<SeekFrom>> {
     Ok(Some(match step.name {
-        "start" => SeekFrom::Start(number_of(step.argument)?),
+        "start" => SeekFrom::Start(parse_number(step.argument)?),
         "current" => SeekFrom::Current(offset_of(step.argument)?),
         "end" => SeekFrom::End(offset_of(step.argument)?),
         _ => return Ok(None),

@@ -6,7 +6,7 @@ use crate::reader::sources::{SourceCall, push_sources};
 use linux_perf_data::in_memory::InMemoryReader;
 use linux_perf_data::jitdump::JitDumpError;
 use linux_perf_data::source::PlacedSource;
-use perfdata_listing::line::Line;
+use perfdata_listing::line::ListingLine;
 use perfdata_listing::list::{ListCause, ListFault, list_file, list_pipe};
 use perfdata_listing::{list_by_time, list_jit, list_live_jit, list_live_pipe};
 use std::io::Cursor;
@@ -60,7 +60,7 @@ fn list_in_order(call: &Call<'_>, sink: &mut Sink) -> Result<u64, ListFault> {
         true => InMemoryReader::parse_pipe(call.alloc, call.input.bytes),
     };
     match opened {
-        Ok(reader) => list_by_time(call.alloc, reader, &mut Line::new(), sink),
+        Ok(reader) => list_by_time(call.alloc, reader, &mut ListingLine::new(), sink),
         Err(error) => Err(ListFault {
             lines: 0,
             cause: ListCause::Perf(error),

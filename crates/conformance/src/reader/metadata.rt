@@ -1,5 +1,5 @@
 //! The accessors of the metadata of files and pipes.
-use crate::cases::{Call, CaseError, CaseResult, Output, u32_of};
+use crate::cases::{Call, CaseError, CaseResult, Output, to_u32};
 use crate::reader::reading::{is_pipe, metadata_after};
 use linux_perf_data::{AttributeDescription, Error, Feature, PerfFile};
 use std::alloc::Global;
@@ -93,7 +93,7 @@ fn push_id_count(attributes: &[AttributeDescription], out: &mut Output) {
 // Appends the data of the features that the option `feature` names, or their sizes with the option `count`.
 fn push_sections(call: &Call<'_>, perf_file: &PerfFile, out: &mut Output) -> CaseResult {
     for number in call.case.numbers(call.alloc, "feature")?.iter() {
-        match perf_file.feature_section_data(Feature(u32_of(*number)?)) {
+        match perf_file.feature_section_data(Feature(to_u32(*number)?)) {
             Some(bytes) if call.case.has("count") => out.push_line(&bytes.len()),
             data => out.push_line(&data),
         }

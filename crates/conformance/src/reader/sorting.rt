@@ -1,5 +1,5 @@
 //! Calls of a sorter.
-use crate::cases::{Call, CaseResult, Output, number_of};
+use crate::cases::{Call, CaseResult, Output, parse_number};
 use perfdata_order::sorter::Sorter;
 
 // A sorter whose values are their keys and the indices of their insertion.
@@ -24,7 +24,7 @@ fn push_call(sorter: &mut Keys, index: usize, word: &str, out: &mut Output) -> C
         "has_more" => out.push_line(&sorter.has_more()),
         "is_empty" => out.push_line(&sorter.is_empty()),
         _ => {
-            let key = number_of(word)?;
+            let key = parse_number(word)?;
             sorter.insert_unordered(key, (key, index))?;
         }
     }

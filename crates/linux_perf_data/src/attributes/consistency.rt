@@ -49,7 +49,7 @@ pub(crate) fn first_without_identifier(attributes: &[AttributeDescription]) -> O
 }
 
 // The same with one more attribute, at `index`. `before` is the result for the attributes before it.
-pub(crate) fn first_without_identifier_with(
+pub(crate) fn next_without_identifier(
     before: Option<usize>,
     attr: &PerfEventAttr,
     index: usize,

@@ -32,7 +32,7 @@ impl FirstIdIndex {
     }
 
     // The last attribute with this first id.
-    pub(crate) fn last_with(&self, id: u64) -> Option<usize>
+    pub(crate) fn last_index(&self, id: u64) -> Option<usize>
         ensures { result ≡ get nat_cmp self.now.last id }
     {
         match self.last.get(&id) {
@@ -58,7 +58,7 @@ impl FirstIdIndex {
             return Ok(());
         }
         let index = self.previous.len();
-        let previous = self.last_with(ids[0]);
+        let previous = self.last_index(ids[0]);
         self.previous.try_reserve(1)?;
         self.last.insert(ids[0], index)?;
         self.previous.push(previous)?;

@@ -30,7 +30,7 @@ fn push_ids(pairs: &mut Vec<(u64, usize)>, ids: &[u64], index: usize) -> Result<
 }
 
 // The id pairs of all attributes.
-fn id_pairs_of(
+fn collect_id_pairs(
     alloc: Global,
     attributes: &[AttributeDescription],
 ) -> Result<Vec<(u64, usize)>, AllocError>
@@ -98,7 +98,7 @@ impl IdTable {
         ensures { IfOk result (λ t. (id : ℕ) → id_lookup t id
             ≡ last_index_of_id id 0 (described_attributes attributes.now)) }
     {
-        let mut pairs = id_pairs_of(alloc, attributes)?;
+        let mut pairs = collect_id_pairs(alloc, attributes)?;
         sort_pairs(&mut pairs);
         let pairs = last_of_each(alloc, &pairs)?;
         Ok(IdTable {
@@ -126,7 +126,7 @@ impl IdTable {
     }
 
     // Whether the pair at index `at` exists and is that of the identifier.
-    fn is_at(&self, id: u64, at: usize) -> bool
+    fn has_pair(&self, id: u64, at: usize) -> bool
         ensures { TestsPairAt self.now.pairs.items id at result }
     {
         at < self.pairs.len() && self.pairs[at].0 == id
@@ -137,7 +137,7 @@ impl IdTable {
         ensures { result ≡ id_lookup_in_pairs self.now id }
     {
         let at = self.insertion_point(id);
-        if self.is_at(id, at) {
+        if self.has_pair(id, at) {
             let (_, index) = self.pairs[at];
             Some(index)
         } else {

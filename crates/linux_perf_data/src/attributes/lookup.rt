@@ -5,7 +5,7 @@ ghost use Rattle.linux_perf_data.specs.Descriptions.{described_attributes, Colle
 ghost use Rattle.linux_perf_data.specs.IdBounds.{CacheIndicesBelow, ResolvesIds, TableIndicesBelow};
 
 use crate::attributes::consistency::{
-    first_without_identifier, first_without_identifier_with, has_identifier,
+    first_without_identifier, has_identifier, next_without_identifier,
 };
 use crate::attributes::id_table::IdTable;
 use perfdata_base::attr::PerfEventAttr;
@@ -119,7 +119,7 @@ impl AttributeLookup {
         let index = self.parse_infos.len();
         self.parse_infos.push(RecordParseInfo::new(attr, endian))?;
         self.table.insert_all(ids, index)?;
-        self.first_without_identifier = first_without_identifier_with(
+        self.first_without_identifier = next_without_identifier(
             self.first_without_identifier,
             attr,
             index,
@@ -149,7 +149,7 @@ impl AttributeLookup {
 
     // The index of the attribute of a kernel record with this body.
     #[inline(always)]
-    pub(crate) fn attr_index_of(&mut self, record_type: RecordType, body: &[u8]) -> usize
+    pub(crate) fn find_attr_index(&mut self, record_type: RecordType, body: &[u8]) -> usize
         ensures resolves { ResolvesEvent self.old record_type.0 body.now result self.new }
         ensures keeps_attributes { KeepsAttributes self.old self.new }
     {
@@ -157,7 +157,7 @@ impl AttributeLookup {
             return 0;
         }
         let ids = self.first_parse_info.id_parse_info;
-        match ids.identifier_of(self.first_parse_info.endian, record_type, body) {
+        match ids.read_identifier(self.first_parse_info.endian, record_type, body) {
             Some(id) => self.attr_index_by_id(id),
             None => 0,
         }
@@ -166,7 +166,7 @@ impl AttributeLookup {
     // The parse info of the records of the attribute with this index, or that of attribute 0 if the index is
     // out of range.
     #[inline(always)]
-    pub(crate) fn parse_info_of(&self, index: usize) -> &RecordParseInfo
+    pub(crate) fn parse_info(&self, index: usize) -> &RecordParseInfo
         ensures { result.now ≡ parse_info_at self.now index }
     {
         match self.parse_infos.as_slice().get(index) {

@@ -44,7 +44,7 @@ fn push_rename(
 }
 
 // Appends the names that `table` gives the attributes with this first id.
-fn push_renames_of(
+fn push_chain_renames(
     alloc: Global,
     attributes: &[AttributeDescription],
     first_ids: &FirstIdIndex,
@@ -56,7 +56,7 @@ fn push_renames_of(
     ensures { AppendsRenames attributes.now table.now
         (HasOtherFirstId attributes.now id) renames.old.items result renames.new.items }
 {
-    let mut next = first_ids.last_with(id);
+    let mut next = first_ids.last_index(id);
     'chain: while let Some(index) = next {
         push_rename(alloc, attributes, table, index, renames)?;
         next = first_ids.previous(index);
@@ -82,7 +82,7 @@ fn push_changed(
     'ids: for id in listed.index_by_first_id.keys() {
         let ids = [*id];
         if !is_same_name(new.get(&ids), old.get(&ids)) {
-            push_renames_of(alloc, attributes, first_ids, new, *id, renames)?;
+            push_chain_renames(alloc, attributes, first_ids, new, *id, renames)?;
         }
     }
     Ok(())

@@ -6,7 +6,7 @@ ghost use Rattle.linux_perf_data.specs.RecordEntries.{record_entry_at};
 ghost use Rattle.linux_perf_data.specs.RecordViews.{record_view_of};
 
 use crate::in_memory::InMemoryRecords;
-use crate::in_memory::file_walk::{FileWalk, WholeRecord, in_order, with_sample_time};
+use crate::in_memory::file_walk::{FileWalk, WholeRecord, with_known_endian, with_sample_time};
 use crate::perf_file::PerfFile;
 use crate::records::iter::RecordPlace;
 use byteorder::{BigEndian, LittleEndian};
@@ -111,12 +111,12 @@ impl<'a> InMemoryRecords<'a> {
     {
         // For the prover: a slice is shorter than 2^63 bytes.
         let _size = self.input.len();
-        let (identified, body) = walk.take_ahead_of(&mut self.records, next);
+        let (identified, body) = walk.take_ahead(&mut self.records, next);
         let endian = self.records.endian;
         let parse_info = *self
             .records
             .attribute_lookup
-            .parse_info_of(identified.attr_index());
+            .parse_info(identified.attr_index());
         let record = identified.into_record(parse_info, endian, RawData::Single(body));
         (identified.place, record)
     }
@@ -151,22 +151,24 @@ impl<'a> InMemoryRecords<'a> {
     pub fn read_entries(&mut self, perf_file: &PerfFile, entries: &mut [RecordEntry]) -> usize
         ensures { ReadsEntries self.old entries.old result self.new entries.new }
     {
-        let walk = match FileWalk::of(&self.records) {
+        let walk = match FileWalk::from_records(&self.records) {
             Some(walk) => walk,
             None => return 0,
         };
         // One loop for each byte order.
         match walk.endian() {
             Endianness::LittleEndian => {
-                self.read_entries_in::<LittleEndian>(walk, perf_file, entries)
+                self.read_specialized_entries::<LittleEndian>(walk, perf_file, entries)
             }
-            Endianness::BigEndian => { self.read_entries_in::<BigEndian>(walk, perf_file, entries) }
+            Endianness::BigEndian => {
+                self.read_specialized_entries::<BigEndian>(walk, perf_file, entries)
+            }
         }
     }
 
     // Writes the entries of the next records of a walk, whose byte order the compiler knows.
     #[inline(always)]
-    fn read_entries_in<T: FileOrder>(
+    fn read_specialized_entries<T: FileOrder>(
         &mut self,
         walk: FileWalk<'a>,
         perf_file: &PerfFile,
@@ -180,25 +182,31 @@ impl<'a> InMemoryRecords<'a> {
         // attributes.
         match walk.only_parse_info() {
             Some(parse_info) => {
-                let only = in_order(T::ENDIAN, parse_info);
+                let only = with_known_endian(T::ENDIAN, parse_info);
                 match only.sample_time_from_start {
                     Some(time) if time <= u32::MAX as u64 => {
                         let only = Some(with_sample_time(only, time));
-                        self.read_entries_of(walk.specialized(T::ENDIAN, only), perf_file, entries)
+                        self.read_walk_entries(
+                            walk.specialized(T::ENDIAN, only),
+                            perf_file,
+                            entries,
+                        )
                     }
                     _ => {
                         let walk = walk.specialized(T::ENDIAN, Some(only));
-                        self.read_entries_of(walk, perf_file, entries)
+                        self.read_walk_entries(walk, perf_file, entries)
                     }
                 }
             }
-            None => { self.read_entries_of(walk.specialized(T::ENDIAN, None), perf_file, entries) }
+            None => {
+                self.read_walk_entries(walk.specialized(T::ENDIAN, None), perf_file, entries)
+            }
         }
     }
 
     // Writes the entries of the next records of a walk. Then moves the records to its position.
     #[inline(always)]
-    fn read_entries_of(
+    fn read_walk_entries(
         &mut self,
         mut walk: FileWalk<'a>,
         perf_file: &PerfFile,

@@ -11,7 +11,7 @@ ghost use Rattle.linux_perf_data.specs.RecordViews.{IdentifiesRecord};
 use crate::attributes::lookup::AttributeLookup;
 use crate::in_memory::framing::remaining;
 use crate::records::framing::{peek_kernel_record, peek_record};
-use crate::records::input::Input;
+use crate::records::input::RecordInput;
 use crate::records::iter::{IdentifiedRecord, PerfRecordIter, Stage};
 use perfdata_base::event::PerfEventHeader;
 use perfdata_base::place::RecordParseInfo;
@@ -32,7 +32,10 @@ pub(crate) struct FileWalk<'a> {
 }
 
 // The parse info, if its numbers have this byte order.
-fn parse_info_in(endian: Endianness, parse_info: Option<RecordParseInfo>) -> Option<RecordParseInfo>
+fn matching_parse_info(
+    endian: Endianness,
+    parse_info: Option<RecordParseInfo>,
+) -> Option<RecordParseInfo>
     ensures same { IfSome result (λ p. parse_info ≡ Some p) }
     ensures order { IfSome result (λ p. p.endian ≡ endian) }
 {
@@ -50,7 +53,7 @@ fn parse_info_in(endian: Endianness, parse_info: Option<RecordParseInfo>) -> Opt
 
 // The parse info, with its byte order as a value that the compiler knows.
 #[inline(always)]
-pub(crate) fn in_order(endian: Endianness, parse_info: RecordParseInfo) -> RecordParseInfo
+pub(crate) fn with_known_endian(endian: Endianness, parse_info: RecordParseInfo) -> RecordParseInfo
     requires { endian ≡ parse_info.endian }
     ensures { result ≡ parse_info }
 {
@@ -82,7 +85,7 @@ pub(crate) struct WholeRecord {
 
 impl<'a> FileWalk<'a> {
     // The walk from the next record on. `None` if the iterator isn't running, or if it reads a pipe.
-    pub(crate) fn of(records: &PerfRecordIter<Cursor<&'a [u8]>>) -> Option<FileWalk<'a>>
+    pub(crate) fn from_records(records: &PerfRecordIter<Cursor<&'a [u8]>>) -> Option<FileWalk<'a>>
         ensures { StartsWalk records.now result }
     {
         match records.stage {
@@ -91,18 +94,18 @@ impl<'a> FileWalk<'a> {
             Stage::Ended => return None,
         }
         match records.input {
-            Input::Section(section_size) => Some(FileWalk {
+            RecordInput::Section(section_size) => Some(FileWalk {
                 endian: records.endian,
                 section_size,
                 round: records.round,
                 offset: records.offset,
                 remaining: remaining(&records.source),
-                only_parse_info: parse_info_in(
+                only_parse_info: matching_parse_info(
                     records.endian,
                     records.attribute_lookup.only_parse_info(),
                 ),
             }),
-            Input::Pipe(_) => None,
+            RecordInput::Pipe(_) => None,
         }
     }
 
@@ -201,13 +204,15 @@ impl<'a> FileWalk<'a> {
         let body = &bytes[PerfEventHeader::STRUCT_SIZE..next.length];
         let only = &self.only_parse_info;
         let (round, header) = (self.round, next.header);
-        let identified = IdentifiedRecord::identify_with(only, lookup, body, offset, round, header);
+        let identified = IdentifiedRecord::identify_with_only(
+            only, lookup, body, offset, round, header,
+        );
         (identified, body)
     }
 
     // Takes the next record, with its body. Of the iterator, nothing changes but its lookup.
     #[inline(always)]
-    pub(crate) fn take_ahead_of(
+    pub(crate) fn take_ahead(
         &mut self,
         records: &mut PerfRecordIter<Cursor<&'a [u8]>>,
         next: WholeRecord,

@@ -7,7 +7,7 @@ use crate::in_memory::file_walk::FileWalk;
 use crate::in_memory::raw_record::{RawRecord, take_raw_record};
 use crate::metadata_records::apply_metadata;
 use crate::perf_file::PerfFile;
-use crate::records::input::Input;
+use crate::records::input::RecordInput;
 use crate::records::iter::{IdentifiedRecord, PerfRecordIter, Stage};
 use perfdata_base::event::PerfEventHeader;
 use perfdata_sections::error::Error;
@@ -30,8 +30,8 @@ fn process_record(
     let lookup = &mut records.attribute_lookup;
     let identified = IdentifiedRecord::identify(lookup, body, offset, round, header);
     match records.input {
-        Input::Section(_) => Ok(identified),
-        Input::Pipe(_) => {
+        RecordInput::Section(_) => Ok(identified),
+        RecordInput::Pipe(_) => {
             let (alloc, endian) = (records.alloc, records.endian);
             apply_metadata(alloc, endian, lookup, perf_file, header.type_, body)?;
             Ok(identified)
@@ -47,7 +47,7 @@ fn take_file_record<'a>(
 ) -> Option<(IdentifiedRecord, &'a [u8])>
     ensures { TakesFileRecord records.old result records.new }
 {
-    let walk = FileWalk::of(records)?;
+    let walk = FileWalk::from_records(records)?;
     let next = walk.peek()?;
     Some(walk.take_from(records, next))
 }

@@ -42,7 +42,7 @@ impl<'a> InMemoryReader<'a> {
     /// # Errors
     ///
     /// The errors are those of `parse_file`.
-    pub fn parse_file_at(
+    pub fn parse_file_from_position(
         alloc: Global,
         bytes: &'a [u8],
         position: RecordPosition,

@@ -7,7 +7,7 @@ ghost use Rattle.linux_perf_data.specs.InMemoryWholeRecords.{TakesWholeRecord};
 use crate::in_memory::framing::{remaining, skip_bytes, take_record_body};
 use crate::records::buffered::has_no_pending_header;
 use crate::records::framing::{HEADER_SIZE, peek_record, read_header};
-use crate::records::input::Input;
+use crate::records::input::RecordInput;
 use crate::records::iter::PerfRecordIter;
 use perfdata_base::event::PerfEventHeader;
 use perfdata_base::source::unexpected_eof;
@@ -47,12 +47,12 @@ fn take_whole_record<'a>(records: &mut PerfRecordIter<Cursor<&'a [u8]>>) -> Opti
 }
 
 // The result for a truncated record: the end in a pipe, this error in a file.
-fn end_or_error<'a>(input: Input, error: Error) -> Result<RawRecord<'a>, Error>
+fn end_or_error<'a>(input: RecordInput, error: Error) -> Result<RawRecord<'a>, Error>
     ensures { EndsOrFails input error result }
 {
     match input {
-        Input::Pipe(_) => Ok(RawRecord::End),
-        Input::Section(_) => Err(error),
+        RecordInput::Pipe(_) => Ok(RawRecord::End),
+        RecordInput::Section(_) => Err(error),
     }
 }
 

@@ -50,7 +50,7 @@ pub(crate) fn parse_build_ids(
     let mut rest = bytes;
     let mut ids = HashMap::new(alloc);
     'entries: while !rest.is_empty() {
-        let entry = match BuildIdEvent::read_from_in(alloc, endian, &mut rest) {
+        let entry = match BuildIdEvent::read_with_endian(alloc, endian, &mut rest) {
             Ok(entry) => entry,
             Err(AppendError::Memory) => return Err(Error::Memory),
             Err(AppendError::Source(_)) => return Ok(ids),

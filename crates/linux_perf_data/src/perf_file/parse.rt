@@ -91,28 +91,28 @@ pub(crate) fn parse_nr_cpus(endian: Endianness, bytes: &[u8]) -> Result<NrCpus, 
     ensures { ParsesNrCpus endian bytes.now result }
 {
     let mut source = bytes;
-    Ok(NrCpus::parse_in(endian, &mut source)?)
+    Ok(NrCpus::parse_with_endian(endian, &mut source)?)
 }
 
 pub(crate) fn parse_sample_times(endian: Endianness, bytes: &[u8]) -> Result<SampleTimeRange, Error>
     ensures { ParsesSampleTimes endian bytes.now result }
 {
     let mut source = bytes;
-    Ok(SampleTimeRange::parse_in(endian, &mut source)?)
+    Ok(SampleTimeRange::parse_with_endian(endian, &mut source)?)
 }
 
 pub(crate) fn parse_compression(endian: Endianness, bytes: &[u8]) -> Result<CompressionInfo, Error>
     ensures { ParsesCompression endian bytes.now result }
 {
     let mut source = bytes;
-    Ok(CompressionInfo::parse_in(endian, &mut source)?)
+    Ok(CompressionInfo::parse_with_endian(endian, &mut source)?)
 }
 
 pub(crate) fn parse_clock_data(endian: Endianness, bytes: &[u8]) -> Result<ClockData, Error>
     ensures { ParsesClockData endian bytes.now result }
 {
     let mut source = bytes;
-    Ok(ClockData::parse_in(endian, &mut source)?)
+    Ok(ClockData::parse_with_endian(endian, &mut source)?)
 }
 
 pub(crate) fn parse_pmu_mappings(

@@ -5,13 +5,13 @@ ghost use Rattle.perfdata_sections.specs.declared.error.Error.TheVariants.{Memor
 ghost use Rattle.perfdata_base.specs.Source.{PausesOnlyOnError};
 ghost use Rattle.linux_perf_data.specs.BufferedRecord.{PeeksKernelRecord, PeeksWholeRecord, StartsWithHeader};
 ghost use Rattle.linux_perf_data.specs.BufferedRecord.{WholeRecordLength};
-ghost use Rattle.linux_perf_data.specs.Input.{TakesPendingHeader, input_source_state};
+ghost use Rattle.linux_perf_data.specs.RecordInput.{TakesPendingHeader, input_source_state};
 ghost use Rattle.linux_perf_data.specs.Pauses.{PausesOnlyAtEndOrError, PausesOnlyIfTruncated};
 ghost use Rattle.linux_perf_data.specs.RecordFraming.{ChecksBodySize, ChecksRecordEnd, SkipsBody};
 ghost use Rattle.linux_perf_data.specs.RecordFraming.{AppendsBody, BodyExceedsCapacity, ReadsRecordBody};
 ghost use Rattle.linux_perf_data.specs.RecordFraming.{ReadsRecordHeader, ReadsAuxData, TestsCompressed};
 
-use crate::records::input::{Input, next_header_bytes};
+use crate::records::input::{RecordInput, next_header_bytes};
 use perfdata_base::endian::read_u64;
 use perfdata_base::event::{PerfEventHeader, RecordType};
 use perfdata_base::raw::Endianness;
@@ -119,7 +119,7 @@ pub(crate) fn peek_record(endian: Endianness, bytes: &[u8]) -> Option<(PerfEvent
 #[inline(always)]
 pub(crate) fn read_header<R: Source>(
     source: &mut R,
-    input: &mut Input,
+    input: &mut RecordInput,
     endian: Endianness,
     offset: u64,
 ) -> Result<Option<(PerfEventHeader, u64)>, Error>

@@ -1,6 +1,7 @@
 //! The input of an iterator: the data section of a file, or a pipe with a pending header.
 ghost use Rattle.std.specs.Prelude.{◌≡◌, length};
-ghost use Rattle.linux_perf_data.specs.Input.{AnswersTruncation, TakesPendingHeader, input_source_state};
+ghost use Rattle.linux_perf_data.specs.RecordInput.{AnswersTruncation, TakesPendingHeader};
+ghost use Rattle.linux_perf_data.specs.RecordInput.{input_source_state};
 ghost use Rattle.linux_perf_data.specs.Pauses.{PausesOnlyAtEndOrError};
 ghost use Rattle.linux_perf_data.specs.RecordFraming.{ReadsHeaderBytes};
 
@@ -12,7 +13,7 @@ use perfdata_sections::error::Error;
 pub(crate) type HeaderBytes = [u8; PerfEventHeader::STRUCT_SIZE];
 
 #[derive(Clone, Copy)]
-pub(crate) enum Input {
+pub(crate) enum RecordInput {
     // The data section of a file, with its size in bytes.
     Section(u64),
     // A pipe, with the record header that its opening read ahead, until that header is consumed.
@@ -48,7 +49,7 @@ pub(crate) fn read_header_bytes<R: Source>(source: &mut R) -> Result<Option<Head
 // remain.
 pub(crate) fn next_header_bytes<R: Source>(
     source: &mut R,
-    input: &mut Input,
+    input: &mut RecordInput,
 ) -> Result<Option<HeaderBytes>, Error>
     ensures pending_header { TakesPendingHeader input.old input.new }
     ensures reads { ReadsHeaderBytes (input_source_state input.old (R.state source.old)) result
@@ -57,21 +58,24 @@ pub(crate) fn next_header_bytes<R: Source>(
     ensures same_loan { R.loan source.new ≡ R.loan source.old }
 {
     match *input {
-        Input::Pipe(Some(bytes)) => {
-            *input = Input::Pipe(None);
+        RecordInput::Pipe(Some(bytes)) => {
+            *input = RecordInput::Pipe(None);
             Ok(Some(header_of_eight(bytes)))
         }
-        Input::Pipe(None) => read_header_bytes(source),
-        Input::Section(_) => read_header_bytes(source),
+        RecordInput::Pipe(None) => read_header_bytes(source),
+        RecordInput::Section(_) => read_header_bytes(source),
     }
 }
 
 // The result for a truncated record: the end in a pipe, this error in a file.
-pub(crate) fn at_truncation(input: Input, error: Error) -> Result<Option<PerfEventHeader>, Error>
+pub(crate) fn at_truncation(
+    input: RecordInput,
+    error: Error,
+) -> Result<Option<PerfEventHeader>, Error>
     ensures { AnswersTruncation input error result }
 {
     match input {
-        Input::Pipe(_) => Ok(None),
-        Input::Section(_) => Err(error),
+        RecordInput::Pipe(_) => Ok(None),
+        RecordInput::Section(_) => Err(error),
     }
 }

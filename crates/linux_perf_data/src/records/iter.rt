@@ -10,7 +10,7 @@ use crate::metadata_records::apply_metadata;
 use crate::perf_file::PerfFile;
 use crate::records::buffered::{contains_next_record, has_no_pending_header};
 use crate::records::framing::{HEADER_SIZE, read_header, read_record_body, skip_body};
-use crate::records::input::{Input, at_truncation};
+use crate::records::input::{RecordInput, at_truncation};
 use perfdata_base::event::{PerfEventHeader, RawEventRecord, RecordType};
 use perfdata_base::place::RecordParseInfo;
 use perfdata_base::raw::{Endianness, RawData};
@@ -73,12 +73,12 @@ impl IdentifiedRecord {
         ensures identifies { IdentifiesRecord lookup.old offset round header body.now result lookup.new }
         ensures keeps_attributes { KeepsAttributes lookup.old lookup.new }
     {
-        IdentifiedRecord::identify_with(&None, lookup, body, offset, round, header)
+        IdentifiedRecord::identify_with_only(&None, lookup, body, offset, round, header)
     }
 
     // Identifies the record, if `only` is the parse info of the only attribute, or `None`.
     #[inline(always)]
-    pub(crate) fn identify_with(
+    pub(crate) fn identify_with_only(
         only: &Option<RecordParseInfo>,
         lookup: &mut AttributeLookup,
         body: &[u8],
@@ -96,12 +96,12 @@ impl IdentifiedRecord {
             Some(user_type) => (RecordOrigin::User(user_type), None),
             None => match only {
                 Some(parse_info) => {
-                    let time = parse_info.time_of(record_type, body);
+                    let time = parse_info.read_time(record_type, body);
                     (RecordOrigin::Kernel(0), time)
                 }
                 None => {
-                    let index = lookup.attr_index_of(record_type, body);
-                    let time = lookup.parse_info_of(index).time_of(record_type, body);
+                    let index = lookup.find_attr_index(record_type, body);
+                    let time = lookup.parse_info(index).read_time(record_type, body);
                     (RecordOrigin::Kernel(index), time)
                 }
             },
@@ -168,7 +168,7 @@ impl IdentifiedRecord {
 pub struct PerfRecordIter<R> {
     pub(crate) alloc: Global,
     pub(crate) source: R,
-    pub(crate) input: Input,
+    pub(crate) input: RecordInput,
     pub(crate) endian: Endianness,
     pub(crate) attribute_lookup: AttributeLookup,
     pub(crate) body: Vec<u8>,
@@ -183,7 +183,7 @@ impl<R> PerfRecordIter<R> {
     pub(crate) fn new(
         alloc: Global,
         source: R,
-        input: Input,
+        input: RecordInput,
         endian: Endianness,
         attribute_lookup: AttributeLookup,
         stage: Stage,
@@ -227,8 +227,8 @@ impl<R: Source> PerfRecordIter<R> {
         ensures { TestsMayStart (section_size_of R.state self.now) self.now.offset result }
     {
         match self.input {
-            Input::Section(size) => self.offset < size,
-            Input::Pipe(_) => true,
+            RecordInput::Section(size) => self.offset < size,
+            RecordInput::Pipe(_) => true,
         }
     }
 
@@ -324,8 +324,8 @@ impl<R: Source> PerfRecordIter<R> {
         let lookup = &mut self.attribute_lookup;
         let identified = IdentifiedRecord::identify(lookup, body, offset, round, header);
         match self.input {
-            Input::Section(_) => Ok(identified),
-            Input::Pipe(_) => {
+            RecordInput::Section(_) => Ok(identified),
+            RecordInput::Pipe(_) => {
                 let (alloc, endian) = (self.alloc, self.endian);
                 apply_metadata(alloc, endian, lookup, perf_file, header.type_, body)?;
                 Ok(identified)
@@ -426,7 +426,7 @@ impl<R: Source> PerfRecordIter<R> {
         match self.advance(perf_file) {
             Ok(Some(identified)) => {
                 let endian = self.endian;
-                let parse_info = *self.attribute_lookup.parse_info_of(identified.attr_index());
+                let parse_info = *self.attribute_lookup.parse_info(identified.attr_index());
                 let body = RawData::Single(self.body.as_slice());
                 Ok(Some((
                     identified.place,

@@ -8,12 +8,12 @@ ghost use Rattle.perfdata_arrays.specs.Bodies.{IsBody, chain_after_values, value
 
 use bitflags::Flags;
 use perfdata_base::raw::RawData;
-use perfdata_events::bits::SampleFields;
 use perfdata_events::call_chain::CallChain;
-use perfdata_events::fields::words::read_u64_if;
 use perfdata_events::format::EventFormat;
 use perfdata_events::read_values::ReadValues;
-use perfdata_events::sample_words::{EventWords, OriginWords};
+use perfdata_events::sample_bits::SampleFields;
+use perfdata_events::sample_words::{EventFields, OriginFields};
+use perfdata_events::words::read_u64_if;
 use std::io::Result;
 
 /// The bits of the words up to the period.
@@ -40,9 +40,9 @@ pub enum BodyError {
 #[derive(Clone, Copy, Debug)]
 pub struct SampleWords {
     /// The first words.
-    pub origin: OriginWords,
+    pub origin: OriginFields,
     /// The next words.
-    pub event: EventWords,
+    pub event: EventFields,
     /// The number of events since the previous sample.
     pub period: Option<u64>,
 }
@@ -65,8 +65,8 @@ fn parse_words(format: &EventFormat, fields: &mut RawData<'_>) -> Result<SampleW
 {
     let endian = format.endian;
     let bits = format.sample_format;
-    let origin = OriginWords::parse(endian, bits, fields)?;
-    let event = EventWords::parse(endian, bits, fields)?;
+    let origin = OriginFields::parse(endian, bits, fields)?;
+    let event = EventFields::parse(endian, bits, fields)?;
     let period = read_u64_if(endian, fields, bits.contains(SampleFields::PERIOD))?;
     Ok(SampleWords {
         origin,

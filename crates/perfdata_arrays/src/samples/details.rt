@@ -1,18 +1,18 @@
 //! The fields of a sample that `Sample` doesn't have.
 ghost use Rattle.std.specs.Prelude.{◌≡◌, ◌<◌, ◌≤◌, ◌^◌, IfErr, IfNone, IfOk, IfSome, length};
 ghost use Rattle.perfdata_arrays.specs.Details.{AreOffsets, FieldsTake, HasTruncatedPart, IsDetails};
-ghost use Rattle.perfdata_arrays.specs.Details.{IsDetailsError, IsTruncatedIn, branches_place, bytes_place};
+ghost use Rattle.perfdata_arrays.specs.Details.{IsDetailsError, IsTruncatedIn, branch_range, byte_range};
 ghost use Rattle.perfdata_arrays.specs.Details.{ReadsDetails, details_of, format_of_attr};
-ghost use Rattle.perfdata_arrays.specs.Details.{registers_place, stack_place, with_fields};
+ghost use Rattle.perfdata_arrays.specs.Details.{register_range, stack_range, with_fields};
 
 use crate::attrs::Attr;
 use crate::samples::body::{BodyError, WORD_BITS};
 use crate::status::Status;
 use perfdata_base::raw::{Endianness, RawData};
-use perfdata_events::bits::{BranchFields, ReadFields, SampleFields};
 use perfdata_events::format::EventFormat;
 use perfdata_events::sample::SampleRecord;
-use perfdata_events::sample_parts::{BranchStack, Registers, UserStack};
+use perfdata_events::sample_bits::{BranchFields, ReadFields, SampleFields};
+use perfdata_events::sample_parts::{BranchStack, SampleRegisters, UserStack};
 
 // The bits of the fields before the raw data.
 const BEFORE_RAW: u64 = WORD_BITS | SampleFields::READ.0 | SampleFields::CALLCHAIN.0;
@@ -156,37 +156,37 @@ fn part_offsets(format: &EventFormat, body: &[u8]) -> Option<PartOffsets>
 
 // Where bytes are, which start at an offset.
 #[derive(Clone, Copy)]
-struct BytesPlace {
+struct ByteRange {
     offset: u64,
     size: u64,
 }
 
-fn bytes_place(bytes: Option<RawData<'_>>, offset: u64) -> BytesPlace
-    ensures { result ≡ bytes_place bytes.entry offset }
+fn byte_range(bytes: Option<RawData<'_>>, offset: u64) -> ByteRange
+    ensures { result ≡ byte_range bytes.entry offset }
 {
     match bytes {
-        Some(bytes) => BytesPlace {
+        Some(bytes) => ByteRange {
             offset,
             size: bytes.len() as u64,
         },
-        None => BytesPlace { offset: 0, size: 0 },
+        None => ByteRange { offset: 0, size: 0 },
     }
 }
 
 // Where branches are, which start at an offset with their number.
 #[derive(Clone, Copy)]
-struct BranchesPlace {
+struct BranchRange {
     offset: u64,
     count: u64,
     hw_index: u64,
 }
 
-fn branches_place(branches: &Option<BranchStack<'_>>, offset: u64) -> BranchesPlace
+fn branch_range(branches: &Option<BranchStack<'_>>, offset: u64) -> BranchRange
     requires { offset < 2 ^ 63 }
-    ensures { result ≡ branches_place branches.now offset }
+    ensures { result ≡ branch_range branches.now offset }
 {
     match branches {
-        Some(stack) => BranchesPlace {
+        Some(stack) => BranchRange {
             offset: if stack.hw_index.is_some() {
                 offset + 16
             } else {
@@ -195,7 +195,7 @@ fn branches_place(branches: &Option<BranchStack<'_>>, offset: u64) -> BranchesPl
             count: stack.len() as u64,
             hw_index: stack.hw_index.unwrap_or(0),
         },
-        None => BranchesPlace {
+        None => BranchRange {
             offset: 0,
             count: 0,
             hw_index: 0,
@@ -205,23 +205,23 @@ fn branches_place(branches: &Option<BranchStack<'_>>, offset: u64) -> BranchesPl
 
 // Where registers are, which start at an offset with their ABI.
 #[derive(Clone, Copy)]
-struct RegistersPlace {
+struct RegisterRange {
     abi: u64,
     offset: u64,
     count: u64,
 }
 
-fn registers_place(registers: &Option<Registers<'_>>, offset: u64) -> RegistersPlace
+fn register_range(registers: &Option<SampleRegisters<'_>>, offset: u64) -> RegisterRange
     requires { offset < 2 ^ 63 }
-    ensures { result ≡ registers_place registers.now offset }
+    ensures { result ≡ register_range registers.now offset }
 {
     match registers {
-        Some(registers) => RegistersPlace {
+        Some(registers) => RegisterRange {
             abi: registers.abi,
             offset: offset + 8,
             count: registers.values.len() as u64,
         },
-        None => RegistersPlace {
+        None => RegisterRange {
             abi: 0,
             offset: 0,
             count: 0,
@@ -231,23 +231,23 @@ fn registers_place(registers: &Option<Registers<'_>>, offset: u64) -> RegistersP
 
 // Where a copy of a stack is, which starts at an offset with its size.
 #[derive(Clone, Copy)]
-struct StackPlace {
+struct StackRange {
     offset: u64,
     size: u64,
     dynamic_size: u64,
 }
 
-fn stack_place(stack: &Option<UserStack<'_>>, offset: u64) -> StackPlace
+fn stack_range(stack: &Option<UserStack<'_>>, offset: u64) -> StackRange
     requires { offset < 2 ^ 63 }
-    ensures { result ≡ stack_place stack.now offset }
+    ensures { result ≡ stack_range stack.now offset }
 {
     match stack {
-        Some(stack) => StackPlace {
+        Some(stack) => StackRange {
             offset: offset + 8,
             size: stack.bytes.len() as u64,
             dynamic_size: stack.dynamic_size.unwrap_or(0),
         },
-        None => StackPlace {
+        None => StackRange {
             offset: 0,
             size: 0,
             dynamic_size: 0,
@@ -256,7 +256,7 @@ fn stack_place(stack: &Option<UserStack<'_>>, offset: u64) -> StackPlace
 }
 
 // The details of a parsed sample, whose parts start at these offsets.
-fn details_of(offsets: PartOffsets, sample: &SampleRecord<'_>) -> SampleDetails
+fn parsed_details(offsets: PartOffsets, sample: &SampleRecord<'_>) -> SampleDetails
     requires raw { offsets.raw < 2 ^ 63 }
     requires branches { offsets.branches < 2 ^ 63 }
     requires user_registers { offsets.user_registers < 2 ^ 63 }
@@ -265,12 +265,12 @@ fn details_of(offsets: PartOffsets, sample: &SampleRecord<'_>) -> SampleDetails
     requires aux { offsets.aux < 2 ^ 63 }
     ensures { result ≡ details_of offsets sample.now }
 {
-    let raw = bytes_place(sample.raw, offsets.raw + 4);
-    let branches = branches_place(&sample.branch_stack, offsets.branches);
-    let user = registers_place(&sample.user_registers, offsets.user_registers);
-    let stack = stack_place(&sample.user_stack, offsets.user_stack);
-    let interrupt = registers_place(&sample.interrupt_registers, offsets.interrupt_registers);
-    let aux = bytes_place(sample.aux_data, offsets.aux + 8);
+    let raw = byte_range(sample.raw, offsets.raw + 4);
+    let branches = branch_range(&sample.branch_stack, offsets.branches);
+    let user = register_range(&sample.user_registers, offsets.user_registers);
+    let stack = stack_range(&sample.user_stack, offsets.user_stack);
+    let interrupt = register_range(&sample.interrupt_registers, offsets.interrupt_registers);
+    let aux = byte_range(sample.aux_data, offsets.aux + 8);
     SampleDetails {
         stream_id: sample.stream_id.unwrap_or(0),
         weight: sample.weight.unwrap_or(0),
@@ -315,13 +315,13 @@ pub fn sample_details(format: &EventFormat, body: &[u8]) -> Result<SampleDetails
         return Err(BodyError::Truncated);
     };
     match part_offsets(format, body) {
-        Some(offsets) => Ok(details_of(offsets, &sample)),
+        Some(offsets) => Ok(parsed_details(offsets, &sample)),
         None => Err(BodyError::Truncated),
     }
 }
 
 // The format of the samples of an attribute.
-fn format_of(endian: Endianness, attr: &Attr) -> EventFormat
+fn attr_format(endian: Endianness, attr: &Attr) -> EventFormat
     ensures { result ≡ format_of_attr endian attr.now }
 {
     EventFormat {
@@ -347,7 +347,7 @@ pub fn read_details(
 ) -> Status
     ensures { ReadsDetails (format_of_attr endian attr.now) body.now details.old result details.new }
 {
-    match sample_details(&format_of(endian, attr), body) {
+    match sample_details(&attr_format(endian, attr), body) {
         Ok(decoded) => {
             *details = decoded;
             Status::Success

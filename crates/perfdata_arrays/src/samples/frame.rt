@@ -5,7 +5,7 @@ ghost use Rattle.perfdata_events.specs.CallChain.{chain_values_of};
 ghost use Rattle.perfdata_arrays.specs.Samples.{context_code, frame_entry_of, chain_entries};
 
 use crate::array::write_entry;
-use perfdata_events::call_chain::{CallChain, CallContext, Frame};
+use perfdata_events::call_chain::{CallChain, CallContext, ChainFrame};
 
 /// A frame of a call chain, as plain numbers.
 #[repr(C)]
@@ -39,7 +39,7 @@ fn context_code(context: CallContext) -> u32
 
 impl FrameEntry {
     /// Returns the entry of a frame.
-    pub fn new(frame: Frame) -> FrameEntry
+    pub fn new(frame: ChainFrame) -> FrameEntry
         ensures { result ≡ frame_entry_of frame }
     {
         FrameEntry {

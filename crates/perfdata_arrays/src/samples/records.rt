@@ -80,7 +80,7 @@ fn exceeding_frames(
 // Writes the frames of a call chain after the first `used` elements of `frames`, up to the capacity, and
 // returns their number.
 #[inline(always)]
-fn write_frames_at(chain: &CallChain<'_>, frames: &mut [FrameEntry], used: usize) -> usize
+fn append_frames(chain: &CallChain<'_>, frames: &mut [FrameEntry], used: usize) -> usize
     ensures count { result ≡ length (chain_entries (chain_values_of chain.now)) }
     ensures written { frames.new ≡ with_entries_at used (chain_entries (chain_values_of chain.now))
         frames.old }
@@ -113,7 +113,7 @@ fn add_frames(
     };
     match exceeding_frames(chain, counts_all, frames.len(), used) {
         Some(count) => Err(count),
-        None => Ok(write_frames_at(chain, frames, used)),
+        None => Ok(append_frames(chain, frames, used)),
     }
 }
 

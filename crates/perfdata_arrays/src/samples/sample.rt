@@ -4,10 +4,10 @@ ghost use Rattle.std.specs.Option.{unwrap_or};
 ghost use Rattle.perfdata_arrays.specs.Samples.{sample_of, sample_with, error_code, task_or_none};
 
 use crate::samples::body::{BodyError, SampleBody, SampleWords, WORD_BITS};
-use perfdata_events::bits::SampleFields;
 use perfdata_events::format::EventFormat;
+use perfdata_events::sample_bits::SampleFields;
 use perfdata_events::sample_id::Task;
-use perfdata_events::sample_words::{EventWords, OriginWords};
+use perfdata_events::sample_words::{EventFields, OriginFields};
 
 // The bits of all fields that are known.
 const KNOWN_BITS: u64 = 2 * SampleFields::WEIGHT_STRUCT.0 - 1;
@@ -73,13 +73,13 @@ pub struct SampleEnvelope {
 
 // No words are selected.
 const NO_WORDS: SampleWords = SampleWords {
-    origin: OriginWords {
+    origin: OriginFields {
         identifier: None,
         ip: None,
         task: None,
         timestamp: None,
     },
-    event: EventWords {
+    event: EventFields {
         address: None,
         id: None,
         stream_id: None,

@@ -47,7 +47,7 @@ impl PerfEventHeader {
     ) -> PerfEventHeader
         ensures { result ≡ record_header_of (number_in endian) bytes.now }
     {
-        record_header_at(endian, bytes)
+        read_record_header(endian, bytes)
     }
 
     /// Returns the record header in the first eight of `bytes`, in the byte order `endian`; `None` if there
@@ -58,7 +58,7 @@ impl PerfEventHeader {
         if bytes.len() < PerfEventHeader::STRUCT_SIZE {
             return None;
         }
-        Some(record_header_at(endian, bytes))
+        Some(read_record_header(endian, bytes))
     }
 
     /// Parses a record header from a source, as `parse_from` does.
@@ -70,7 +70,7 @@ impl PerfEventHeader {
 }
 
 // The record header in the first eight bytes.
-fn record_header_at(endian: Endianness, bytes: &[u8]) -> PerfEventHeader
+fn read_record_header(endian: Endianness, bytes: &[u8]) -> PerfEventHeader
     requires { 8 ≤ length bytes.now }
     ensures { result ≡ record_header_of (number_in endian) bytes.now }
 {

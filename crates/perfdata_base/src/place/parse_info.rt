@@ -4,7 +4,7 @@ ghost use Rattle.std.specs.Int.RustNames.{bit_and};
 ghost use Rattle.perfdata_base.specs.ParseInfo.{offset_from_start, offset_from_end, sample_words};
 ghost use Rattle.perfdata_base.specs.ParseInfo.{trailing_words, identifier_word, id_parse_info_of};
 ghost use Rattle.perfdata_base.specs.ParseInfo.{parse_info_of};
-ghost use Rattle.perfdata_base.specs.RecordFields.{time_of, identifier_of};
+ghost use Rattle.perfdata_base.specs.RecordFields.{read_time, read_identifier};
 
 use crate::attr::{AttrFlags, PerfEventAttr, SampleFormat};
 use crate::endian::Endianness;
@@ -125,13 +125,13 @@ impl RecordIdParseInfo {
     ///
     /// It is `None` if the record has no such offset, or if the number at the offset isn't completely in the
     /// body. A user record has none.
-    pub fn identifier_of(
+    pub fn read_identifier(
         &self,
         endian: Endianness,
         record_type: RecordType,
         body: &[u8],
     ) -> Option<u64>
-        ensures { result ≡ identifier_of endian self.now record_type.0 body.now }
+        ensures { result ≡ read_identifier endian self.now record_type.0 body.now }
     {
         field_in_slice(
             endian,
@@ -166,8 +166,8 @@ impl RecordParseInfo {
     ///
     /// It is `None` if the record has no such offset, or if the number at the offset isn't completely in the
     /// body. A user record has none.
-    pub fn time_of(&self, record_type: RecordType, body: &[u8]) -> Option<u64>
-        ensures { result ≡ time_of self.now record_type.0 body.now }
+    pub fn read_time(&self, record_type: RecordType, body: &[u8]) -> Option<u64>
+        ensures { result ≡ read_time self.now record_type.0 body.now }
     {
         field_in_slice(
             self.endian,

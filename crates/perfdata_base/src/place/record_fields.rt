@@ -1,6 +1,6 @@
 //! The identifier and the time of a record.
 ghost use Rattle.std.specs.Prelude.{◌≡◌};
-ghost use Rattle.perfdata_base.specs.RecordFields.{identifier_of, leading_identifier_of, time_in};
+ghost use Rattle.perfdata_base.specs.RecordFields.{read_identifier, leading_identifier_of, time_in};
 ghost use Rattle.perfdata_base.specs.Raw.{bytes_of};
 
 use crate::endian::FileOrder;
@@ -18,7 +18,7 @@ pub fn get_record_id<T: FileOrder>(
     body: RawData<'_>,
     parse_info: &RecordIdParseInfo,
 ) -> Option<u64>
-    ensures { result ≡ identifier_of T.ENDIAN parse_info.now record_type.0 (bytes_of body.entry) }
+    ensures { result ≡ read_identifier T.ENDIAN parse_info.now record_type.0 (bytes_of body.entry) }
 {
     field_in_body::<T>(
         record_type,

@@ -11,10 +11,10 @@ ghost use Rattle.perfdata_events.specs.SingleParts.{SingleChain};
 ghost use Rattle.perfdata_events.specs.Format.{Decodes, optional};
 ghost use Rattle.perfdata_events.specs.Words.{u64s_in};
 
-use crate::bits::SampleFields;
 use crate::fields::u64s::RawDataU64;
 use crate::fields::words::{read_u64, read_u64_list, split_first_u64};
 use crate::format::EventFormat;
+use crate::sample_bits::SampleFields;
 use bitflags::Flags;
 use perfdata_base::raw::{Endianness, RawData};
 use std::io::Result;
@@ -61,7 +61,7 @@ pub enum CallContext {
 
 /// A frame of a call chain.
 #[derive(Clone, Copy, Debug, PartialEq, Eq)]
-pub struct Frame {
+pub struct ChainFrame {
     /// The address.
     pub address: u64,
     /// The context of the address.
@@ -83,7 +83,7 @@ pub struct CallChainIter<'a> {
     values: RawDataU64<'a>,
 }
 
-ghost use Rattle.perfdata_events.specs.CallChain.{is_context_change, context_of, frames_of};
+ghost use Rattle.perfdata_events.specs.CallChain.{is_context_change, call_context, frames_of};
 
 /// Returns whether a value of a call chain changes the context. Then it is no frame.
 pub fn is_context_change(value: u64) -> bool
@@ -93,8 +93,8 @@ pub fn is_context_change(value: u64) -> bool
 }
 
 /// Returns the context that a value which changes the context begins.
-pub fn context_of(value: u64) -> CallContext
-    ensures { result ≡ context_of value }
+pub fn call_context(value: u64) -> CallContext
+    ensures { result ≡ call_context value }
 {
     if value == CONTEXT_HV {
         CallContext::Hypervisor
@@ -117,7 +117,7 @@ pub fn context_of(value: u64) -> CallContext
 fn split_first_frame(
     context: CallContext,
     values: RawDataU64<'_>,
-) -> Option<(Frame, RawDataU64<'_>)>
+) -> Option<(ChainFrame, RawDataU64<'_>)>
     ensures none { IfNone result (frames_of context (u64s_in values.entry) ≡ []) }
     ensures some { IfSome result (λ parts. frames_of context (u64s_in values.entry) ≡ parts.0
         ∷ frames_of parts.0.context (u64s_in parts.1)) }
@@ -127,13 +127,13 @@ fn split_first_frame(
     'values: while let Some((value, tail)) = split_first_u64(rest) {
         rest = tail;
         if !is_context_change(value) {
-            let frame = Frame {
+            let frame = ChainFrame {
                 address: value,
                 context: current,
             };
             return Some((frame, rest));
         }
-        current = context_of(value);
+        current = call_context(value);
     }
     None
 }
@@ -184,13 +184,13 @@ impl<'a> CallChain<'a> {
 impl<'a> Iterator for CallChainIter<'a> {
     ghost use Rattle.perfdata_events.specs.CallChain.{remaining_frames};
 
-    type Item = Frame;
+    type Item = ChainFrame;
 
     ghost next_gives = { YieldsFirstBy (λ frame. frame) remaining_frames };
 
     ghost remaining = { item_count remaining_frames };
 
-    fn next(&mut self) -> Option<Frame> {
+    fn next(&mut self) -> Option<ChainFrame> {
         let (frame, rest) = split_first_frame(self.context, self.values)?;
         self.context = frame.context;
         self.values = rest;

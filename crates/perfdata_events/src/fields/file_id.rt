@@ -7,7 +7,7 @@ ghost use Rattle.perfdata_base.specs.Endian.{number_in};
 ghost use Rattle.perfdata_events.specs.Format.{Decodes};
 ghost use Rattle.perfdata_events.specs.FileId.{ReadsBuildId};
 
-use crate::fields::numbers::{u32_at, u64_at};
+use crate::fields::numbers::{field_u32, field_u64};
 use crate::fields::text::invalid_data;
 use perfdata_base::raw::{Endianness, RawData};
 use std::io::Result;
@@ -78,10 +78,10 @@ impl<'a> Mmap2FileId<'a> {
         let mut bytes = [0u8; 24];
         fields.read_exact(&mut bytes)?;
         Ok(Mmap2FileId::InodeAndVersion(Mmap2InodeAndVersion {
-            major: u32_at(endian, &bytes, 0),
-            minor: u32_at(endian, &bytes, 4),
-            inode: u64_at(endian, &bytes, 8),
-            inode_generation: u64_at(endian, &bytes, 16),
+            major: field_u32(endian, &bytes, 0),
+            minor: field_u32(endian, &bytes, 4),
+            inode: field_u64(endian, &bytes, 8),
+            inode_generation: field_u64(endian, &bytes, 16),
         }))
     }
 }

@@ -7,7 +7,7 @@ use perfdata_base::endian::{read_u16, read_u32, read_u64};
 use perfdata_base::raw::Endianness;
 
 /// Returns the number of two bytes at an offset.
-pub fn u16_at(endian: Endianness, bytes: &[u8], at: usize) -> u16
+pub fn field_u16(endian: Endianness, bytes: &[u8], at: usize) -> u16
     requires { at + 2 ≤ length bytes.now }
     ensures { result ≡ u16_at (number_in endian) at bytes.now }
 {
@@ -15,7 +15,7 @@ pub fn u16_at(endian: Endianness, bytes: &[u8], at: usize) -> u16
 }
 
 /// Returns the number of four bytes at an offset.
-pub fn u32_at(endian: Endianness, bytes: &[u8], at: usize) -> u32
+pub fn field_u32(endian: Endianness, bytes: &[u8], at: usize) -> u32
     requires { at + 4 ≤ length bytes.now }
     ensures { result ≡ u32_at (number_in endian) at bytes.now }
 {
@@ -23,7 +23,7 @@ pub fn u32_at(endian: Endianness, bytes: &[u8], at: usize) -> u32
 }
 
 /// Returns the number of eight bytes at an offset.
-pub fn u64_at(endian: Endianness, bytes: &[u8], at: usize) -> u64
+pub fn field_u64(endian: Endianness, bytes: &[u8], at: usize) -> u64
     requires { at + 8 ≤ length bytes.now }
     ensures { result ≡ u64_at (number_in endian) at bytes.now }
 {
@@ -31,7 +31,7 @@ pub fn u64_at(endian: Endianness, bytes: &[u8], at: usize) -> u64
 }
 
 /// Returns the signed number of four bytes at an offset.
-pub fn i32_at(endian: Endianness, bytes: &[u8], at: usize) -> i32
+pub fn field_i32(endian: Endianness, bytes: &[u8], at: usize) -> i32
     requires { at + 4 ≤ length bytes.now }
     ensures { result ≡ i32_at (number_in endian) at bytes.now }
 {

@@ -10,10 +10,10 @@ ghost use Rattle.perfdata_base.specs.ParseInfo.{is_set};
 ghost use Rattle.perfdata_events.specs.ReadFormat.{ID, LOST};
 ghost use Rattle.perfdata_events.specs.SampleFormat.{READ};
 
-use crate::bits::{ReadFields, SampleFields};
 use crate::fields::u64s::RawDataU64;
 use crate::fields::words::{read_u64, read_u64_if, read_u64s};
 use crate::format::EventFormat;
+use crate::sample_bits::{ReadFields, SampleFields};
 use bitflags::Flags;
 use perfdata_base::raw::{Endianness, RawData};
 use std::io::Result;

@@ -9,9 +9,9 @@ ghost use Rattle.perfdata_base.specs.ParseInfo.{is_set};
 ghost use Rattle.perfdata_events.specs.Format.{Decodes, optional};
 ghost use Rattle.perfdata_events.specs.SampleFormat.{REGS_USER, REGS_INTR};
 
-use crate::bits::SampleFields;
 use crate::fields::u64s::RawDataU64;
 use crate::fields::words::{read_u64, read_u64_list};
+use crate::sample_bits::SampleFields;
 use bitflags::Flags;
 use perfdata_base::raw::{Endianness, RawData};
 use std::io::Result;
@@ -27,15 +27,15 @@ pub struct RegisterMasks {
 
 /// The registers of a program or at an interrupt.
 #[derive(Clone, Copy, Debug)]
-pub struct Registers<'a> {
+pub struct SampleRegisters<'a> {
     /// The kind of the program: 0 none, 1 of 32 bits, 2 of 64 bits.
     pub abi: u64,
     /// The registers of the attribute's mask, by ascending bit; none if `abi` is 0.
     pub values: RawDataU64<'a>,
 }
 
-impl<'a> Registers<'a> {
-    ghost use Rattle.perfdata_events.specs.Registers.{registers, registers_of, register_count};
+impl<'a> SampleRegisters<'a> {
+    ghost use Rattle.perfdata_events.specs.SampleRegisters.{registers, registers_of, register_count};
 
     // The number of registers.
     fn count(abi: u64, mask: u64) -> u64
@@ -49,15 +49,15 @@ impl<'a> Registers<'a> {
     }
 
     // Removes the registers of a mask.
-    fn parse(endian: Endianness, mask: u64, fields: &mut RawData<'a>) -> Result<Registers<'a>>
+    fn parse(endian: Endianness, mask: u64, fields: &mut RawData<'a>) -> Result<SampleRegisters<'a>>
         ensures decodes { Decodes (registers (number_in endian) mask) registers_of (bytes_of fields.old)
             result (bytes_of fields.new) }
         ensures single { KeepsSingle SingleRegisters fields.old result fields.new }
     {
         let abi = read_u64(endian, fields)?;
-        let count = Registers::count(abi, mask);
+        let count = SampleRegisters::count(abi, mask);
         let values = read_u64_list(endian, fields, count)?;
-        Ok(Registers { abi, values })
+        Ok(SampleRegisters { abi, values })
     }
 
     /// Parses the registers of the program at the start of `fields` if the sample format selects them, and
@@ -70,7 +70,7 @@ impl<'a> Registers<'a> {
         sample_format: SampleFields,
         masks: RegisterMasks,
         fields: &mut RawData<'a>,
-    ) -> Result<Option<Registers<'a>>>
+    ) -> Result<Option<SampleRegisters<'a>>>
         ensures decodes { Decodes (optional (is_set sample_format.0 REGS_USER)
             (registers (number_in endian) masks.user)) (option_map registers_of) (bytes_of fields.old) result
             (bytes_of fields.new) }
@@ -79,7 +79,7 @@ impl<'a> Registers<'a> {
         if !sample_format.contains(SampleFields::REGS_USER) {
             return Ok(None);
         }
-        Registers::parse(endian, masks.user, fields).map(Some)
+        SampleRegisters::parse(endian, masks.user, fields).map(Some)
     }
 
     /// Parses the registers at the interrupt at the start of `fields` if the sample format selects them, and
@@ -92,7 +92,7 @@ impl<'a> Registers<'a> {
         sample_format: SampleFields,
         masks: RegisterMasks,
         fields: &mut RawData<'a>,
-    ) -> Result<Option<Registers<'a>>>
+    ) -> Result<Option<SampleRegisters<'a>>>
         ensures decodes { Decodes (optional (is_set sample_format.0 REGS_INTR)
             (registers (number_in endian) masks.interrupt)) (option_map registers_of)
             (bytes_of fields.old) result (bytes_of fields.new) }
@@ -101,6 +101,6 @@ impl<'a> Registers<'a> {
         if !sample_format.contains(SampleFields::REGS_INTR) {
             return Ok(None);
         }
-        Registers::parse(endian, masks.interrupt, fields).map(Some)
+        SampleRegisters::parse(endian, masks.interrupt, fields).map(Some)
     }
 }

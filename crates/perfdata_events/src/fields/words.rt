@@ -10,7 +10,7 @@ ghost use Rattle.perfdata_events.specs.Fields.{u32_at, u64_at};
 ghost use Rattle.perfdata_events.specs.Words.{word, u64s, u64s_in};
 ghost use Rattle.perfdata_events.specs.Task.{task_at};
 
-use crate::fields::numbers::{i32_at, u32_at, u64_at};
+use crate::fields::numbers::{field_i32, field_u32, field_u64};
 use crate::fields::task::Task;
 use crate::fields::u64s::{RawDataU64, split_off_elements};
 use perfdata_base::raw::{Endianness, RawData};
@@ -53,7 +53,7 @@ pub fn read_u64_if(
         return Ok(None);
     }
     let bytes = read_array::<8>(fields)?;
-    Ok(Some(u64_at(endian, &bytes, 0)))
+    Ok(Some(field_u64(endian, &bytes, 0)))
 }
 
 /// Removes a number of four bytes and four reserved bytes if they are there.
@@ -73,7 +73,7 @@ pub fn read_u32_if(
         return Ok(None);
     }
     let bytes = read_array::<8>(fields)?;
-    Ok(Some(u32_at(endian, &bytes, 0)))
+    Ok(Some(field_u32(endian, &bytes, 0)))
 }
 
 /// Removes a process id and a thread id if they are there.
@@ -94,8 +94,8 @@ pub fn read_task_if(
     }
     let bytes = read_array::<8>(fields)?;
     Ok(Some(Task {
-        pid: i32_at(endian, &bytes, 0),
-        tid: i32_at(endian, &bytes, 4),
+        pid: field_i32(endian, &bytes, 0),
+        tid: field_i32(endian, &bytes, 4),
     }))
 }
 
@@ -108,7 +108,7 @@ pub fn read_u64(endian: Endianness, fields: &mut RawData<'_>) -> Result<u64>
     ensures single { KeepsSingle NoParts fields.old result fields.new }
 {
     let bytes = read_array::<8>(fields)?;
-    Ok(u64_at(endian, &bytes, 0))
+    Ok(field_u64(endian, &bytes, 0))
 }
 
 /// Removes a number of four bytes.
@@ -120,7 +120,7 @@ pub fn read_u32(endian: Endianness, fields: &mut RawData<'_>) -> Result<u32>
     ensures single { KeepsSingle NoParts fields.old result fields.new }
 {
     let bytes = read_array::<4>(fields)?;
-    Ok(u32_at(endian, &bytes, 0))
+    Ok(field_u32(endian, &bytes, 0))
 }
 
 /// Removes a process id and a thread id.
@@ -133,8 +133,8 @@ pub fn read_task(endian: Endianness, fields: &mut RawData<'_>) -> Result<Task>
 {
     let bytes = read_array::<8>(fields)?;
     Ok(Task {
-        pid: i32_at(endian, &bytes, 0),
-        tid: i32_at(endian, &bytes, 4),
+        pid: field_i32(endian, &bytes, 0),
+        tid: field_i32(endian, &bytes, 4),
     })
 }
 

@@ -10,10 +10,10 @@ ghost use Rattle.perfdata_events.specs.Format.{Decodes, optional};
 ghost use Rattle.perfdata_events.specs.SampleEnd.{aux_data};
 ghost use Rattle.perfdata_events.specs.SampleFormat.{WEIGHT, WEIGHT_STRUCT};
 
-use crate::bits::SampleFields;
-use crate::fields::registers::{RegisterMasks, Registers};
+use crate::fields::registers::{RegisterMasks, SampleRegisters};
 use crate::fields::u64s::read_block;
 use crate::fields::words::{read_u64, read_u64_if};
+use crate::sample_bits::SampleFields;
 use bitflags::Flags;
 use perfdata_base::raw::{Endianness, RawData};
 use std::io::Result;
@@ -41,7 +41,7 @@ pub struct DataWords {
 
 /// The words of a sample on its pages. A field is `None` if the attribute doesn't select it.
 #[derive(Clone, Copy, Debug, PartialEq, Eq)]
-pub struct PageWords {
+pub struct PageFields {
     /// The physical address of the data.
     pub physical_address: Option<u64>,
     /// The id of the control group.
@@ -61,9 +61,9 @@ pub struct SampleEnd<'a> {
     /// The words on its data.
     pub data: DataWords,
     /// The registers at the interrupt.
-    pub interrupt_registers: Option<Registers<'a>>,
+    pub interrupt_registers: Option<SampleRegisters<'a>>,
     /// The words on its pages.
-    pub pages: PageWords,
+    pub pages: PageFields,
     /// Aux data.
     pub aux_data: Option<RawData<'a>>,
 }
@@ -106,7 +106,7 @@ impl DataWords {
     }
 }
 
-impl PageWords {
+impl PageFields {
     ghost use Rattle.perfdata_events.specs.SampleEnd.{page_words};
 
     // Removes the words that a sample format selects.
@@ -115,7 +115,7 @@ impl PageWords {
         endian: Endianness,
         format: SampleFields,
         fields: &mut RawData<'_>,
-    ) -> Result<PageWords>
+    ) -> Result<PageFields>
         ensures decodes { Decodes (page_words (number_in endian) format.0) (λ v. v) (bytes_of fields.old)
             result (bytes_of fields.new) }
         ensures single { KeepsSingle NoParts fields.old result fields.new }
@@ -136,7 +136,7 @@ impl PageWords {
             fields,
             format.contains(SampleFields::CODE_PAGE_SIZE),
         )?;
-        Ok(PageWords {
+        Ok(PageFields {
             physical_address,
             cgroup,
             data_page_size,
@@ -200,8 +200,13 @@ impl<'a> SampleEnd<'a> {
     {
         let weight = read_u64_if(endian, fields, has_weight(sample_format))?;
         let data = DataWords::parse(endian, sample_format, fields)?;
-        let interrupt_registers = Registers::parse_interrupt(endian, sample_format, masks, fields)?;
-        let pages = PageWords::parse(endian, sample_format, fields)?;
+        let interrupt_registers = SampleRegisters::parse_interrupt(
+            endian,
+            sample_format,
+            masks,
+            fields,
+        )?;
+        let pages = PageFields::parse(endian, sample_format, fields)?;
         let aux_data = read_aux_data_if(endian, sample_format.contains(SampleFields::AUX), fields)?;
         Ok(SampleEnd {
             weight,

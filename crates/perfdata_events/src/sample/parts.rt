@@ -10,12 +10,12 @@ ghost use Rattle.perfdata_events.specs.SampleFormat.{BRANCH_STACK, RAW, STACK_US
 ghost use Rattle.perfdata_events.specs.Words.{u64s, u64s_in};
 ghost use Rattle.std.specs.Option.{option_map};
 
-use crate::bits::{BranchFields, SampleFields};
-pub use crate::fields::registers::{RegisterMasks, Registers};
+pub use crate::fields::registers::{RegisterMasks, SampleRegisters};
 use crate::fields::u64s::{RawDataU64, read_block};
 use crate::fields::words::{read_u32, read_u64, read_u64_if, read_u64_list, read_u64s};
 use crate::format::EventFormat;
-use crate::record_bits::BranchFlags;
+use crate::record_masks::BranchFlags;
+use crate::sample_bits::{BranchFields, SampleFields};
 use bitflags::Flags;
 use perfdata_base::raw::{Endianness, RawData};
 use std::io::Result;

@@ -4,17 +4,17 @@ ghost use Rattle.perfdata_events.specs.Single.{KeepsSingle, NoParts};
 ghost use Rattle.perfdata_base.specs.Endian.{number_in};
 ghost use Rattle.perfdata_events.specs.Format.{Decodes};
 
-use crate::bits::SampleFields;
 use crate::fields::task::Task;
 use crate::fields::words::{read_task_if, read_u32_if, read_u64_if};
-pub use crate::sample::end::{DataWords, PageWords, WeightStruct};
+pub use crate::sample::end::{DataWords, PageFields, WeightStruct};
+use crate::sample_bits::SampleFields;
 use bitflags::Flags;
 use perfdata_base::raw::{Endianness, RawData};
 use std::io::Result;
 
 /// The first words of a sample. A field is `None` if the attribute doesn't select it.
 #[derive(Clone, Copy, Debug, PartialEq, Eq)]
-pub struct OriginWords {
+pub struct OriginFields {
     /// The identifier of the event, at an offset that doesn't depend on the other fields.
     pub identifier: Option<u64>,
     /// The address of the instruction.
@@ -27,7 +27,7 @@ pub struct OriginWords {
 
 /// The next words of a sample. A field is `None` if the attribute doesn't select it.
 #[derive(Clone, Copy, Debug, PartialEq, Eq)]
-pub struct EventWords {
+pub struct EventFields {
     /// The address in memory.
     pub address: Option<u64>,
     /// The identifier of the event.
@@ -38,7 +38,7 @@ pub struct EventWords {
     pub cpu: Option<u32>,
 }
 
-impl OriginWords {
+impl OriginFields {
     ghost use Rattle.perfdata_events.specs.Sample.{origin_words};
 
     /// Parses the words that a sample format selects at the start of `fields`, and removes them.
@@ -49,7 +49,7 @@ impl OriginWords {
         endian: Endianness,
         sample_format: SampleFields,
         fields: &mut RawData<'_>,
-    ) -> Result<OriginWords>
+    ) -> Result<OriginFields>
         ensures decodes { Decodes (origin_words (number_in endian) sample_format.0) (λ v. v)
             (bytes_of fields.old) result (bytes_of fields.new) }
         ensures single { KeepsSingle NoParts fields.old result fields.new }
@@ -62,7 +62,7 @@ impl OriginWords {
         let ip = read_u64_if(endian, fields, sample_format.contains(SampleFields::IP))?;
         let task = read_task_if(endian, fields, sample_format.contains(SampleFields::TID))?;
         let timestamp = read_u64_if(endian, fields, sample_format.contains(SampleFields::TIME))?;
-        Ok(OriginWords {
+        Ok(OriginFields {
             identifier,
             ip,
             task,
@@ -71,7 +71,7 @@ impl OriginWords {
     }
 }
 
-impl EventWords {
+impl EventFields {
     ghost use Rattle.perfdata_events.specs.Sample.{event_words};
 
     /// Parses the words that a sample format selects at the start of `fields`, and removes them.
@@ -82,7 +82,7 @@ impl EventWords {
         endian: Endianness,
         sample_format: SampleFields,
         fields: &mut RawData<'_>,
-    ) -> Result<EventWords>
+    ) -> Result<EventFields>
         ensures decodes { Decodes (event_words (number_in endian) sample_format.0) (λ v. v)
             (bytes_of fields.old) result (bytes_of fields.new) }
         ensures single { KeepsSingle NoParts fields.old result fields.new }
@@ -95,7 +95,7 @@ impl EventWords {
             sample_format.contains(SampleFields::STREAM_ID),
         )?;
         let cpu = read_u32_if(endian, fields, sample_format.contains(SampleFields::CPU))?;
-        Ok(EventWords {
+        Ok(EventFields {
             address,
             id,
             stream_id,

@@ -9,7 +9,7 @@ ghost use Rattle.perfdata_sections.specs.EventTypes.{ReadsSectionIds, DescribesE
 use crate::error::{Error, ReadError};
 use crate::event_type::SimplePerfEventType;
 use crate::feature_sections::event_ids::read_ids;
-use crate::feature_sections::{AttributeDescription, read_attr_frame_at};
+use crate::feature_sections::{AttributeDescription, seek_and_read_attr_frame};
 use perfdata_base::attr::PerfEventAttr;
 use perfdata_base::raw::FileOrder;
 use perfdata_base::section::PerfFileSection;
@@ -28,7 +28,7 @@ pub(crate) struct EventTypeEntry {
 }
 
 // Reads a section entry at the offset `at`.
-fn read_section_entry_at<C: PlacedSource, T: FileOrder>(
+fn read_section_entry<C: PlacedSource, T: FileOrder>(
     source: &mut C,
     at: u64,
 ) -> Result<PerfFileSection, Error>
@@ -43,7 +43,7 @@ fn read_section_entry_at<C: PlacedSource, T: FileOrder>(
 }
 
 // Reads the entry of an event at the offset `at`: a frame, and the section entry of its ids.
-fn read_entry_at<C: PlacedSource, T: FileOrder>(
+fn read_entry<C: PlacedSource, T: FileOrder>(
     source: &mut C,
     at: u64,
     attr_size: u64,
@@ -56,8 +56,8 @@ fn read_entry_at<C: PlacedSource, T: FileOrder>(
     ensures pauses { PausesOnlyOnError (C.state source.old) result (C.state source.new) }
     ensures same_loan { C.loan source.new ≡ C.loan source.old }
 {
-    let attr = read_attr_frame_at::<C, T>(source, at, attr_size)?;
-    let ids = read_section_entry_at::<C, T>(source, at + attr_size)?;
+    let attr = seek_and_read_attr_frame::<C, T>(source, at, attr_size)?;
+    let ids = read_section_entry::<C, T>(source, at + attr_size)?;
     Ok(EventTypeEntry { attr, ids })
 }
 
@@ -83,7 +83,7 @@ fn read_entries<C: PlacedSource, T: FileOrder>(
     let mut all = Vec::new(alloc);
     let mut at = section.offset;
     'entries: while end - at >= step {
-        let entry = read_entry_at::<C, T>(source, at, attr_size)?;
+        let entry = read_entry::<C, T>(source, at, attr_size)?;
         all.push(entry)?;
         at += step;
     }

@@ -30,7 +30,7 @@ impl NrCpus {
     /// the byte order `endian`.
     ///
     /// Fails with an `UnexpectedEof` error if the source returns fewer than 8 bytes.
-    pub fn parse_in<R: Source>(endian: Endianness, source: &mut R) -> Result<NrCpus>
+    pub fn parse_with_endian<R: Source>(endian: Endianness, source: &mut R) -> Result<NrCpus>
         ensures parses { ParsesPart 8 (nr_cpus_of (number_in endian)) (R.state source.old) result
             (R.state source.new) }
         ensures pauses { PausesOnlyOnError (R.state source.old) result (R.state source.new) }
@@ -44,14 +44,14 @@ impl NrCpus {
         })
     }
 
-    /// Reads the CPU counts at the position of a borrowed source. See `parse_in`.
+    /// Reads the CPU counts at the position of a borrowed source. See `parse_with_endian`.
     pub fn parse_from<R: Source, T: FileOrder>(source: &mut R) -> Result<NrCpus>
         ensures parses { ParsesPart 8 (nr_cpus_of T.number_of) (R.state source.old) result
             (R.state source.new) }
         ensures pauses { PausesOnlyOnError (R.state source.old) result (R.state source.new) }
         ensures same_loan { R.loan source.new ≡ R.loan source.old }
     {
-        NrCpus::parse_in(T::ENDIAN, source)
+        NrCpus::parse_with_endian(T::ENDIAN, source)
     }
 
     /// Reads the CPU counts at the position of an owned source. See `parse_from`.
@@ -79,7 +79,10 @@ impl SampleTimeRange {
     /// the byte order `endian`.
     ///
     /// Fails with an `UnexpectedEof` error if the source returns fewer than 16 bytes.
-    pub fn parse_in<R: Source>(endian: Endianness, source: &mut R) -> Result<SampleTimeRange>
+    pub fn parse_with_endian<R: Source>(
+        endian: Endianness,
+        source: &mut R,
+    ) -> Result<SampleTimeRange>
         ensures parses { ParsesPart 16 (sample_times_of (number_in endian)) (R.state source.old) result
             (R.state source.new) }
         ensures pauses { PausesOnlyOnError (R.state source.old) result (R.state source.new) }
@@ -93,14 +96,14 @@ impl SampleTimeRange {
         })
     }
 
-    /// Reads the times at the position of a borrowed source. See `parse_in`.
+    /// Reads the times at the position of a borrowed source. See `parse_with_endian`.
     pub fn parse_from<R: Source, T: FileOrder>(source: &mut R) -> Result<SampleTimeRange>
         ensures parses { ParsesPart 16 (sample_times_of T.number_of) (R.state source.old) result
             (R.state source.new) }
         ensures pauses { PausesOnlyOnError (R.state source.old) result (R.state source.new) }
         ensures same_loan { R.loan source.new ≡ R.loan source.old }
     {
-        SampleTimeRange::parse_in(T::ENDIAN, source)
+        SampleTimeRange::parse_with_endian(T::ENDIAN, source)
     }
 
     /// Reads the times at the position of an owned source. See `parse_from`.
@@ -140,7 +143,10 @@ impl CompressionInfo {
     /// `endian`.
     ///
     /// Fails with an `UnexpectedEof` error if the source returns fewer than 20 bytes.
-    pub fn parse_in<R: Source>(endian: Endianness, source: &mut R) -> Result<CompressionInfo>
+    pub fn parse_with_endian<R: Source>(
+        endian: Endianness,
+        source: &mut R,
+    ) -> Result<CompressionInfo>
         ensures parses { ParsesPart 20 (compression_of (number_in endian)) (R.state source.old) result
             (R.state source.new) }
         ensures pauses { PausesOnlyOnError (R.state source.old) result (R.state source.new) }
@@ -157,14 +163,14 @@ impl CompressionInfo {
         })
     }
 
-    /// Reads the compression info at the position of a borrowed source. See `parse_in`.
+    /// Reads the compression info at the position of a borrowed source. See `parse_with_endian`.
     pub fn parse_from<R: Source, T: FileOrder>(source: &mut R) -> Result<CompressionInfo>
         ensures parses { ParsesPart 20 (compression_of T.number_of) (R.state source.old) result
             (R.state source.new) }
         ensures pauses { PausesOnlyOnError (R.state source.old) result (R.state source.new) }
         ensures same_loan { R.loan source.new ≡ R.loan source.old }
     {
-        CompressionInfo::parse_in(T::ENDIAN, source)
+        CompressionInfo::parse_with_endian(T::ENDIAN, source)
     }
 
     /// Reads the compression info at the position of an owned source. See `parse_from`.
@@ -203,7 +209,7 @@ impl ClockData {
     ///
     /// Fails with an `InvalidData` error if the version isn't 1, before the rest is read, and with an
     /// `UnexpectedEof` error if the source returns fewer than 24 bytes.
-    pub fn parse_in<R: Source>(endian: Endianness, source: &mut R) -> Result<ClockData>
+    pub fn parse_with_endian<R: Source>(endian: Endianness, source: &mut R) -> Result<ClockData>
         ensures parses { ParsesClock (number_in endian) (R.state source.old) result (R.state source.new) }
         ensures pauses { PausesOnlyOnError (R.state source.old) result (R.state source.new) }
         ensures same_loan { R.loan source.new ≡ R.loan source.old }
@@ -222,13 +228,13 @@ impl ClockData {
         })
     }
 
-    /// Reads the clock data at the position of a borrowed source. See `parse_in`.
+    /// Reads the clock data at the position of a borrowed source. See `parse_with_endian`.
     pub fn parse_from<R: Source, T: FileOrder>(source: &mut R) -> Result<ClockData>
         ensures parses { ParsesClock T.number_of (R.state source.old) result (R.state source.new) }
         ensures pauses { PausesOnlyOnError (R.state source.old) result (R.state source.new) }
         ensures same_loan { R.loan source.new ≡ R.loan source.old }
     {
-        ClockData::parse_in(T::ENDIAN, source)
+        ClockData::parse_with_endian(T::ENDIAN, source)
     }
 
     /// Reads the clock data at the position of an owned source. See `parse_from`.

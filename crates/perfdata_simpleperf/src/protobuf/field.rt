@@ -35,7 +35,7 @@ pub(crate) struct Field<'a> {
     pub value: Value<'a>,
 }
 
-fn field_type_of(message: Message, number: u32) -> FieldType
+fn field_type(message: Message, number: u32) -> FieldType
     ensures { result ≡ field_type message number }
 {
     match message {
@@ -84,7 +84,7 @@ pub(crate) fn read_field(message: Message, bytes: &[u8]) -> Result<(Field<'_>, &
     ensures on_error { IfErr result (λ e. FieldError message bytes.now e) }
 {
     let (key, rest) = read_key(bytes)?;
-    if !accepts_wire_type(field_type_of(message, key.field_number), key.wire_type) {
+    if !accepts_wire_type(field_type(message, key.field_number), key.wire_type) {
         return Err(DecodeError::WireType);
     }
     let number = key.field_number;

@@ -20,7 +20,11 @@ use std::alloc::Global;
 use std::io::{self, ErrorKind};
 
 // Decodes the record at the start of `bytes` in byte order `endian`.
-fn decode_v1_in(alloc: Global, endian: Endianness, bytes: &[u8]) -> io::Result<SimpleperfFileRecord>
+fn decode_v1_with_endian(
+    alloc: Global,
+    endian: Endianness,
+    bytes: &[u8],
+) -> io::Result<SimpleperfFileRecord>
     ensures on_ok { IfOk result (λ r. IsV1 (number_in endian) bytes.now (record_value r)) }
     ensures on_error { IfErr result (λ e. (error_kind e ≡ OutOfMemory)
         ⊎ V1Error (number_in endian) bytes.now (error_kind e)) }
@@ -50,7 +54,7 @@ impl ChunkFormat for V1Records {
         endian: Endianness,
         chunk: &[u8],
     ) -> Result<SimpleperfFileRecord, Error> {
-        match decode_v1_in(alloc, endian, chunk) {
+        match decode_v1_with_endian(alloc, endian, chunk) {
             Ok(record) => Ok(record),
             Err(error) => match error.kind() {
                 ErrorKind::OutOfMemory => Err(Error::Memory),

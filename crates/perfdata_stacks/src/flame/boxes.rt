@@ -1,8 +1,8 @@
 //! The boxes of the frames of stacks.
 
 use crate::flame::open_boxes::OpenBoxes;
-use crate::flame::span::Span;
-use crate::flame::stacks::{FlameStacks, FrameName};
+use crate::flame::span::WidthSpan;
+use crate::flame::stacks::{FlameName, FlameStacks};
 use std::alloc::{AllocError, Global};
 
 /// A box: the samples of stacks that start alike up to this frame.
@@ -12,7 +12,7 @@ pub(crate) struct FlameBox {
     pub(crate) rank: usize,
     /// The number of frames before it.
     pub(crate) depth: usize,
-    pub(crate) span: Span,
+    pub(crate) span: WidthSpan,
 }
 
 // The names in the order of their texts.
@@ -45,7 +45,7 @@ pub(crate) struct FlameBoxes {
 }
 
 // Returns the text of a name.
-fn text_of(names: &[FrameName], number: usize) -> &[u8] {
+fn box_text(names: &[FlameName], number: usize) -> &[u8] {
     match names.get(number) {
         Some(name) => name.text.as_slice(),
         None => &[],
@@ -53,24 +53,24 @@ fn text_of(names: &[FrameName], number: usize) -> &[u8] {
 }
 
 // Returns the numbers of names in the order of their texts.
-fn sorted_numbers(alloc: Global, names: &[FrameName]) -> Result<Vec<usize>, AllocError> {
+fn sorted_numbers(alloc: Global, names: &[FlameName]) -> Result<Vec<usize>, AllocError> {
     let mut numbers = Vec::new(alloc);
     for number in 0..names.len() {
         numbers.push(number)?;
     }
-    numbers.sort_by(|a: &usize, b: &usize| text_of(names, *a).cmp(text_of(names, *b)))?;
+    numbers.sort_by(|a: &usize, b: &usize| box_text(names, *a).cmp(box_text(names, *b)))?;
     Ok(numbers)
 }
 
 // Returns the ranks of names.
-fn ranks_of(alloc: Global, names: &[FrameName]) -> Result<Ranks, AllocError> {
+fn ranks(alloc: Global, names: &[FlameName]) -> Result<Ranks, AllocError> {
     let mut ranks = Ranks {
         of_name: vec![in alloc; 0; names.len()]?,
         first: Vec::new(alloc),
     };
     for number in sorted_numbers(alloc, names)?.iter() {
         let is_last = match ranks.first.last() {
-            Some(last) => text_of(names, *last) == text_of(names, *number),
+            Some(last) => box_text(names, *last) == box_text(names, *number),
             None => false,
         };
         if !is_last {
@@ -84,7 +84,7 @@ fn ranks_of(alloc: Global, names: &[FrameName]) -> Result<Ranks, AllocError> {
 }
 
 // Returns the ranks of the names of a stack.
-fn ranks_in(alloc: Global, ranks: &Ranks, names: &[usize]) -> Result<Vec<usize>, AllocError> {
+fn stack_ranks(alloc: Global, ranks: &Ranks, names: &[usize]) -> Result<Vec<usize>, AllocError> {
     let mut in_stack = Vec::new(alloc);
     for name in names {
         if let Some(rank) = ranks.of_name.get(*name) {
@@ -103,7 +103,7 @@ fn sorted_stacks(
     let mut sorted = Vec::new(alloc);
     for stack in stacks.stacks() {
         sorted.push(RankedStack {
-            ranks: ranks_in(alloc, ranks, stack.names.as_slice())?,
+            ranks: stack_ranks(alloc, ranks, stack.names.as_slice())?,
             weight: stack.weight,
         })?;
     }
@@ -123,7 +123,7 @@ fn shared_ranks(first: &[usize], second: &[usize]) -> usize {
 impl FlameBoxes {
     /// Returns the boxes of stacks.
     pub(crate) fn new(alloc: Global, stacks: &FlameStacks) -> Result<FlameBoxes, AllocError> {
-        let ranks = ranks_of(alloc, stacks.names())?;
+        let ranks = ranks(alloc, stacks.names())?;
         let sorted = sorted_stacks(alloc, stacks, &ranks)?;
         let mut boxes = FlameBoxes {
             boxes: Vec::new(alloc),
@@ -174,7 +174,7 @@ impl FlameBoxes {
         &self,
         stacks: &'a FlameStacks,
         flame_box: &FlameBox,
-    ) -> Option<&'a FrameName> {
+    ) -> Option<&'a FlameName> {
         let number = self.first.get(flame_box.rank)?;
         stacks.names().get(*number)
     }

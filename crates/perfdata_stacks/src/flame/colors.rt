@@ -13,7 +13,7 @@ struct Hue {
 }
 
 // Returns the hue of a kind of frames.
-fn hue_of(kind: FrameKind) -> Hue {
+fn hue(kind: FrameKind) -> Hue {
     let (first, last) = match kind {
         FrameKind::Thread => ([184, 184, 196], [208, 208, 216]),
         FrameKind::User => ([222, 92, 32], [250, 216, 72]),
@@ -25,7 +25,7 @@ fn hue_of(kind: FrameKind) -> Hue {
 }
 
 // Returns the shade of a name (FNV-1a).
-fn shade_of(name: &[u8]) -> u32 {
+fn shade(name: &[u8]) -> u32 {
     let mut hash = 0x811c_9dc5u32;
     for byte in name {
         hash = (hash ^ *byte as u32).wrapping_mul(0x0100_0193);
@@ -34,19 +34,19 @@ fn shade_of(name: &[u8]) -> u32 {
 }
 
 // Returns a part of a color: that of a shade between the first and the last.
-fn part_of(first: u8, last: u8, shade: u32) -> u8 {
+fn blend(first: u8, last: u8, shade: u32) -> u8 {
     let range = last.saturating_sub(first) as u32;
     let lighter = range * shade.min(SHADES) / SHADES;
     first.saturating_add(u8::try_from(lighter).unwrap_or(u8::MAX))
 }
 
 /// Returns the color of a frame: the hue of its kind, in a shade that depends on its name alone.
-pub(crate) fn color_of(kind: FrameKind, name: &[u8]) -> [u8; 3] {
-    let Hue { first, last } = hue_of(kind);
-    let shade = shade_of(name);
+pub(crate) fn frame_color(kind: FrameKind, name: &[u8]) -> [u8; 3] {
+    let Hue { first, last } = hue(kind);
+    let shade = shade(name);
     [
-        part_of(first[0], last[0], shade),
-        part_of(first[1], last[1], shade),
-        part_of(first[2], last[2], shade),
+        blend(first[0], last[0], shade),
+        blend(first[1], last[1], shade),
+        blend(first[2], last[2], shade),
     ]
 }

@@ -3,7 +3,7 @@ ghost use Rattle.std.specs.Prelude.{◌≡◌, ◌≤◌, ◌==◌, ◌+◌, ◌
 ghost use Rattle.std.specs.Prelude.{All, IfNone, IfSome, OnErr, OnOk, length, min};
 ghost use Rattle.std.specs.List.Sorted.{IsNonDecreasing};
 
-use crate::flame::span::Span;
+use crate::flame::span::WidthSpan;
 use std::alloc::{AllocError, Global};
 
 /// The boxes around the current sample, the outermost first.
@@ -57,7 +57,7 @@ impl OpenBoxes {
     }
 
     /// Closes the innermost box at the current position. Returns its samples, or `None` if no box is open.
-    pub fn close(&mut self) -> Option<Span>
+    pub fn close(&mut self) -> Option<WidthSpan>
         ensures none { IfNone result (starts_of self.old ≡ []) }
         ensures none_opened { IfNone result (starts_of self.new ≡ []) }
         ensures innermost { IfSome result (λ span.
@@ -68,7 +68,7 @@ impl OpenBoxes {
         ensures position { position_of self.new ≡ position_of self.old }
     {
         let start = self.starts.pop()?;
-        Some(Span {
+        Some(WidthSpan {
             start,
             end: self.position,
         })

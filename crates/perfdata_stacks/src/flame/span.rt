@@ -2,14 +2,14 @@
 
 /// The samples from one up to another, in the order of the lines.
 #[derive(Clone, Copy, Debug, PartialEq, Eq)]
-pub struct Span {
+pub struct WidthSpan {
     /// The sum of the weights of the samples before it.
     pub start: u64,
     /// The sum of the weights of the samples up to its end.
     pub end: u64,
 }
 
-impl Span {
+impl WidthSpan {
     /// Returns the sum of the weights of its samples.
     pub(crate) fn weight(self) -> u64 {
         self.end.saturating_sub(self.start)

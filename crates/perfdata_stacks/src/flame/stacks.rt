@@ -20,7 +20,7 @@ pub enum FrameKind {
 
 /// What a flame graph says of a frame.
 #[derive(Drop)]
-pub struct FrameName {
+pub struct FlameName {
     /// What it is.
     pub kind: FrameKind,
     /// The name.
@@ -41,7 +41,7 @@ pub struct FlameStack {
 /// Names, and stacks of them.
 #[derive(Drop)]
 pub struct FlameStacks {
-    names: Vec<FrameName>,
+    names: Vec<FlameName>,
     stacks: Vec<FlameStack>,
 }
 
@@ -63,7 +63,7 @@ impl FlameStacks {
     /// kind and with the file of one of them.
     ///
     /// Fails if memory runs out. Then the name isn't appended.
-    pub fn push_name(&mut self, name: FrameName) -> Result<usize, AllocError>
+    pub fn push_name(&mut self, name: FlameName) -> Result<usize, AllocError>
         ensures number { IfOk result (λ number. number ≡ length (names_of self.old)) }
         ensures ok { OnOk result (names_of self.new ≡ names_of self.old ++ name ∷ []) }
         ensures err { OnErr result (names_of self.new ≡ names_of self.old) }
@@ -87,7 +87,7 @@ impl FlameStacks {
     }
 
     /// Returns the names, by their numbers.
-    pub fn names(&self) -> &[FrameName]
+    pub fn names(&self) -> &[FlameName]
         ensures { result.now ≡ names_of self.now }
     {
         self.names.as_slice()

@@ -3,9 +3,9 @@ ghost use Rattle.std.specs.Prelude.{ℕ, List, OnOk};
 ghost use Rattle.std.specs.Io.KnownBytes.{Appends};
 
 use crate::flame::boxes::FlameBoxes;
-use crate::flame::colors::color_of;
+use crate::flame::colors::frame_color;
 use crate::flame::script::{LEGEND, SCRIPT, START, STYLE};
-use crate::flame::span::{Span, share};
+use crate::flame::span::{WidthSpan, share};
 use crate::flame::stacks::{FlameStacks, FrameKind};
 use crate::flame::xml_text::XmlText;
 use bstr::ByteSlice;
@@ -82,7 +82,7 @@ impl Display for WidthParts {
 
 // A box in the picture.
 #[derive(Clone, Copy)]
-struct Place {
+struct BoxGeometry {
     /// What is left of it, in parts of the graph's width.
     left: u64,
     /// Its width, in parts of the graph's width.
@@ -110,15 +110,15 @@ struct Label<'a> {
 
 impl Picture<'_> {
     // Returns whether a box is too narrow to be seen.
-    fn is_narrow(&self, span: Span) -> bool {
+    fn is_narrow(&self, span: WidthSpan) -> bool {
         share(span.weight(), self.total, GRAPH_WIDTH * PARTS_OF_PIXEL) == 0
     }
 
     // Returns the place of samples at a depth.
-    fn place(&self, span: Span, row: u64) -> Place {
+    fn place(&self, span: WidthSpan, row: u64) -> BoxGeometry {
         let left = share(span.start, self.total, WIDTH_PARTS);
         let right = share(span.end, self.total, WIDTH_PARTS);
-        Place {
+        BoxGeometry {
             left,
             width: right.saturating_sub(left),
             row,
@@ -143,7 +143,7 @@ impl Picture<'_> {
     fn write_box(
         &self,
         label: Label<'_>,
-        span: Span,
+        span: WidthSpan,
         row: u64,
         out: &mut Vec<u8>,
     ) -> io::Result<()> {
@@ -152,7 +152,7 @@ impl Picture<'_> {
         }
         let place = self.place(span, row);
         self.write_title(label, span.weight(), out)?;
-        write_rectangle(place, color_of(label.kind, label.text), out)?;
+        write_rectangle(place, frame_color(label.kind, label.text), out)?;
         write_name(place, label.text, out)?;
         out.write_all(b"</g>\n")
     }
@@ -194,7 +194,7 @@ impl Picture<'_> {
         boxes: &FlameBoxes,
         out: &mut Vec<u8>,
     ) -> io::Result<()> {
-        let all = Span {
+        let all = WidthSpan {
             start: 0,
             end: self.total,
         };
@@ -215,13 +215,13 @@ impl Picture<'_> {
 }
 
 // Returns the position of the upper side of a row in the graph, in pixels.
-fn top_of(row: u64) -> u64 {
+fn box_top(row: u64) -> u64 {
     row.saturating_mul(ROW_HEIGHT)
 }
 
 // Writes the rectangle of a box.
-fn write_rectangle(place: Place, color: [u8; 3], out: &mut Vec<u8>) -> io::Result<()> {
-    let (x, y) = (WidthParts(place.left), top_of(place.row));
+fn write_rectangle(place: BoxGeometry, color: [u8; 3], out: &mut Vec<u8>) -> io::Result<()> {
+    let (x, y) = (WidthParts(place.left), box_top(place.row));
     let (width, height) = (WidthParts(place.width), ROW_HEIGHT - 1);
     let (red, green, blue) = (color[0], color[1], color[2]);
     write!(
@@ -232,14 +232,14 @@ fn write_rectangle(place: Place, color: [u8; 3], out: &mut Vec<u8>) -> io::Resul
 }
 
 // Returns the number of characters that fit into a box.
-fn characters_in(place: Place) -> u64 {
+fn character_count(place: BoxGeometry) -> u64 {
     let hundredths = share(place.width, WIDTH_PARTS, GRAPH_WIDTH * 100);
     hundredths.saturating_sub(2 * NAME_MARGIN * 100) / CHARACTER_WIDTH
 }
 
 // Writes as much of the name of a box as fits, if that is enough.
-fn write_name(place: Place, name: &[u8], out: &mut Vec<u8>) -> io::Result<()> {
-    let limit = characters_in(place);
+fn write_name(place: BoxGeometry, name: &[u8], out: &mut Vec<u8>) -> io::Result<()> {
+    let limit = character_count(place);
     if limit < MIN_CHARACTERS {
         return Ok(());
     }
@@ -252,7 +252,7 @@ fn write_name(place: Place, name: &[u8], out: &mut Vec<u8>) -> io::Result<()> {
 
 // Writes the first characters of a name, and what follows them.
 fn write_text(
-    place: Place,
+    place: BoxGeometry,
     name: &[u8],
     length: u64,
     end: &str,
@@ -263,7 +263,7 @@ fn write_text(
         limit: length as usize,
     };
     let x = WidthParts(place.left);
-    let y = top_of(place.row).saturating_add(13);
+    let y = box_top(place.row).saturating_add(13);
     write!(
         out,
         r#"<text x="{x}" dx="{NAME_MARGIN}" y="{y}">{text}{end}</text>"#
@@ -318,7 +318,7 @@ fn flame_graph(alloc: Global, stacks: &FlameStacks, caption: Caption<'_>) -> io:
         total: boxes.total,
         unit: caption.unit,
     };
-    let graph_height = top_of(picture.rows(&boxes));
+    let graph_height = box_top(picture.rows(&boxes));
     let height = graph_height.saturating_add(TOP + BOTTOM);
     let mut out = Vec::new(alloc);
     write_start(caption.title, height, &mut out)?;

@@ -69,6 +69,6 @@ impl MappedFiles {
 
     /// Returns the build id of a mapping, which is empty if it isn't known.
     pub(crate) fn build_id<'a>(&'a self, mapping: &'a Mapping) -> &'a [u8] {
-        self.build_ids.of_mapping(mapping)
+        self.build_ids.mapping_build_id(mapping)
     }
 }

@@ -51,13 +51,13 @@ impl BuildIds {
         entry.extend_from_slice(&size.unwrap_or(u16::MAX).to_le_bytes())?;
         record.body.append_to(&mut entry)?;
         let mut bytes = entry.as_slice();
-        let event = BuildIdEvent::read_from_in(alloc, Endianness::LittleEndian, &mut bytes)?;
+        let event = BuildIdEvent::read_with_endian(alloc, Endianness::LittleEndian, &mut bytes)?;
         self.of_paths.insert(event.file_path, event.build_id)?;
         Ok(())
     }
 
     /// Returns the build id at a path, which is empty if it isn't known.
-    pub(crate) fn of_path(&self, path: &[u8]) -> &[u8] {
+    pub(crate) fn path_build_id(&self, path: &[u8]) -> &[u8] {
         match self.of_paths.get(path) {
             Some(id) => id.as_slice(),
             None => &[],
@@ -66,14 +66,14 @@ impl BuildIds {
 
     /// Returns the build id of a mapping, which is empty if it isn't known. That of the kernel was recorded
     /// without the symbol after its path.
-    pub(crate) fn of_mapping<'a>(&'a self, mapping: &'a Mapping) -> &'a [u8] {
+    pub(crate) fn mapping_build_id<'a>(&'a self, mapping: &'a Mapping) -> &'a [u8] {
         let path = mapping.path.as_slice();
         if !mapping.build_id.is_empty() {
             mapping.build_id.as_slice()
         } else if path.starts_with(KERNEL_PATH) {
-            self.of_path(KERNEL_PATH)
+            self.path_build_id(KERNEL_PATH)
         } else {
-            self.of_path(path)
+            self.path_build_id(path)
         }
     }
 }

@@ -1,11 +1,11 @@
 //! The paths at which the debug file of a mapped file is looked for.
 
-use perfdata_symbols::DebugLink;
+use code_symbols::DebugLink;
 use std::alloc::{AllocError, Global};
 
 /// The directories before the path of a debug file.
 #[derive(Clone, Copy)]
-pub(crate) enum DebugPlace {
+pub(crate) enum DebugDirectory {
     /// Those of mapped files.
     Files,
     /// Those of debug files.
@@ -15,7 +15,7 @@ pub(crate) enum DebugPlace {
 /// The path of a debug file.
 #[derive(Drop)]
 pub(crate) struct DebugPath {
-    pub(crate) place: DebugPlace,
+    pub(crate) directory: DebugDirectory,
     /// The path below the directory, which starts with a slash.
     pub(crate) path: String,
     /// The CRC-32 of the file, if the mapped file's debug link has this path.
@@ -23,7 +23,7 @@ pub(crate) struct DebugPath {
 }
 
 // Returns the path of the directory of a file, with a slash at the end.
-fn directory_of(path: &str) -> &str {
+fn parent_directory(path: &str) -> &str {
     match path.rsplit_once('/') {
         Some((directory, _name)) => path.get(..directory.len().saturating_add(1)).unwrap_or("/"),
         None => "/",
@@ -40,17 +40,17 @@ fn add_linked(
 ) -> Result<(), AllocError> {
     let crc = Some(crc);
     paths.push(DebugPath {
-        place: DebugPlace::Files,
+        directory: DebugDirectory::Files,
         path: format!(in alloc; "{directory}{name}")?,
         crc,
     })?;
     paths.push(DebugPath {
-        place: DebugPlace::Files,
+        directory: DebugDirectory::Files,
         path: format!(in alloc; "{directory}.debug/{name}")?,
         crc,
     })?;
     paths.push(DebugPath {
-        place: DebugPlace::DebugFiles,
+        directory: DebugDirectory::DebugFiles,
         path: format!(in alloc; "{directory}{name}")?,
         crc,
     })?;
@@ -82,18 +82,18 @@ pub(crate) fn debug_paths(
     let mut paths = Vec::new(alloc);
     if let Some(link) = link {
         if let Ok(name) = str::from_utf8(&link.file_name) {
-            add_linked(alloc, directory_of(path), name, link.crc, &mut paths)?;
+            add_linked(alloc, parent_directory(path), name, link.crc, &mut paths)?;
         }
     }
     if !id.is_empty() {
         paths.push(DebugPath {
-            place: DebugPlace::DebugFiles,
+            directory: DebugDirectory::DebugFiles,
             path: build_id_path(alloc, id)?,
             crc: None,
         })?;
     }
     paths.push(DebugPath {
-        place: DebugPlace::DebugFiles,
+        directory: DebugDirectory::DebugFiles,
         path: String::from_str(alloc, path)?,
         crc: None,
     })?;

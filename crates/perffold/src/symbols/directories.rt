@@ -40,7 +40,9 @@ fn is_of_kernel(path: Path<'_>) -> bool {
 }
 
 /// Returns what was opened, or `None` if there is nothing to open. Fails if memory runs out.
-pub(crate) fn found<T: Drop>(opened: io::Result<Option<T>>) -> Result<Option<T>, AllocError> {
+pub(crate) fn none_if_missing<T: Drop>(
+    opened: io::Result<Option<T>>,
+) -> Result<Option<T>, AllocError> {
     match opened {
         Ok(found) => Ok(found),
         Err(error) if error.kind() == ErrorKind::OutOfMemory => Err(AllocError),
@@ -50,7 +52,7 @@ pub(crate) fn found<T: Drop>(opened: io::Result<Option<T>>) -> Result<Option<T>,
 
 impl Directory {
     // Returns the directory at a path, or at this path below another directory, which no link leaves.
-    fn below(rt: &HostRuntime, root: Option<&str>, path: &str) -> io::Result<Directory> {
+    fn open_below(rt: &HostRuntime, root: Option<&str>, path: &str) -> io::Result<Directory> {
         let limit = match root {
             Some(root) => Some(fs::canonicalize(rt, root)?),
             None => None,
@@ -63,7 +65,7 @@ impl Directory {
     }
 
     // Returns a directory of the command line.
-    fn named(rt: &HostRuntime, path: &str, is_limited: bool) -> io::Result<Directory> {
+    fn open_root(rt: &HostRuntime, path: &str, is_limited: bool) -> io::Result<Directory> {
         let canonical = fs::canonicalize(rt, path)?;
         Ok(Directory {
             prefix: String::from_str(rt.alloc(), path)?,
@@ -96,7 +98,7 @@ impl Directory {
     /// Opens the file at a path, which starts with a slash. Returns `None` if it can't be opened, if it isn't
     /// a regular file, or if it is where no file is read, with all links of the path followed.
     pub(crate) fn open(&self, rt: &HostRuntime, path: &str) -> Result<Option<File>, AllocError> {
-        found(self.open_file(rt, path))
+        none_if_missing(self.open_file(rt, path))
     }
 }
 
@@ -112,7 +114,7 @@ pub(crate) struct Directories {
 }
 
 // Returns the directory of the command line, or the default one.
-fn named_or_default<'a>(
+fn open_or_default<'a>(
     rt: &HostRuntime,
     symfs: Option<&'a str>,
     named: Option<&'a str>,
@@ -120,9 +122,12 @@ fn named_or_default<'a>(
 ) -> Result<Directory, PathError<'a>> {
     match named {
         Some(path) => {
-            Directory::named(rt, path, symfs.is_some()).map_err(|error| PathError { path, error })
+            Directory::open_root(rt, path, symfs.is_some()).map_err(|error| PathError {
+                path,
+                error,
+            })
         }
-        None => Directory::below(rt, symfs, default).map_err(|error| PathError {
+        None => Directory::open_below(rt, symfs, default).map_err(|error| PathError {
             path: symfs.unwrap_or(""),
             error,
         }),
@@ -137,9 +142,9 @@ impl Directories {
     ) -> Result<Directories, PathError<'a>> {
         let symfs = options.symfs;
         Ok(Directories {
-            files: named_or_default(rt, symfs, None, "")?,
-            debug_files: named_or_default(rt, symfs, options.debug_dir, DEBUG_DIRECTORY)?,
-            maps: named_or_default(rt, symfs, options.maps, MAP_DIRECTORY)?,
+            files: open_or_default(rt, symfs, None, "")?,
+            debug_files: open_or_default(rt, symfs, options.debug_dir, DEBUG_DIRECTORY)?,
+            maps: open_or_default(rt, symfs, options.maps, MAP_DIRECTORY)?,
         })
     }
 }

@@ -1,12 +1,12 @@
 //! The symbols of mapped ELF files, from them or from their debug files.
 
-use crate::symbols::debug_paths::{DebugPath, DebugPlace, debug_paths};
+use crate::symbols::debug_paths::{DebugDirectory, DebugPath, debug_paths};
 use crate::symbols::directories::Directories;
-use perfdata_base::source::CountedBuffer;
-use perfdata_symbols::{
+use code_symbols::{
     Crc32, DebugLink, ElfError, ElfFile, JitSymbols, JitSymbolsError, RankedSymbols, SymbolSection,
     SymbolTable,
 };
+use perfdata_base::source::CountedBuffer;
 use std::alloc::{AllocError, Global};
 use std::fs::File;
 use std::io;
@@ -51,7 +51,7 @@ pub(crate) fn is_recorded(id: &[u8], recorded: &[u8]) -> bool {
 }
 
 // Returns the CRC-32 of the rest of a file.
-fn crc_of(file: &mut File) -> io::Result<u32> {
+fn file_crc(file: &mut File) -> io::Result<u32> {
     let mut crc = Crc32::new();
     let mut piece = [0u8; PIECE_SIZE];
     for _ in 0..u64::MAX {
@@ -77,7 +77,7 @@ fn own_symbols(alloc: Global, mapped: &mut Elf) -> Result<RankedSymbols, ElfErro
 }
 
 // Returns the symbols of a mapped file, which may be those in its debug file.
-fn symbols_of(
+fn file_symbols(
     alloc: Global,
     mapped: &mut Elf,
     debug: Option<Elf>,
@@ -208,7 +208,7 @@ impl<'a> ElfFiles<'a> {
         if !recorded.is_empty() {
             return Ok(true);
         }
-        match self.readable(crc_of(file).map_err(ElfError::Io))? {
+        match self.readable(file_crc(file).map_err(ElfError::Io))? {
             Some(found) if found == crc => Ok(true),
             Some(_) => {
                 self.counts.different = self.counts.different.saturating_add(1);
@@ -220,9 +220,9 @@ impl<'a> ElfFiles<'a> {
 
     // Opens a debug file.
     fn open_debug(&mut self, path: &DebugPath, recorded: &[u8]) -> Result<Option<Elf>, AllocError> {
-        let directory = match path.place {
-            DebugPlace::Files => &self.directories.files,
-            DebugPlace::DebugFiles => &self.directories.debug_files,
+        let directory = match path.directory {
+            DebugDirectory::Files => &self.directories.files,
+            DebugDirectory::DebugFiles => &self.directories.debug_files,
         };
         let Some(mut file) = directory.open(self.rt, path.path.as_str())? else {
             return Ok(None);
@@ -263,7 +263,7 @@ impl<'a> ElfFiles<'a> {
     }
 
     // Opens the debug file of a mapped file, if there is one.
-    fn open_debug_of(&mut self, path: &str, mapped: &mut Elf) -> Result<Option<Elf>, AllocError> {
+    fn open_debug_file(&mut self, path: &str, mapped: &mut Elf) -> Result<Option<Elf>, AllocError> {
         let link = self.debug_link(mapped)?;
         let id = self.build_id(mapped)?;
         let paths = debug_paths(self.rt.alloc(), path, link.as_ref(), &id)?;
@@ -272,13 +272,13 @@ impl<'a> ElfFiles<'a> {
 
     // Returns the table of the symbols of a mapped file. A procedure linkage table that can't be read loses
     // its own names only.
-    fn table_of(
+    fn symbol_table(
         &mut self,
         mapped: &mut Elf,
         debug: Option<Elf>,
     ) -> Result<Option<SymbolTable>, AllocError> {
         let alloc = self.rt.alloc();
-        let Some(mut symbols) = self.readable(symbols_of(alloc, mapped, debug))? else {
+        let Some(mut symbols) = self.readable(file_symbols(alloc, mapped, debug))? else {
             return Ok(None);
         };
         let _ = self.readable(mapped.add_plt_symbols(alloc, &mut symbols))?;
@@ -295,10 +295,10 @@ impl<'a> ElfFiles<'a> {
         let Some(mut mapped) = self.open_mapped(path, recorded)? else {
             return Ok(None);
         };
-        let debug = self.open_debug_of(path, &mut mapped)?;
+        let debug = self.open_debug_file(path, &mut mapped)?;
         if recorded.is_empty() {
             self.counts.unknown = self.counts.unknown.saturating_add(1);
         }
-        self.table_of(&mut mapped, debug)
+        self.symbol_table(&mut mapped, debug)
     }
 }

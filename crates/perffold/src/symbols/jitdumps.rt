@@ -1,9 +1,9 @@
 //! The code that processes describe in jitdumps.
 
+use crate::mapping_names::base_name;
 use crate::symbols::elf_files::ElfFiles;
 use crate::symbols::{SymbolId, TableId};
-use crate::text::base_name;
-use perfdata_symbols::{JitSymbols, SymbolTable};
+use code_symbols::{JitSymbols, SymbolTable};
 use std::alloc::{AllocError, Global};
 use std::collections::BTreeMap;
 

@@ -1,9 +1,9 @@
 //! The symbols of the kernel.
 
-use crate::text::base_name;
+use crate::mapping_names::base_name;
 use bstr::ByteSlice;
+use code_symbols::{Symbol, SymbolTable, parse_kallsyms, symbol_address, symbol_module};
 use perfdata_spaces::mapping::Mapping;
-use perfdata_symbols::{Symbol, SymbolTable, address_of, module_of, parse_kallsyms};
 use std::{fs, io};
 
 /// The path of the kernel's own mapping, which the name of a symbol follows.
@@ -47,7 +47,7 @@ impl KernelSymbols {
     /// Sets what is added to addresses of the recording, by the address of a symbol in it, if it isn't set.
     pub(crate) fn set_shift(&mut self, symbol: &[u8], address: u64) {
         if self.shift.is_none() {
-            self.shift = Some(match address_of(&self.table, symbol) {
+            self.shift = Some(match symbol_address(&self.table, symbol) {
                 Some(listed) => listed.wrapping_sub(address),
                 None => 0,
             });
@@ -56,11 +56,11 @@ impl KernelSymbols {
 
     // Returns whether a symbol is one of the kernel itself.
     fn is_of_kernel(&self, symbol: &Symbol) -> bool {
-        module_of(&self.table, symbol).is_empty()
+        symbol_module(&self.table, symbol).is_empty()
     }
 
     // Returns the index of the symbol at an address of the list.
-    fn index_at(&self, address: u64) -> Option<(usize, Symbol)> {
+    fn listed_index(&self, address: u64) -> Option<(usize, Symbol)> {
         let index = self.table.find_index(address)?;
         let symbol = self.table.symbols().get(index)?;
         Some((index, *symbol))
@@ -68,23 +68,23 @@ impl KernelSymbols {
 
     // Returns the index of the symbol of a module at an address. Modules have the addresses of the recording
     // if the kernel wasn't restarted.
-    fn module_index_at(&self, address: u64) -> Option<(usize, Symbol)> {
+    fn listed_module_index(&self, address: u64) -> Option<(usize, Symbol)> {
         if self.shift.unwrap_or(0) != 0 {
             return None;
         }
-        self.index_at(address)
+        self.listed_index(address)
     }
 
     // Returns the index of the symbol at an address of the kernel's own mapping. The addresses of modules
     // aren't shifted.
     fn kernel_index(&self, address: u64) -> Option<usize> {
-        if let Some((_index, symbol)) = self.index_at(address) {
+        if let Some((_index, symbol)) = self.listed_index(address) {
             if !self.is_of_kernel(&symbol) {
-                let (index, _symbol) = self.module_index_at(address)?;
+                let (index, _symbol) = self.listed_module_index(address)?;
                 return Some(index);
             }
         }
-        let (index, symbol) = self.index_at(address.wrapping_add(self.shift.unwrap_or(0)))?;
+        let (index, symbol) = self.listed_index(address.wrapping_add(self.shift.unwrap_or(0)))?;
         if self.is_of_kernel(&symbol) {
             Some(index)
         } else {
@@ -94,8 +94,8 @@ impl KernelSymbols {
 
     // Returns the index of the symbol at an address of a module's mapping, if it is one of that module.
     fn module_index(&self, mapping: &Mapping, address: u64) -> Option<usize> {
-        let (index, symbol) = self.module_index_at(address)?;
-        let module = module_of(&self.table, &symbol);
+        let (index, symbol) = self.listed_module_index(address)?;
+        let module = symbol_module(&self.table, &symbol);
         if symbol.start >= mapping.start && is_module(mapping.path.as_slice(), module) {
             Some(index)
         } else {

@@ -1,13 +1,13 @@
 //! Which list names the kernel's functions.
 
 use crate::options::KernelList;
-use crate::symbols::directories::{PathError, found};
+use crate::symbols::directories::{PathError, none_if_missing};
 use crate::symbols::elf_files::is_recorded;
 use crate::symbols::kernel::{KERNEL_PATH, KernelSymbols};
+use code_symbols::{SymbolTable, build_id_of_notes};
 use perfdata_base::raw::Endianness;
 use perfdata_cli::error::InputError;
 use perfdata_spaces::mapping::Mapping;
-use perfdata_symbols::{SymbolTable, build_id_of_notes};
 use std::alloc::AllocError;
 use std::fmt::{Display, Formatter};
 use std::io::ErrorKind;
@@ -24,7 +24,7 @@ const NATIVE: Endianness = Endianness::LittleEndian;
 
 /// Why there is no list of the kernel's symbols.
 #[derive(Drop)]
-pub(crate) enum NoList {
+pub(crate) enum MissingKernelSymbols {
     /// `--kallsyms none`.
     SwitchedOff,
     /// `--symfs` without `--kallsyms`.
@@ -39,30 +39,36 @@ pub(crate) enum NoList {
     Unreadable(InputError),
 }
 
-impl Display for NoList {
+impl Display for MissingKernelSymbols {
     fn fmt<W: fmt::Write>(&self, f: &mut Formatter<W>) -> fmt::Result {
         match self {
-            NoList::SwitchedOff => f.write_str("--kallsyms is none"),
-            NoList::OtherMachine => f.write_str("--symfs is given without --kallsyms"),
-            NoList::NoRecordedId => f.write_str("the recording has no build id of its kernel"),
-            NoList::NoRunningId => {
+            MissingKernelSymbols::SwitchedOff => f.write_str("--kallsyms is none"),
+            MissingKernelSymbols::OtherMachine => f.write_str(
+                "--symfs is given without --kallsyms",
+            ),
+            MissingKernelSymbols::NoRecordedId => f.write_str(
+                "the recording has no build id of its kernel",
+            ),
+            MissingKernelSymbols::NoRunningId => {
                 f.write_str("the build id of the running kernel can't be read")
             }
-            NoList::OtherKernel => f.write_str("the running kernel isn't the recorded one"),
-            NoList::Unreadable(error) => write!(f, "{LIST_PATH}: {error}"),
+            MissingKernelSymbols::OtherKernel => f.write_str(
+                "the running kernel isn't the recorded one",
+            ),
+            MissingKernelSymbols::Unreadable(error) => write!(f, "{LIST_PATH}: {error}"),
         }
     }
 }
 
 // The list, or why there is none.
 #[derive(Drop)]
-enum State {
+enum KernelListState {
     /// It is that of the running kernel, if this is the recorded kernel.
     Unread,
     /// It was read.
     Read(KernelSymbols),
     /// There is none.
-    Missing(NoList),
+    Missing(MissingKernelSymbols),
 }
 
 // What the kernel's own mapping says: the address of a symbol in the recording.
@@ -74,9 +80,9 @@ struct RecordedSymbol {
 
 /// The symbols of the kernel, from a list that may be read only once they are looked up.
 #[derive(Drop)]
-pub(crate) struct ListedSymbols<'a> {
+pub(crate) struct KernelListSymbols<'a> {
     rt: &'a HostRuntime,
-    state: State,
+    state: KernelListState,
     /// The symbol of the first of the kernel's own mappings with a page offset.
     recorded: Option<RecordedSymbol>,
     /// Whether a frame was looked up without a list.
@@ -85,7 +91,7 @@ pub(crate) struct ListedSymbols<'a> {
 
 // Returns the build id of the running kernel, if it can be read.
 fn running_id(rt: &HostRuntime) -> Result<Option<Vec<u8>>, AllocError> {
-    let Some(notes) = found(fs::read(rt, NOTES_PATH).map(Some))? else {
+    let Some(notes) = none_if_missing(fs::read(rt, NOTES_PATH).map(Some))? else {
         return Ok(None);
     };
     match build_id_of_notes(NATIVE, &notes) {
@@ -95,49 +101,59 @@ fn running_id(rt: &HostRuntime) -> Result<Option<Vec<u8>>, AllocError> {
 }
 
 // Returns why the list of the running kernel isn't that of a recorded kernel, if so.
-fn difference(rt: &HostRuntime, recorded: &[u8]) -> Result<Option<NoList>, AllocError> {
+fn difference(
+    rt: &HostRuntime,
+    recorded: &[u8],
+) -> Result<Option<MissingKernelSymbols>, AllocError> {
     if recorded.is_empty() {
-        return Ok(Some(NoList::NoRecordedId));
+        return Ok(Some(MissingKernelSymbols::NoRecordedId));
     }
     match running_id(rt)? {
         Some(id) if is_recorded(&id, recorded) => Ok(None),
-        Some(_) => Ok(Some(NoList::OtherKernel)),
-        None => Ok(Some(NoList::NoRunningId)),
+        Some(_) => Ok(Some(MissingKernelSymbols::OtherKernel)),
+        None => Ok(Some(MissingKernelSymbols::NoRunningId)),
     }
 }
 
 // Reads the list of the running kernel, if it is the recorded one.
-fn read_running(rt: &HostRuntime, recorded: &[u8]) -> Result<State, AllocError> {
+fn read_running(rt: &HostRuntime, recorded: &[u8]) -> Result<KernelListState, AllocError> {
     if let Some(why) = difference(rt, recorded)? {
-        return Ok(State::Missing(why));
+        return Ok(KernelListState::Missing(why));
     }
     match KernelSymbols::read(rt, LIST_PATH) {
-        Ok(symbols) => Ok(State::Read(symbols)),
+        Ok(symbols) => Ok(KernelListState::Read(symbols)),
         Err(error) if error.kind() == ErrorKind::OutOfMemory => Err(AllocError),
-        Err(error) => Ok(State::Missing(NoList::Unreadable(InputError::Io(error)))),
+        Err(error) => Ok(KernelListState::Missing(MissingKernelSymbols::Unreadable(InputError::Io(
+            error,
+        )))),
     }
 }
 
 // Reads the list that the command line names, if it names one.
-fn named_state<'a>(rt: &HostRuntime, list: KernelList<'a>) -> Result<State, PathError<'a>> {
+fn named_state<'a>(
+    rt: &HostRuntime,
+    list: KernelList<'a>,
+) -> Result<KernelListState, PathError<'a>> {
     match list {
         KernelList::File(path) => match KernelSymbols::read(rt, path) {
-            Ok(symbols) => Ok(State::Read(symbols)),
+            Ok(symbols) => Ok(KernelListState::Read(symbols)),
             Err(error) => Err(PathError { path, error }),
         },
-        KernelList::Running => Ok(State::Unread),
-        KernelList::Nothing => Ok(State::Missing(NoList::SwitchedOff)),
-        KernelList::OtherMachine => Ok(State::Missing(NoList::OtherMachine)),
+        KernelList::Running => Ok(KernelListState::Unread),
+        KernelList::Nothing => Ok(KernelListState::Missing(MissingKernelSymbols::SwitchedOff)),
+        KernelList::OtherMachine => Ok(KernelListState::Missing(
+            MissingKernelSymbols::OtherMachine,
+        )),
     }
 }
 
-impl<'a> ListedSymbols<'a> {
+impl<'a> KernelListSymbols<'a> {
     /// Returns the symbols of the list that the command line names.
     pub(crate) fn open<'b>(
         rt: &'a HostRuntime,
         list: KernelList<'b>,
-    ) -> Result<ListedSymbols<'a>, PathError<'b>> {
-        Ok(ListedSymbols {
+    ) -> Result<KernelListSymbols<'a>, PathError<'b>> {
+        Ok(KernelListSymbols {
             rt,
             state: named_state(rt, list)?,
             recorded: None,
@@ -146,10 +162,10 @@ impl<'a> ListedSymbols<'a> {
     }
 
     /// Returns why frames of the kernel have no names, if there are such frames and no option asks for it.
-    pub(crate) fn missing(&self) -> Option<&NoList> {
+    pub(crate) fn missing(&self) -> Option<&MissingKernelSymbols> {
         match &self.state {
-            State::Missing(NoList::SwitchedOff) => None,
-            State::Missing(why) if self.lacks_names => Some(why),
+            KernelListState::Missing(MissingKernelSymbols::SwitchedOff) => None,
+            KernelListState::Missing(why) if self.lacks_names => Some(why),
             _ => None,
         }
     }
@@ -170,7 +186,7 @@ impl<'a> ListedSymbols<'a> {
 
     // Reads the list of the running kernel, if it wasn't tried yet.
     fn read(&mut self, build_id: &[u8]) -> Result<(), AllocError> {
-        if matches!(self.state, State::Unread) {
+        if matches!(self.state, KernelListState::Unread) {
             self.state = read_running(self.rt, build_id)?;
         }
         Ok(())
@@ -185,7 +201,7 @@ impl<'a> ListedSymbols<'a> {
         address: u64,
     ) -> Result<Option<usize>, AllocError> {
         self.read(build_id)?;
-        let State::Read(symbols) = &mut self.state else {
+        let KernelListState::Read(symbols) = &mut self.state else {
             self.lacks_names = true;
             return Ok(None);
         };
@@ -199,7 +215,7 @@ impl<'a> ListedSymbols<'a> {
     /// 2^64.
     pub(crate) fn offset(&self, index: usize, address: u64) -> Option<u64> {
         match &self.state {
-            State::Read(symbols) => symbols.offset(index, address),
+            KernelListState::Read(symbols) => symbols.offset(index, address),
             _ => None,
         }
     }
@@ -207,7 +223,7 @@ impl<'a> ListedSymbols<'a> {
     /// Returns the list, if it was read.
     pub(crate) fn table(&self) -> Option<&SymbolTable> {
         match &self.state {
-            State::Read(symbols) => Some(&symbols.table),
+            KernelListState::Read(symbols) => Some(&symbols.table),
             _ => None,
         }
     }

@@ -1,10 +1,10 @@
 //! What a process has mapped at the time of a sample.
 
-use crate::unwinding::code_files::{CodeFiles, LoadedPlace};
+use crate::unwinding::code_files::{CodeAddress, CodeFiles};
+use code_unwind::{CodeMap, Machine, MappedCode};
 use perfdata_events::call_chain::CallContext;
 use perfdata_spaces::address_spaces::AddressSpaces;
 use perfdata_spaces::mapping::{Mapping, PROTECTION_EXEC};
-use perfdata_unwind::{CodeMap, CodePlace, Machine};
 use std::alloc::AllocError;
 use std::cell::Cell;
 
@@ -25,7 +25,7 @@ pub(crate) struct ProcessCode<'b, 'a> {
     /// The mapping at the address that was looked up last: a caller's address is first examined, then loaded.
     found: Cell<Option<FoundMapping>>,
     /// What is at the address that was loaded last, if a file is there.
-    loaded: Option<LoadedPlace>,
+    loaded: Option<CodeAddress>,
 }
 
 impl<'b, 'a> ProcessCode<'b, 'a> {
@@ -62,7 +62,7 @@ impl<'b, 'a> ProcessCode<'b, 'a> {
     }
 
     // Returns what is at an address, if a file is there.
-    fn find(&mut self, address: u64) -> Result<Option<LoadedPlace>, AllocError> {
+    fn find(&mut self, address: u64) -> Result<Option<CodeAddress>, AllocError> {
         let Some(index) = self.mapping_index(address) else {
             return Ok(None);
         };
@@ -73,7 +73,7 @@ impl<'b, 'a> ProcessCode<'b, 'a> {
     }
 
     /// Returns the machine of the file at an address.
-    pub(crate) fn machine_at(&mut self, address: u64) -> Result<Option<Machine>, AllocError> {
+    pub(crate) fn find_machine(&mut self, address: u64) -> Result<Option<Machine>, AllocError> {
         match self.find(address)? {
             Some(place) => Ok(self.files.machine(place)),
             None => Ok(None),
@@ -94,10 +94,10 @@ impl CodeMap for ProcessCode<'_, '_> {
         Ok(())
     }
 
-    fn place(&self, _address: u64) -> CodePlace<'_> {
+    fn place(&self, _address: u64) -> MappedCode<'_> {
         match &self.loaded {
             Some(place) => self.files.place(place),
-            None => CodePlace::Nothing,
+            None => MappedCode::Nothing,
         }
     }
 }

@@ -1,16 +1,16 @@
 //! The mapped files, as far as unwinding reads them: call frame information, linkage tables and code.
 
+use crate::mapping_names::is_anonymous;
 use crate::options::{Options, SymbolOptions};
 use crate::symbols::FileCounts;
 use crate::symbols::build_ids::BuildIds;
-use crate::symbols::directories::{Directories, PathError, found};
+use crate::symbols::directories::{Directories, PathError, none_if_missing};
 use crate::symbols::elf_files::{Elf, ElfFiles};
-use crate::text::is_anonymous;
+use code_cfi::{FrameSection, FrameTable, Machine};
+use code_symbols::{ElfError, PltRange, SectionBytes, Segment};
+use code_unwind::{FileTables, MappedCode, Plt};
 use linux_perf_data::{Error, PerfFile, RawUserRecord};
-use perfdata_cfi::{FrameSection, FrameTable, Machine};
 use perfdata_spaces::mapping::{Mapping, MappingKind};
-use perfdata_symbols::{ElfError, PltRange, SectionBytes, Segment};
-use perfdata_unwind::{CodePlace, FileTables, Plt};
 use std::alloc::{AllocError, Global};
 use std::collections::HashMap;
 use std::fs::File;
@@ -42,32 +42,32 @@ const EM_AARCH64: u16 = 183;
 
 /// The code at an address.
 #[derive(Clone, Copy)]
-struct Code {
+struct FileCode {
     bytes: [u8; CODE_SIZE],
     size: usize,
 }
 
 // No code.
-const NO_CODE: Code = Code {
+const NO_CODE: FileCode = FileCode {
     bytes: [0; CODE_SIZE],
     size: 0,
 };
 
 /// An address in a file.
 #[derive(Clone, Copy)]
-pub(crate) struct LoadedPlace {
+pub(crate) struct CodeAddress {
     file: usize,
     address: u64,
     plt: Option<Plt>,
-    code: Code,
+    code: FileCode,
 }
 
 /// The place in a file of an address in the mapping with an index.
 #[derive(Clone, Copy)]
-struct KeptPlace {
+struct CachedAddress {
     index: usize,
     address: u64,
-    place: Option<LoadedPlace>,
+    place: Option<CodeAddress>,
 }
 
 // A mapped file.
@@ -77,7 +77,7 @@ struct CodeFile {
     tables: FileTables,
     linkage_tables: Vec<PltRange>,
     /// The code at addresses without call frame information.
-    codes: HashMap<u64, Code>,
+    codes: HashMap<u64, FileCode>,
 }
 
 /// The mapped files.
@@ -92,12 +92,12 @@ pub(crate) struct CodeFiles<'a> {
     has_symfs: bool,
     files: Vec<CodeFile>,
     /// The indices of the files of mappings, by the indices of these.
-    of_mappings: HashMap<usize, Option<usize>>,
+    mapping_indices: HashMap<usize, Option<usize>>,
     /// The indices of the files by path and build id, with a NUL between them.
-    of_files: HashMap<Vec<u8>, Option<usize>>,
+    file_indices: HashMap<Vec<u8>, Option<usize>>,
     /// The places that were looked up last, each in the slot of its address. There is no slot before the
     /// first one.
-    places: Vec<Option<KeptPlace>>,
+    places: Vec<Option<CachedAddress>>,
 }
 
 // Returns whether the pages of a segment contain an offset in the file.
@@ -108,7 +108,7 @@ fn contains(segment: &Segment, offset: u64) -> bool {
 }
 
 // Returns the address in a file of an offset in it, by the segments with code.
-fn address_of(segments: &[Segment], offset: u64) -> Option<u64> {
+fn segment_address(segments: &[Segment], offset: u64) -> Option<u64> {
     let segment = segments.iter().find(|segment| contains(segment, offset))?;
     Some(
         offset
@@ -118,7 +118,7 @@ fn address_of(segments: &[Segment], offset: u64) -> Option<u64> {
 }
 
 // Returns where an address is in a procedure linkage table.
-fn plt_at(ranges: &[PltRange], address: u64) -> Option<Plt> {
+fn find_plt(ranges: &[PltRange], address: u64) -> Option<Plt> {
     for range in ranges {
         let offset = address.wrapping_sub(range.address);
         if offset < range.size {
@@ -133,12 +133,12 @@ fn plt_at(ranges: &[PltRange], address: u64) -> Option<Plt> {
 }
 
 // Returns the slot of an address.
-fn slot_of(address: u64) -> usize {
+fn slot(address: u64) -> usize {
     (address.wrapping_mul(MIXER) >> SLOT_SHIFT) as usize
 }
 
 // Returns the call frame information of a section, unless it is compressed.
-fn table_of(
+fn frame_table(
     alloc: Global,
     machine: Machine,
     kind: FrameSection,
@@ -158,7 +158,7 @@ fn table_of(
 
 impl CodeFile {
     // Reads the code at an address, at most once.
-    fn code(&mut self, address: u64) -> Result<Code, AllocError> {
+    fn code(&mut self, address: u64) -> Result<FileCode, AllocError> {
         if let Some(code) = self.codes.get(&address) {
             return Ok(*code);
         }
@@ -167,7 +167,7 @@ impl CodeFile {
             Ok(size) => size.min(CODE_SIZE),
             Err(_) => 0,
         };
-        let code = Code { bytes, size };
+        let code = FileCode { bytes, size };
         self.codes.insert(address, code)?;
         Ok(code)
     }
@@ -205,8 +205,8 @@ impl<'a> CodeFiles<'a> {
             vdso,
             has_symfs: symfs.is_some(),
             files: Vec::new(alloc),
-            of_mappings: HashMap::new(alloc),
-            of_files: HashMap::new(alloc),
+            mapping_indices: HashMap::new(alloc),
+            file_indices: HashMap::new(alloc),
             places: Vec::new(alloc),
         })
     }
@@ -229,7 +229,7 @@ impl<'a> CodeFiles<'a> {
     // Opens the file of the code that the kernel gives to each process.
     fn open_vdso(&mut self) -> Result<Option<File>, AllocError> {
         match self.vdso {
-            Some(path) => found(File::open(self.rt, path).map(Some)),
+            Some(path) => none_if_missing(File::open(self.rt, path).map(Some)),
             None if self.has_symfs => self.elf_files.directories.files.open(self.rt, VDSO_FILE),
             None => Ok(None),
         }
@@ -265,8 +265,8 @@ impl<'a> CodeFiles<'a> {
         let eh_frame = self.readable(elf.read_eh_frame(alloc))?;
         let debug_frame = self.readable(elf.read_section(alloc, b".debug_frame"))?;
         Ok(FileTables::new(
-            table_of(alloc, machine, FrameSection::EhFrame, eh_frame)?,
-            table_of(alloc, machine, FrameSection::DebugFrame, debug_frame)?,
+            frame_table(alloc, machine, FrameSection::EhFrame, eh_frame)?,
+            frame_table(alloc, machine, FrameSection::DebugFrame, debug_frame)?,
         ))
     }
 
@@ -280,7 +280,7 @@ impl<'a> CodeFiles<'a> {
         let Some(file) = self.open_file(mapping)? else {
             return Ok(None);
         };
-        let recorded = self.build_ids.of_mapping(mapping);
+        let recorded = self.build_ids.mapping_build_id(mapping);
         let Some(mut elf) = self.elf_files.open_recorded(file, recorded)? else {
             return Ok(None);
         };
@@ -297,15 +297,15 @@ impl<'a> CodeFiles<'a> {
     }
 
     // Returns the key of a mapping's file: its path and its build id.
-    fn key_of(&self, mapping: &Mapping) -> Result<Vec<u8>, AllocError> {
+    fn file_key(&self, mapping: &Mapping) -> Result<Vec<u8>, AllocError> {
         let mut key = mapping.path.to_vec(self.rt.alloc())?;
         key.push(0)?;
-        key.extend_from_slice(self.build_ids.of_mapping(mapping))?;
+        key.extend_from_slice(self.build_ids.mapping_build_id(mapping))?;
         Ok(key)
     }
 
     // Returns the index of the file of a mapping.
-    fn of_file(
+    fn file_index(
         &mut self,
         machine: Machine,
         mapping: &Mapping,
@@ -313,45 +313,46 @@ impl<'a> CodeFiles<'a> {
         if mapping.kind == MappingKind::KernelSymbol || is_anonymous(mapping) {
             return Ok(None);
         }
-        let key = self.key_of(mapping)?;
-        if let Some(index) = self.of_files.get(key.as_slice()) {
+        let key = self.file_key(mapping)?;
+        if let Some(index) = self.file_indices.get(key.as_slice()) {
             return Ok(*index);
         }
         let index = self.read_file(machine, mapping)?;
-        self.of_files.insert(key, index)?;
+        self.file_indices.insert(key, index)?;
         Ok(index)
     }
 
     // Returns the index of the file of the mapping with an index.
-    fn of_mapping(
+    fn mapping_index(
         &mut self,
         machine: Machine,
         index: usize,
         mapping: &Mapping,
     ) -> Result<Option<usize>, AllocError> {
-        if let Some(file) = self.of_mappings.get(&index) {
+        if let Some(file) = self.mapping_indices.get(&index) {
             return Ok(*file);
         }
-        let file = self.of_file(machine, mapping)?;
-        self.of_mappings.insert(index, file)?;
+        let file = self.file_index(machine, mapping)?;
+        self.mapping_indices.insert(index, file)?;
         Ok(file)
     }
 
     // Finds the place in a file of an address in a mapping, if there is one.
-    fn find_new(
+    fn find_uncached(
         &mut self,
         machine: Machine,
         index: usize,
         mapping: &Mapping,
         address: u64,
-    ) -> Result<Option<LoadedPlace>, AllocError> {
-        let Some(index) = self.of_mapping(machine, index, mapping)? else {
+    ) -> Result<Option<CodeAddress>, AllocError> {
+        let Some(index) = self.mapping_index(machine, index, mapping)? else {
             return Ok(None);
         };
         let Some(file) = self.files.get_mut(index) else {
             return Ok(None);
         };
-        let Some(address) = address_of(file.elf.segments(), mapping.offset_of(address)) else {
+        let Some(address) = segment_address(file.elf.segments(), mapping.file_offset(address))
+        else {
             return Ok(None);
         };
         let code = if file.is_described(address) {
@@ -359,55 +360,55 @@ impl<'a> CodeFiles<'a> {
         } else {
             file.code(address)?
         };
-        Ok(Some(LoadedPlace {
+        Ok(Some(CodeAddress {
             file: index,
             address,
-            plt: plt_at(file.linkage_tables.as_slice(), address),
+            plt: find_plt(file.linkage_tables.as_slice(), address),
             code,
         }))
     }
 
     // Returns the place that is kept of an address in the mapping with an index.
-    fn kept(&self, index: usize, address: u64) -> Option<Option<LoadedPlace>> {
-        match self.places.get(slot_of(address)) {
+    fn cached(&self, index: usize, address: u64) -> Option<Option<CodeAddress>> {
+        match self.places.get(slot(address)) {
             Some(Some(kept)) if kept.index == index && kept.address == address => Some(kept.place),
             _ => None,
         }
     }
 
     // Keeps a place.
-    fn keep(&mut self, kept: KeptPlace) -> Result<(), AllocError> {
+    fn cache(&mut self, kept: CachedAddress) -> Result<(), AllocError> {
         if self.places.is_empty() {
             self.places.resize(SLOTS, None)?;
         }
-        if let Some(slot) = self.places.get_mut(slot_of(kept.address)) {
+        if let Some(slot) = self.places.get_mut(slot(kept.address)) {
             *slot = Some(kept);
         }
         Ok(())
     }
 
     // Keeps the row at a place.
-    fn keep_row(&mut self, place: Option<LoadedPlace>) -> Result<(), AllocError> {
+    fn cache_row(&mut self, place: Option<CodeAddress>) -> Result<(), AllocError> {
         let Some(place) = place else { return Ok(()) };
         match self.files.get_mut(place.file) {
-            Some(file) => file.tables.keep(self.rt.alloc(), place.address),
+            Some(file) => file.tables.cache(self.rt.alloc(), place.address),
             None => Ok(()),
         }
     }
 
     // Returns the place in a file of an address in a mapping, if there is one.
-    fn find_place(
+    fn find_code_address(
         &mut self,
         machine: Machine,
         index: usize,
         mapping: &Mapping,
         address: u64,
-    ) -> Result<Option<LoadedPlace>, AllocError> {
-        if let Some(place) = self.kept(index, address) {
+    ) -> Result<Option<CodeAddress>, AllocError> {
+        if let Some(place) = self.cached(index, address) {
             return Ok(place);
         }
-        let place = self.find_new(machine, index, mapping, address)?;
-        self.keep(KeptPlace {
+        let place = self.find_uncached(machine, index, mapping, address)?;
+        self.cache(CachedAddress {
             index,
             address,
             place,
@@ -422,27 +423,27 @@ impl<'a> CodeFiles<'a> {
         index: usize,
         mapping: &Mapping,
         address: u64,
-    ) -> Result<Option<LoadedPlace>, AllocError> {
-        let place = self.find_place(machine, index, mapping, address)?;
-        self.keep_row(place)?;
+    ) -> Result<Option<CodeAddress>, AllocError> {
+        let place = self.find_code_address(machine, index, mapping, address)?;
+        self.cache_row(place)?;
         Ok(place)
     }
 
     /// Returns what is at a place.
-    pub(crate) fn place<'b>(&'b self, place: &'b LoadedPlace) -> CodePlace<'b> {
+    pub(crate) fn place<'b>(&'b self, place: &'b CodeAddress) -> MappedCode<'b> {
         match self.files.get(place.file) {
-            Some(file) => CodePlace::File {
+            Some(file) => MappedCode::File {
                 tables: &file.tables,
                 address: place.address,
                 plt: place.plt,
                 code: place.code.bytes.get(..place.code.size).unwrap_or(&[]),
             },
-            None => CodePlace::Nothing,
+            None => MappedCode::Nothing,
         }
     }
 
     /// Returns the machine of the file of a place.
-    pub(crate) fn machine(&self, place: LoadedPlace) -> Option<Machine> {
+    pub(crate) fn machine(&self, place: CodeAddress) -> Option<Machine> {
         match self.files.get(place.file)?.elf.machine() {
             EM_X86_64 => Some(Machine::X86_64),
             EM_AARCH64 => Some(Machine::AArch64),

@@ -28,7 +28,7 @@ attributes-preserved c =
       within = omega (arith, test);
       names_count = omega (arith, names_end, names_counted, length-all_names-snoc descriptions d, ap (λ l. length (all_names l)) prefix);
       ids_count = omega (arith, ids_end, ids_counted, length-all_ids-snoc descriptions d, ap (λ l. length (all_ids l)) prefix);
-      writes = subst (λ l. WritesAttrs l c.args.entries.now c.args.names.now c.args.ids.now c.write_entry.new.array c.copy_at.new.array c.copy_at-in-attributes.new.array) (sym prefix)
-          (writes_attrs-snoc descriptions d c.args.entries.now c.attributes.entries c.write_entry.new.array c.args.names.now c.args.ids.now c.attributes.names c.attributes.ids c.copy_at.new.array c.copy_at-in-attributes.new.array
-          index c.attributes.name_offset c.attributes.ids_start c.attr_entry-entry.result c.attr_name.result.now c.ids.result.now inv.writes (sym (length-take-le index all inv.within)) names_counted ids_counted c.attr_entry-entry.ensures name own c.write_entry.ensures.one_more c.copy_at.ensures c.copy_at-in-attributes.ensures);
+      writes = subst (λ l. WritesAttrs l c.args.entries.now c.args.names.now c.args.ids.now c.write_entry.new.array c.copy_entries.new.array c.copy_entries-in-attributes.new.array) (sym prefix)
+          (writes_attrs-snoc descriptions d c.args.entries.now c.attributes.entries c.write_entry.new.array c.args.names.now c.args.ids.now c.attributes.names c.attributes.ids c.copy_entries.new.array c.copy_entries-in-attributes.new.array
+          index c.attributes.name_offset c.attributes.ids_start c.attr_entry-entry.result c.attr_name.result.now c.ids.result.now inv.writes (sym (length-take-le index all inv.within)) names_counted ids_counted c.attr_entry-entry.ensures name own c.write_entry.ensures.one_more c.copy_entries.ensures c.copy_entries-in-attributes.ensures);
     }

@@ -13,4 +13,4 @@ returns c = λ parse_info.
     let lookup = c.in_ok-description.ensures.lookup in
     let found = ap (λ l. slice_get l index) (sym c.event_attributes.ensures.are) ∙ slice_get_read all (length all) index c.in_ok-description.description.now refl lookup.3.0 lookup.1 in
     format_at (endian_of_file c.args.perf_file.now) (descriptions_of_file c.args.perf_file.now) index parse_info c.in_ok-description.description.now found
-    ∙ ap Some (sym (c.new.ensures ∙ (λ i. event_format_of (c.attributes.ensures i) (c.endian.ensures i)))))
+    ∙ ap Some (sym (c.with_little_endian_flags.ensures ∙ (λ i. event_format_of (c.attributes.ensures i) (c.endian.ensures i)))))

@@ -9,7 +9,7 @@ records-preserved c =
     let before = c.records.invariant in
     let endian = c.in-Ok.read.1 in
     let bytes = c.args.bytes.now in
-    let found : FindsRecord endian bytes c.records.next (Ok (Some c.in-Ok-Some.record)) = subst (FindsRecord endian bytes c.records.next) (c.in-Ok-Some.is ∙ ap Ok c.in-Ok-Some.field-0-is) c.record_at.ensures in
+    let found : FindsRecord endian bytes c.records.next (Ok (Some c.in-Ok-Some.record)) = subst (FindsRecord endian bytes c.records.next) (c.in-Ok-Some.is ∙ ap Ok c.in-Ok-Some.field-0-is) c.find_record.ensures in
     let test = c.records-test.true in (
       before.0 ++ found.0 ∷ [],
       writes_jit_records-snoc endian bytes c.max-next.result before.0 c.args.entries.now c.records.records c.records.next c.records.entries found.0 c.in-Ok-Some.record before.1

@@ -27,5 +27,5 @@ entries-preserved c =
     record {
       within = omega (arith, test);
       end = entry_end c.args.entries.now c.entries.index c.args.first_offset c.entries.offset c.debug_entry-entry.result _ test inv.end c.debug_entry-entry.ensures;
-      written = entries_written c.args.entries.now c.entries.index c.args.first_offset c.entries.offset c.debug_entry-entry.result _ test inv.end c.debug_entry-entry.ensures c.args.out.now c.entries.out c.copy_at.new.array inv.written c.copy_at.ensures;
+      written = entries_written c.args.entries.now c.entries.index c.args.first_offset c.entries.offset c.debug_entry-entry.result _ test inv.end c.debug_entry-entry.ensures c.args.out.now c.entries.out c.copy_entries.new.array inv.written c.copy_entries.ensures;
     }

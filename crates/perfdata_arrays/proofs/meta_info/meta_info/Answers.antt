@@ -21,5 +21,5 @@ pairs-preserved c =
     let test = c.if-not-is_utf8_pair.ensures in
     let entry = c.pair_entry-entry.result in
     let next : entry.value_offset + entry.value_size + 1 ≡ offset_after c.pairs.offset p = λ i. (c.pair_entry-entry.ensures i).value_offset + (c.pair_entry-entry.ensures i).value_size + 1 in
-    subst (λ n. PairsWritten section n (c.pairs.count + 1) old c.copy_at.new.array) (sym next)
-    (pairs_more section c.pairs.offset c.pairs.count old c.pairs.entries c.copy_at.new.array p entry c.pairs.invariant c.in-Some.ensures (test.0 refl) c.pair_entry-entry.ensures c.copy_at.ensures)
+    subst (λ n. PairsWritten section n (c.pairs.count + 1) old c.copy_entries.new.array) (sym next)
+    (pairs_more section c.pairs.offset c.pairs.count old c.pairs.entries c.copy_entries.new.array p entry c.pairs.invariant c.in-Some.ensures (test.0 refl) c.pair_entry-entry.ensures c.copy_entries.ensures)

@@ -2,7 +2,7 @@ use Rattle.std.proofs.Common.{arith, refl, Ok, Err, ap, ◌∙◌}
 use Rattle.linux_perf_data.specs.Descriptions.{described_attributes}
 use Rattle.linux_perf_data.specs.PerfFile.{attributes_of_file}
 use Rattle.perfdata_arrays.proofs.DecodedWalks.{decodes_records, exceeds_next, none_so_far, one_more, same_length}
-use Rattle.perfdata_arrays.specs.declared.pages.PageEnd.TheVariants.{Full, Exceeded, Records}
+use Rattle.perfdata_arrays.specs.declared.pages.WalkEnd.TheVariants.{Full, Exceeded, Records}
 use Rattle.perfdata_arrays.proofs.pages.decode_records.Goals as goal
 
 pub records-init : goal.records-init

@@ -6,4 +6,4 @@ returns-in-Err g c = nothing_in_pipe g.D.RecordDecoder.kind c.args.bytes.now c.a
 
 pub returns : goal.returns
 returns g c =
-    pipe_read g.D.RecordDecoder.kind c.args.bytes.now c.in-Ok.reader c.in-Ok.ensures c.args.entries.now c.args.frames.now c.decode_records-walk.result c.decode_records-walk.new.input c.decode_records-walk.new.perf_file c.decode_records-walk.new.entries c.decode_records-walk.new.frames c.decode_records-walk.ensures c.result_of.result c.result_of.ensures
+    pipe_read g.D.RecordDecoder.kind c.args.bytes.now c.in-Ok.reader c.in-Ok.ensures c.args.entries.now c.args.frames.now c.decode_records-walk.result c.decode_records-walk.new.input c.decode_records-walk.new.perf_file c.decode_records-walk.new.entries c.decode_records-walk.new.frames c.decode_records-walk.ensures c.walk_result.result c.walk_result.ensures

@@ -29,12 +29,12 @@ files-preserved c =
     let own = c.as_slice.ensures.value in
     let old : SymbolArrays = record { files = c.args.files.now; symbols = c.args.symbols.now; names = c.args.names.now; offsets = c.args.offsets.now } in
     let now : SymbolArrays = record { files = c.files.files; symbols = c.files.symbols; names = c.files.names; offsets = c.files.offsets } in
-    let new : SymbolArrays = record { files = c.copy_at.new.array; symbols = c.write_symbols.new.symbols; names = c.write_symbols.new.names; offsets = c.copy_at-in-files-2.new.array } in
+    let new : SymbolArrays = record { files = c.copy_entries.new.array; symbols = c.write_symbols.new.symbols; names = c.write_symbols.new.names; offsets = c.copy_entries-in-files-2.new.array } in
     record {
       within = omega (arith, test);
       counted = subst (λ l. c.in-Some.next ≡ totals_after_all zero_totals l) (sym prefix) (totals-snoc before v t c.in-Some.next inv.counted c.in-Some.ensures);
       writes = subst (λ l. WritesFiles l old new) (sym prefix)
-          (writes_files-snoc before v t old now new name_start c.file_entry.result c.as_bytes-path.result.now c.copy_at-in-files.new.array c.dex_offsets.result.now inv.counted inv.writes (ap (λ l. t.names_size + length l) path) c.file_entry.ensures path c.dex_offsets.ensures
-          c.copy_at.ensures c.copy_at-in-files.ensures c.copy_at-in-files-2.ensures (c.write_symbols.ensures.symbols ∙ ap (λ l. with_entries_at t.symbol_count (symbol_entries_at name_start (map symbol_value l)) c.files.symbols) own)
-          (c.write_symbols.ensures.names ∙ ap (λ l. with_entries_at name_start (symbol_names (map symbol_value l)) c.copy_at-in-files.new.array) own));
+          (writes_files-snoc before v t old now new name_start c.file_entry.result c.as_bytes-path.result.now c.copy_entries-in-files.new.array c.dex_offsets.result.now inv.counted inv.writes (ap (λ l. t.names_size + length l) path) c.file_entry.ensures path c.dex_offsets.ensures
+          c.copy_entries.ensures c.copy_entries-in-files.ensures c.copy_entries-in-files-2.ensures (c.write_symbols.ensures.symbols ∙ ap (λ l. with_entries_at t.symbol_count (symbol_entries_at name_start (map symbol_value l)) c.files.symbols) own)
+          (c.write_symbols.ensures.names ∙ ap (λ l. with_entries_at name_start (symbol_names (map symbol_value l)) c.copy_entries-in-files.new.array) own));
     }

@@ -37,9 +37,9 @@ symbols-preserved c =
     record {
       within = omega (arith, test);
       names_counted = omega (arith, counted, ap length name, ap (λ l. length (symbol_names l)) prefix, length-symbol_names-snoc before (symbol_value s));
-      symbols_written = subst (λ l. c.copy_at.new.array ≡ with_entries_at start (symbol_entries_at name_start l) c.args.symbols.now) (sym prefix)
-          (symbols_written-snoc before (symbol_value s) start (start + index) name_start offset entry c.args.symbols.now c.symbols.symbols c.copy_at.new.array (omega (arith, length-map (take index all) symbol_value, length-take-le index all within)) counted
-          (λ i. record { vaddr = s.vaddr; size = s.len; name_offset = offset; name_size = length (name i) }) inv.symbols_written c.copy_at.ensures);
-      names_written = subst (λ l. c.copy_at-in-symbols.new.array ≡ with_entries_at name_start (symbol_names l) c.args.names.now) (sym prefix)
-          (names_written-snoc before (symbol_value s) name_start offset c.as_bytes-name.result.now c.args.names.now c.symbols.names c.copy_at-in-symbols.new.array counted name inv.names_written c.copy_at-in-symbols.ensures);
+      symbols_written = subst (λ l. c.copy_entries.new.array ≡ with_entries_at start (symbol_entries_at name_start l) c.args.symbols.now) (sym prefix)
+          (symbols_written-snoc before (symbol_value s) start (start + index) name_start offset entry c.args.symbols.now c.symbols.symbols c.copy_entries.new.array (omega (arith, length-map (take index all) symbol_value, length-take-le index all within)) counted
+          (λ i. record { vaddr = s.vaddr; size = s.len; name_offset = offset; name_size = length (name i) }) inv.symbols_written c.copy_entries.ensures);
+      names_written = subst (λ l. c.copy_entries-in-symbols.new.array ≡ with_entries_at name_start (symbol_names l) c.args.names.now) (sym prefix)
+          (names_written-snoc before (symbol_value s) name_start offset c.as_bytes-name.result.now c.args.names.now c.symbols.names c.copy_entries-in-symbols.new.array counted name inv.names_written c.copy_entries-in-symbols.ensures);
     }

@@ -10,8 +10,8 @@ use Rattle.perfdata_stack_arrays.proofs.stack.write_stack.Goals as goal
 pub returns : goal.returns
 returns c = λ before follows names.
     let sample = c.args.sample.now in
-    let pid : to_z w32 (of_z w32 c.task_of-task.result.pid) ≡ (task_of sample).pid = to_z-of_z w32 c.task_of-task.result.pid (search rules) ∙ ap (λ (t : Task). t.pid) c.task_of-task.ensures in
-    let tid : to_z w32 (of_z w32 c.task_of-task.result.tid) ≡ (task_of sample).tid = to_z-of_z w32 c.task_of-task.result.tid (search rules) ∙ ap (λ (t : Task). t.tid) c.task_of-task.ensures in
+    let pid : to_z w32 (of_z w32 c.sample_task-task.result.pid) ≡ (task_of sample).pid = to_z-of_z w32 c.sample_task-task.result.pid (search rules) ∙ ap (λ (t : Task). t.pid) c.sample_task-task.ensures in
+    let tid : to_z w32 (of_z w32 c.sample_task-task.result.tid) ≡ (task_of sample).tid = to_z-of_z w32 c.sample_task-task.result.tid (search rules) ∙ ap (λ (t : Task). t.tid) c.sample_task-task.ensures in
     let frames = subst (λ (p : ℤ). WritesFrames before p (frames_in c.args.envelope.misc sample) c.args.used c.args.frames.now c.write_frames-frames_count.result c.write_frames-frames_count.new.frames) pid (c.write_frames-frames_count.ensures before follows) in
     record {
       stack = c.stack_entry-entry.result;

@@ -3,9 +3,9 @@ use Rattle.std.specs.IoError.{error_kind}
 use Rattle.perfdata_stack_arrays.proofs.Parsed.{adds_record}
 use Rattle.perfdata_stack_arrays.proofs.stacks.add_record.Goals as goal
 
-pub returns-in_default-format_at : goal.returns-in_default-format_at
-returns-in_default-format_at c = rw c.in-EventRecord.is (inl (record {
-  is_none = inl (c.in_default-format_at.ensures c.in-EventRecord.event.parse_info);
+pub returns-in_default-event_format : goal.returns-in_default-event_format
+returns-in_default-event_format c = rw c.in-EventRecord.is (inl (record {
+  is_none = inl (c.in_default-event_format.ensures c.in-EventRecord.event.parse_info);
   same_counts = refl;
   same_state = refl;
   same_arrays = refl;

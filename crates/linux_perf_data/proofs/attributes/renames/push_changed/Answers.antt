@@ -19,8 +19,8 @@ ids-preserved c =
 pub ids-preserved-in-Continue-1 : goal.ids-preserved-in-Continue-1
 ids-preserved-in-Continue-1 c =
     let ds = c.args.attributes.now in
-    visited_more ds c.args.listed.now c.args.old.now c.args.new.now c.in-Some.id.now c.ids.id-iterator c.next.new.self c.args.renames.now.items c.ids.renames.items c.push_renames_of.new.renames.items c.in-Some.ensures.steps c.ids.invariant
-    (visited_renamed ds c.args.old.now c.args.new.now c.in-Some.id.now c.ids.renames.items c.push_renames_of.new.renames.items c.in_ok-push_renames_of.ensures)
+    visited_more ds c.args.listed.now c.args.old.now c.args.new.now c.in-Some.id.now c.ids.id-iterator c.next.new.self c.args.renames.now.items c.ids.renames.items c.push_chain_renames.new.renames.items c.in-Some.ensures.steps c.ids.invariant
+    (visited_renamed ds c.args.old.now c.args.new.now c.in-Some.id.now c.ids.renames.items c.push_chain_renames.new.renames.items c.in_ok-push_chain_renames.ensures)
 
 pub returns : goal.returns
 returns c = visited_all c.args.attributes.now c.args.listed.now c.args.old.now c.args.new.now c.ids.id-iterator c.args.renames.now.items c.ids.renames.items c.in-None.ensures.steps.0 c.ids.invariant

@@ -1,6 +1,6 @@
 use Rattle.std.proofs.Common.{refl, ap, inl, inr}
 use Rattle.std.proofs.lemmas.Result.{err_from_is_err_and}
-use Rattle.linux_perf_data.specs.Input.{section_size_in}
+use Rattle.linux_perf_data.specs.RecordInput.{section_size_in}
 use Rattle.linux_perf_data.proofs.InMemoryCalls.{body_processed, body_rejected}
 use Rattle.linux_perf_data.proofs.in_memory.iter.process_record.Goals as goal
 

@@ -3,7 +3,7 @@ use Rattle.std.proofs.lemmas.Result.{err_from_is_err_and}
 use Rattle.perfdata_sections.specs.Error.{IsUnexpectedEof}
 use Rattle.perfdata_sections.specs.declared.error.Error.TheVariants.{Read}
 use Rattle.perfdata_sections.specs.declared.error.ReadError.TheVariants.{PerfEventData}
-use Rattle.linux_perf_data.specs.Input.{input_source_state}
+use Rattle.linux_perf_data.specs.RecordInput.{input_source_state}
 use Rattle.linux_perf_data.specs.Iter.{section_size_of, iter_source_state}
 use Rattle.linux_perf_data.specs.RecordFraming.{RecordTruncatedAt, RecordErrorAt}
 use Rattle.linux_perf_data.specs.InMemory.{memory_state}

@@ -5,7 +5,7 @@ use Rattle.std.specs.Io.Cursor.{cursor_inner, cursor_position}
 use Rattle.perfdata_base.specs.Source.{Consumed}
 use Rattle.perfdata_sections.specs.RecordTypes.{finished_round}
 use Rattle.linux_perf_data.specs.BufferedRecord.{WholeRecordLength}
-use Rattle.linux_perf_data.specs.Input.{HasNoPendingHeader}
+use Rattle.linux_perf_data.specs.RecordInput.{HasNoPendingHeader}
 use Rattle.linux_perf_data.specs.InMemory.{memory_state}
 use Rattle.linux_perf_data.proofs.InMemoryCalls.{buffer_of}
 use Rattle.linux_perf_data.proofs.WholeRecordsTaken.{body_of_first, first_consumed, whole_record_read}

@@ -3,10 +3,10 @@ use Rattle.std.proofs.lemmas.Result.{err_from_is_err_and}
 use Rattle.linux_perf_data.proofs.Slices.{fixed_error, compression_value}
 use Rattle.linux_perf_data.proofs.perf_file.parse.parse_compression.Goals as goal
 
-pub returns-in_err-parse_in : goal.returns-in_err-parse_in
-returns-in_err-parse_in c =
+pub returns-in_err-parse_with_endian : goal.returns-in_err-parse_with_endian
+returns-in_err-parse_with_endian c =
     let p = err_from_is_err_and c.from_residual.result c.from_residual.ensures.1 in
-    rw (p.1, p.2) (fixed_error _ c.args.bytes.now _ c.in_err-parse_in.field-0.0 c.in_err-parse_in.ensures.parses)
+    rw (p.1, p.2) (fixed_error _ c.args.bytes.now _ c.in_err-parse_with_endian.field-0.0 c.in_err-parse_with_endian.ensures.parses)
 
 pub returns : goal.returns
-returns c = compression_value c.args.endian c.args.endian refl c.args.bytes.now _ _ c.in_ok-parse_in.ensures.parses
+returns c = compression_value c.args.endian c.args.endian refl c.args.bytes.now _ _ c.in_ok-parse_with_endian.ensures.parses

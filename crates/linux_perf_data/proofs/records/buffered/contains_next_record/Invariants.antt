@@ -1,6 +1,6 @@
 use Rattle.std.proofs.Common.{◌+◌, ◌-◌, ◌≤◌, length, take, drop}
 use Rattle.linux_perf_data.specs.BufferedRecord.{ContainsNextRecord}
-use Rattle.linux_perf_data.specs.Input.{section_size_in}
+use Rattle.linux_perf_data.specs.RecordInput.{section_size_in}
 use Rattle.linux_perf_data.specs.Layout.{ConsistsOfMarkers}
 use Rattle.linux_perf_data.proofs.records.buffered.contains_next_record.Given as goal
 

@@ -1,6 +1,6 @@
 use Rattle.std.proofs.Common.{inl, inr}
 use Rattle.std.proofs.lemmas.Result.{err_from_is_err_and}
-use Rattle.linux_perf_data.specs.Input.{input_source_state}
+use Rattle.linux_perf_data.specs.RecordInput.{input_source_state}
 use Rattle.linux_perf_data.proofs.RecordReads.{header_parsed}
 use Rattle.linux_perf_data.proofs.records.framing.read_header.Goals as goal
 

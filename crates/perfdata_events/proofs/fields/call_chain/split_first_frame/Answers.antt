@@ -12,7 +12,7 @@ returns-then-not-is_context_change-clause-some c =
 pub values-preserved : goal.values-preserved
 values-preserved c =
     let yes : c.is_context_change.result ≡ true = search rules in
-    ap (λ k. frames_of k (u64s_in c.in-Some.tail)) c.context_of-current.ensures
+    ap (λ k. frames_of k (u64s_in c.in-Some.tail)) c.call_context-current.ensures
     ∙ sym (frames_after_change c.values.current (u64s_in c.values.rest) (u64s_in c.in-Some.tail) c.in-Some.value c.in-Some.ensures.some (sym c.is_context_change.ensures ∙ yes))
     ∙ c.values.invariant
 

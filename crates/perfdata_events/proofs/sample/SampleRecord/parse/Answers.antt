@@ -4,7 +4,7 @@ use Rattle.perfdata_base.specs.Raw.{bytes_of}
 use Rattle.std.specs.Option.{option_map}
 use Rattle.perfdata_events.specs.CallChain.{chain_values_of}
 use Rattle.perfdata_events.specs.ReadValues.{values_of}
-use Rattle.perfdata_events.specs.Registers.{registers_of}
+use Rattle.perfdata_events.specs.SampleRegisters.{registers_of}
 use Rattle.perfdata_events.specs.Sample.{branches_of, stack_of}
 use Rattle.perfdata_events.proofs.sample.SampleRecord.parse.Goals as goal
 

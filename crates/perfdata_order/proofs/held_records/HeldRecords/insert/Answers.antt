@@ -18,7 +18,7 @@ invariant_of-self-in-Err-append c =
     let bodies = c.append.new.self in
     let found = c.in-Ok.ensures.1.1 in
     record {
-      stored = stored_kept old.bodies bodies old.parse_infos c.of.new.parse_infos (held_of old.sorter) c.in-Err-append.ensures.appends found old.counted old.stored;
+      stored = stored_kept old.bodies bodies old.parse_infos c.from_body_format.new.parse_infos (held_of old.sorter) c.in-Err-append.ensures.appends found old.counted old.stored;
       counted = counted_kept old.bodies bodies (held_of old.sorter) c.in-Err-append.ensures.appends old.counted;
       few_blocks = few_blocks_after old.bodies bodies (length (bytes_of c.args.body)) (held_of old.sorter) (slots_in old.sorter) old.counted (held_in_slots old.sorter) c.in-Err-append.ensures.blocks old.few_blocks;
     }
@@ -28,7 +28,7 @@ invariant_of-self-in-Ok-insert_unordered c =
     let old = c.args.self.now in
     let sorter = c.insert_unordered.new.self in
     let bodies = c.append.new.self in
-    let infos = c.of.new.parse_infos in
+    let infos = c.from_body_format.new.parse_infos in
     let body = bytes_of c.args.body in
     let held : HeldRecord = record { place = c.args.envelope.place; misc = c.args.envelope.misc; format = c.in-Ok.format; body = c.in-Ok-append.body } in
     let appended = c.in-Ok-append.ensures.appends in
@@ -48,7 +48,7 @@ invariant_of-self-in-Err-insert_unordered c =
     let sorter = c.insert_unordered.new.self in
     let bodies = c.append.new.self in
     let last = c.release.new.self in
-    let infos = c.of.new.parse_infos in
+    let infos = c.from_body_format.new.parse_infos in
     let body = c.in-Ok-append.body in
     let appended = c.in-Ok-append.ensures.appends in
     let few = few_blocks_after old.bodies bodies (length (bytes_of c.args.body)) (held_of old.sorter) (slots_in old.sorter) old.counted (held_in_slots old.sorter) c.in-Ok-append.ensures.blocks old.few_blocks in

@@ -22,11 +22,11 @@ reads-init c =
 pub returns-in-Err : goal.returns-in-Err
 returns-in-Err c =
     let read = progress_read c.args.self.now c.reads.self c.read.new.self c.args.perf_file.now c.reads.perf_file c.read.new.perf_file c.reads.invariant c.read.ensures in
-    inr (c.from.ensures, progress_places c.args.self.now c.read.new.self c.place_pending.new.self c.args.perf_file.now c.read.new.perf_file read c.in-Err.ensures)
+    inr (c.from.ensures, progress_places c.args.self.now c.read.new.self c.insert_pending.new.self c.args.perf_file.now c.read.new.perf_file read c.in-Err.ensures)
 
 pub returns-in-Some-get_next : goal.returns-in-Some-get_next
 returns-in-Some-get_next c =
-    let placed = c.place_pending.new.self in
+    let placed = c.insert_pending.new.self in
     let new : InMemoryOrderedRecords = record { records = placed.records; sorter = c.get_next-in-reads.new.self; round = placed.round; pending = placed.pending } in
     let read = progress_read c.args.self.now c.reads.self c.read.new.self c.args.perf_file.now c.reads.perf_file c.read.new.perf_file c.reads.invariant c.read.ensures in
     let before = progress_places c.args.self.now c.read.new.self placed c.args.perf_file.now c.read.new.perf_file read c.in-Ok.ensures.0 in
@@ -35,7 +35,7 @@ returns-in-Some-get_next c =
 
 pub returns-in-Some-take_untimed : goal.returns-in-Some-take_untimed
 returns-in-Some-take_untimed c =
-    let placed = c.place_pending.new.self in
+    let placed = c.insert_pending.new.self in
     let kept : InMemoryOrderedRecords = record { records = placed.records; sorter = c.get_next-in-reads.new.self; round = placed.round; pending = placed.pending } in
     let read = progress_read c.args.self.now c.reads.self c.read.new.self c.args.perf_file.now c.reads.perf_file c.read.new.perf_file c.reads.invariant c.read.ensures in
     let before = progress_places c.args.self.now c.read.new.self placed c.args.perf_file.now c.read.new.perf_file read c.in-Ok.ensures.0 in
@@ -53,7 +53,7 @@ returns-in-Some-take_untimed c =
 
 pub returns-in-Some-Ok : goal.returns-in-Some-Ok
 returns-in-Some-Ok c =
-    let placed = c.place_pending.new.self in
+    let placed = c.insert_pending.new.self in
     let kept : InMemoryOrderedRecords = record { records = placed.records; sorter = c.get_next-in-reads.new.self; round = placed.round; pending = placed.pending } in
     let read = progress_read c.args.self.now c.reads.self c.read.new.self c.args.perf_file.now c.reads.perf_file c.read.new.perf_file c.reads.invariant c.read.ensures in
     let before = progress_places c.args.self.now c.read.new.self placed c.args.perf_file.now c.read.new.perf_file read c.in-Ok.ensures.0 in
@@ -68,7 +68,7 @@ returns-in-Some-Ok c =
 
 pub returns-in-Some-Err : goal.returns-in-Some-Err
 returns-in-Some-Err c =
-    let placed = c.place_pending.new.self in
+    let placed = c.insert_pending.new.self in
     let kept : InMemoryOrderedRecords = record { records = placed.records; sorter = c.get_next-in-reads.new.self; round = placed.round; pending = placed.pending } in
     let read = progress_read c.args.self.now c.reads.self c.read.new.self c.args.perf_file.now c.reads.perf_file c.read.new.perf_file c.reads.invariant c.read.ensures in
     let before = progress_places c.args.self.now c.read.new.self placed c.args.perf_file.now c.read.new.perf_file read c.in-Ok.ensures.0 in
@@ -92,7 +92,7 @@ returns-in-Some-Err c =
 
 pub reads-preserved : goal.reads-preserved
 reads-preserved c =
-    let placed = c.place_pending.new.self in
+    let placed = c.insert_pending.new.self in
     let kept : InMemoryOrderedRecords = record { records = placed.records; sorter = c.get_next-in-reads.new.self; round = placed.round; pending = placed.pending } in
     let read = progress_read c.args.self.now c.reads.self c.read.new.self c.args.perf_file.now c.reads.perf_file c.read.new.perf_file c.reads.invariant c.read.ensures in
     let before = progress_places c.args.self.now c.read.new.self placed c.args.perf_file.now c.read.new.perf_file read c.in-Ok.ensures.0 in
@@ -104,7 +104,7 @@ reads-preserved c =
 
 pub reads-smaller : goal.reads-smaller
 reads-smaller c =
-    let placed = c.place_pending.new.self in
+    let placed = c.insert_pending.new.self in
     let kept : InMemoryOrderedRecords = record { records = placed.records; sorter = c.get_next-in-reads.new.self; round = placed.round; pending = placed.pending } in
     let same = c.in-None-take_end.ensures.0 ∙ c.in-None-take_untimed.ensures.0 in
     let pending = ap (λ s. s.pending) c.in-None-take_untimed.ensures.0 in

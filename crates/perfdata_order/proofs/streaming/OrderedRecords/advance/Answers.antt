@@ -25,39 +25,39 @@ pub returns-in-Err : goal.returns-in-Err
 returns-in-Err g c =
     inr (inr (c.from.ensures, progress_unread g.R.Source.state c.args.self.now c.reads.self c.read.new.self c.args.perf_file.now c.reads.perf_file c.read.new.perf_file c.reads.invariant c.in-Err.ensures.0 c.in-Err.ensures.1))
 
-pub returns-in-Err-place_pending : goal.returns-in-Err-place_pending
-returns-in-Err-place_pending g c =
+pub returns-in-Err-insert_pending : goal.returns-in-Err-insert_pending
+returns-in-Err-insert_pending g c =
     let state = g.R.Source.state in
     let pending = c.in-Ok.ensures in
     let read = progress_read state c.args.self.now c.reads.self c.read.new.self c.args.perf_file.now c.reads.perf_file c.read.new.perf_file c.reads.invariant pending in
-    inr (inr (c.from-in-Err-place_pending.ensures, progress_places state c.args.self.now c.read.new.self c.place_pending.new.self c.args.perf_file.now c.read.new.perf_file read c.in-Err-place_pending.ensures))
+    inr (inr (c.from-in-Err-insert_pending.ensures, progress_places state c.args.self.now c.read.new.self c.insert_pending.new.self c.args.perf_file.now c.read.new.perf_file read c.in-Err-insert_pending.ensures))
 
 pub returns-in-Some-take_sorted : goal.returns-in-Some-take_sorted
 returns-in-Some-take_sorted g c =
     let state = g.R.Source.state in
     let pending = c.in-Ok.ensures in
     let read = progress_read state c.args.self.now c.reads.self c.read.new.self c.args.perf_file.now c.reads.perf_file c.read.new.perf_file c.reads.invariant pending in
-    let before = progress_places state c.args.self.now c.read.new.self c.place_pending.new.self c.args.perf_file.now c.read.new.perf_file read c.in-Ok-place_pending.ensures.0 in
+    let before = progress_places state c.args.self.now c.read.new.self c.insert_pending.new.self c.args.perf_file.now c.read.new.perf_file read c.in-Ok-insert_pending.ensures.0 in
     let new = c.take_sorted-in-reads.new.self in
-    sorted_returned state c.args.self.now c.place_pending.new.self new c.args.perf_file.now c.read.new.perf_file c.in-Some-take_sorted.ensures.0 c.in-Some-take_sorted.ensures.1.0
+    sorted_returned state c.args.self.now c.insert_pending.new.self new c.args.perf_file.now c.read.new.perf_file c.in-Some-take_sorted.ensures.0 c.in-Some-take_sorted.ensures.1.0
     (view_with c.in-Some-take_sorted.envelope (body_in Sorted new)) before c.in-Some-take_sorted.ensures.1.1 c.in-Some-take_sorted.ensures.1.2
 
 pub returns-in-Some-take_untimed : goal.returns-in-Some-take_untimed
 returns-in-Some-take_untimed g c =
     let state = g.R.Source.state in
-    let placed = c.place_pending.new.self in
+    let placed = c.insert_pending.new.self in
     let kept = c.take_sorted-in-reads.new.self in
     let new = c.take_untimed.new.self in
     let pending = c.in-Ok.ensures in
     let read = progress_read state c.args.self.now c.reads.self c.read.new.self c.args.perf_file.now c.reads.perf_file c.read.new.perf_file c.reads.invariant pending in
-    let before = progress_places state c.args.self.now c.read.new.self placed c.args.perf_file.now c.read.new.perf_file read c.in-Ok-place_pending.ensures.0 in
+    let before = progress_places state c.args.self.now c.read.new.self placed c.args.perf_file.now c.read.new.perf_file read c.in-Ok-insert_pending.ensures.0 in
     let none = c.in-None-take_sorted.ensures in
     let after = progress_kept state c.args.self.now placed kept c.args.perf_file.now c.read.new.perf_file before none.1 in
     let taken = c.in-Some-take_untimed.ensures in
     let view = view_with c.in-Some-take_untimed.untimed (body_in Read new) in
     untimed_returned state c.args.self.now kept new c.args.perf_file.now c.read.new.perf_file view after (record {
       was_pending = taken.0;
-      in_round = subst (λ n. view.round ≤ n) (sym none.1.round) (untimed_in_round state (unplaced_of c.read.new.self) placed view c.in-Ok-place_pending.ensures.1 (sym none.1.pending ∙ taken.0));
+      in_round = subst (λ n. view.round ≤ n) (sym none.1.round) (untimed_in_round state (unplaced_of c.read.new.self) placed view c.in-Ok-insert_pending.ensures.1 (sym none.1.pending ∙ taken.0));
       none_available = none.1.unchanged.available ∙ none.0;
       pending = taken.1;
       same_records = taken.2;
@@ -67,11 +67,11 @@ returns-in-Some-take_untimed g c =
 pub returns-in-Some-Ok : goal.returns-in-Some-Ok
 returns-in-Some-Ok g c =
     let state = g.R.Source.state in
-    let placed = c.place_pending.new.self in
+    let placed = c.insert_pending.new.self in
     let kept = c.take_sorted-in-reads.new.self in
     let pending = c.in-Ok.ensures in
     let read = progress_read state c.args.self.now c.reads.self c.read.new.self c.args.perf_file.now c.reads.perf_file c.read.new.perf_file c.reads.invariant pending in
-    let before = progress_places state c.args.self.now c.read.new.self placed c.args.perf_file.now c.read.new.perf_file read c.in-Ok-place_pending.ensures.0 in
+    let before = progress_places state c.args.self.now c.read.new.self placed c.args.perf_file.now c.read.new.perf_file read c.in-Ok-insert_pending.ensures.0 in
     let none = c.in-None-take_sorted.ensures in
     let after_take = progress_kept state c.args.self.now placed kept c.args.perf_file.now c.read.new.perf_file before none.1 in
     let same = c.in-None-take_untimed.ensures.0 in
@@ -80,32 +80,32 @@ returns-in-Some-Ok g c =
     let taken = rw c.in-Some-Ok.field-0-is at c.in-Some-Ok.ensures in
     end_returned state c.args.self.now untaken c.take_end.new.self c.args.perf_file.now c.read.new.perf_file after taken.0 taken.1
     (ap (λ s. held_of s.held.sorter) same ∙ none_held_after state placed.held.sorter kept.held.sorter none.0 none.1.unchanged
-    (none_pending_at state (unplaced_of c.read.new.self) ending placed c.in-Ok-place_pending.ensures.1 tt (sym none.1.pending ∙ sym (ap (λ s. unplaced_of s) same) ∙ taken.1)))
+    (none_pending_at state (unplaced_of c.read.new.self) ending placed c.in-Ok-insert_pending.ensures.1 tt (sym none.1.pending ∙ sym (ap (λ s. unplaced_of s) same) ∙ taken.1)))
 
 pub returns-in-Some-Err : goal.returns-in-Some-Err
 returns-in-Some-Err g c =
     let state = g.R.Source.state in
-    let placed = c.place_pending.new.self in
+    let placed = c.insert_pending.new.self in
     let kept = c.take_sorted-in-reads.new.self in
     let pending = c.in-Ok.ensures in
     let read = progress_read state c.args.self.now c.reads.self c.read.new.self c.args.perf_file.now c.reads.perf_file c.read.new.perf_file c.reads.invariant pending in
-    let before = progress_places state c.args.self.now c.read.new.self placed c.args.perf_file.now c.read.new.perf_file read c.in-Ok-place_pending.ensures.0 in
+    let before = progress_places state c.args.self.now c.read.new.self placed c.args.perf_file.now c.read.new.perf_file read c.in-Ok-insert_pending.ensures.0 in
     let none = c.in-None-take_sorted.ensures in
     let after_take = progress_kept state c.args.self.now placed kept c.args.perf_file.now c.read.new.perf_file before none.1 in
     let same = c.in-None-take_untimed.ensures.0 in
     let after = subst (λ s. Progress state c.args.self.now c.args.perf_file.now s c.read.new.perf_file) (sym same) after_take in
     let untaken = c.take_untimed.new.self in
     let taken = rw c.in-Some-Err.field-0-is at c.in-Some-Err.ensures in
-    error_returned state c.args.self.now placed untaken c.take_end.new.self c.args.perf_file.now c.read.new.perf_file (unplaced_of c.read.new.self) c.in-Some-Err.error after c.in-Ok-place_pending.ensures.1 none.0 (subst (λ s. KeepsSorter placed s) (sym same) none.1) taken
+    error_returned state c.args.self.now placed untaken c.take_end.new.self c.args.perf_file.now c.read.new.perf_file (unplaced_of c.read.new.self) c.in-Some-Err.error after c.in-Ok-insert_pending.ensures.1 none.0 (subst (λ s. KeepsSorter placed s) (sym same) none.1) taken
 
 pub reads-preserved : goal.reads-preserved
 reads-preserved g c =
     let state = g.R.Source.state in
-    let placed = c.place_pending.new.self in
+    let placed = c.insert_pending.new.self in
     let kept = c.take_sorted-in-reads.new.self in
     let pending = c.in-Ok.ensures in
     let read = progress_read state c.args.self.now c.reads.self c.read.new.self c.args.perf_file.now c.reads.perf_file c.read.new.perf_file c.reads.invariant pending in
-    let before = progress_places state c.args.self.now c.read.new.self placed c.args.perf_file.now c.read.new.perf_file read c.in-Ok-place_pending.ensures.0 in
+    let before = progress_places state c.args.self.now c.read.new.self placed c.args.perf_file.now c.read.new.perf_file read c.in-Ok-insert_pending.ensures.0 in
     let none = c.in-None-take_sorted.ensures in
     let after_take = progress_kept state c.args.self.now placed kept c.args.perf_file.now c.read.new.perf_file before none.1 in
     let same = c.in-None-take_untimed.ensures.0 in
@@ -119,5 +119,5 @@ reads-smaller g c =
     let kept = c.take_sorted-in-reads.new.self in
     let same = c.in-None-take_untimed.ensures.0 in
     let ongoing = subst (λ s. IsOngoing (unplaced_of s)) same c.in-None-take_end.ensures.1 in
-    let falls = work_falls state c.reads.self c.read.new.self c.place_pending.new.self kept c.reads.perf_file c.read.new.perf_file c.in-Ok.ensures c.in-Ok-place_pending.ensures.1 c.in-Ok-place_pending.ensures.2 c.in-None-take_sorted.ensures.0 c.in-None-take_sorted.ensures.1 c.in-None-take_untimed.ensures.1 ongoing in
+    let falls = work_falls state c.reads.self c.read.new.self c.insert_pending.new.self kept c.reads.perf_file c.read.new.perf_file c.in-Ok.ensures c.in-Ok-insert_pending.ensures.1 c.in-Ok-insert_pending.ensures.2 c.in-None-take_sorted.ensures.0 c.in-None-take_sorted.ensures.1 c.in-None-take_untimed.ensures.1 ongoing in
     subst (λ s. work_of state s < work_of state c.reads.self) (sym (c.in-None-take_end.ensures.0 ∙ same)) falls

@@ -2,7 +2,7 @@ use Rattle.std.proofs.Common.{refl, ap}
 use Rattle.perfdata_order.specs.HeldRecord.{view_with}
 use Rattle.perfdata_order.specs.StreamingOrder.{unplaced_by}
 use Rattle.perfdata_order.specs.StreamingOrder.Unplaced.{waiting}
-use Rattle.perfdata_order.specs.declared.streaming.Pending.TheVariants.{Record}
+use Rattle.perfdata_order.specs.declared.streaming.PendingStep.TheVariants.{Record}
 use Rattle.perfdata_order.proofs.StreamingCalls.{read_and_inserted, read_and_copied}
 use Rattle.perfdata_order.proofs.streaming.OrderedRecords.read.Goals as goal
 

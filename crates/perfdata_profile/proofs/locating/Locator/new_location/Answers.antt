@@ -1,9 +1,9 @@
 use Rattle.std.proofs.Common.{refl}
 use Rattle.std.proofs.lemmas.Option.{slice_get_within}
-use Rattle.perfdata_profile.specs.Locating.{IsFoundPlace, located_lists}
+use Rattle.perfdata_profile.specs.Locating.{IsFoundKey, located_lists}
 use Rattle.perfdata_profile.specs.Names.{names_of, number_of}
 use Rattle.perfdata_profile.specs.Resolving.{frame_value}
-use Rattle.perfdata_profile.specs.Tables.{location_number, locations_of, ranges_of, stacks_of}
+use Rattle.perfdata_profile.specs.Interned.{location_number, locations_of, ranges_of, stacks_of}
 use Rattle.perfdata_profile.specs.Values.{HasParts, lists_in}
 use Rattle.perfdata_profile.specs.declared.locations.Location.{Location}
 use Rattle.perfdata_profile.proofs.Growing.{lists_trans, location_result, location_within, locations_grow, names_grow, result_grows}
@@ -51,5 +51,5 @@ returns-clause-ok g c =
     let frame = frame_value c.args.frame.now in
     let named = function_kept g.R.Resolver.meaning frame (names_of c.function.new.names) (names_of tables.names) c.in_ok-place.ensures.grows.lists.names function c.in_ok-function.ensures.named in
     let location : Location = record { mapping = place.mapping; address = place.address; function = function.id } in
-    let found : IsFoundPlace g.R.Resolver.meaning c.args.self.now.detail lists frame place = record { placed = c.in_ok-place.ensures.ok.placed; is = c.in_ok-place.ensures.ok.is } in
+    let found : IsFoundKey g.R.Resolver.meaning c.args.self.now.detail lists frame place = record { placed = c.in_ok-place.ensures.ok.placed; is = c.in_ok-place.ensures.ok.is } in
     new_location g.R.Resolver.meaning c.args.self.now.detail lists frame location c.in_ok-id.id c.in_ok-id.ensures.ok.is_at named.name named.at place refl refl found function.is_fixed named.is named.fixed

@@ -2,7 +2,7 @@ use Rattle.std.proofs.Common.{rules, ◌≡◌, ◌≤◌, ◌<◌, arith, refl}
 use Rattle.std.proofs.lemmas.Option.{slice_get_within}
 use Rattle.perfdata_profile.specs.Names.{names_of, number_of}
 use Rattle.perfdata_profile.specs.Samples.{end_of}
-use Rattle.perfdata_profile.specs.Tables.{locations_of, mapping_number, ranges_of, stacks_of}
+use Rattle.perfdata_profile.specs.Interned.{locations_of, mapping_number, ranges_of, stacks_of}
 use Rattle.perfdata_profile.specs.Values.{HasFile, lists_in}
 use Rattle.perfdata_profile.specs.declared.mappings.MappedRange.{MappedRange}
 use Rattle.perfdata_profile.proofs.Growing.{names_within, range_result}

@@ -17,7 +17,7 @@ returns-in_err-attr-clause-reads g c =
     rw (p.1, p.2) (inr (
       attr_section_valid g.T.ByteOrder.number_of c.args.attr_size c.args.section.now some low,
       items_error (IsPlainDescription g.T.ByteOrder.number_of c.args.attr_size) c.args.attr_size c.args.section.now.offset c.args.section.now.size _ _ c.frames.at _ some c.frames.invariant.so_far
-          (ReadOrSeekErrorAt (ConsumesFrameError g.T.ByteOrder.number_of c.args.attr_size) (IsFrameReadError g.T.ByteOrder.number_of c.args.attr_size)) (g.C.Source.state c.read_attr_frame_at.new.source) _
+          (ReadOrSeekErrorAt (ConsumesFrameError g.T.ByteOrder.number_of c.args.attr_size) (IsFrameReadError g.T.ByteOrder.number_of c.args.attr_size)) (g.C.Source.state c.seek_and_read_attr_frame.new.source) _
           (λ k. error_later (ConsumesFrameError g.T.ByteOrder.number_of c.args.attr_size) (IsFrameReadError g.T.ByteOrder.number_of c.args.attr_size) (frame_carries g.T.ByteOrder.number_of g.met.T.ByteOrder.reads_first c.args.attr_size) _ _ _ k _ c.frames.invariant.so_far.after_seek)
           more c.in_err-attr.ensures.reads,
     ))
@@ -30,7 +30,7 @@ frames-preserved g c =
     let d : AttributeDescription = record { attr = c.in_ok-attr.attr; name = None; event_ids = c.new.result } in
     record {
       so_far = items_more (IsPlainDescription g.T.ByteOrder.number_of c.args.attr_size) c.args.attr_size c.args.section.now.offset c.args.section.now.size _ _ c.frames.at _ some c.frames.invariant.so_far
-          (g.C.Source.state c.read_attr_frame_at.new.source) d c.push.new.self.items more c.in_ok-push.ensures.items
+          (g.C.Source.state c.seek_and_read_attr_frame.new.source) d c.push.new.self.items more c.in_ok-push.ensures.items
           (described g.T.ByteOrder.number_of g.met.T.ByteOrder.reads_first c.args.attr_size _ _ c.frames.at c.in_ok-attr.attr d refl refl c.new.ensures.items c.in_ok-attr.ensures.reads);
       pauses = c.in_ok-attr.ensures.pauses ∙ c.frames.invariant.pauses;
       same_loan = c.in_ok-attr.ensures.same_loan ∙ c.frames.invariant.same_loan;
@@ -59,7 +59,7 @@ returns-in_err-push-clause-memory g c =
     let more : c.args.attr_size ≤ c.args.section.now.offset + c.args.section.now.size - c.frames.at = omega arith in
     let d : AttributeDescription = record { attr = c.in_ok-attr.attr; name = None; event_ids = c.new.result } in
     let read = items_more (IsPlainDescription g.T.ByteOrder.number_of c.args.attr_size) c.args.attr_size c.args.section.now.offset c.args.section.now.size _ _ c.frames.at _ some c.frames.invariant.so_far
-    (g.C.Source.state c.read_attr_frame_at.new.source) d (c.frames.all.items ++ d ∷ []) more refl
+    (g.C.Source.state c.seek_and_read_attr_frame.new.source) d (c.frames.all.items ++ d ∷ []) more refl
     (described g.T.ByteOrder.number_of g.met.T.ByteOrder.reads_first c.args.attr_size _ _ c.frames.at c.in_ok-attr.attr d refl refl c.new.ensures.items c.in_ok-attr.ensures.reads) in
     let p = err_from_is_err_and c.from_residual-in_err-push.result c.from_residual-in_err-push.ensures.1 in
     rw (p.1, p.2) (λ _. (

@@ -12,7 +12,7 @@ returns-in_err-entry-clause-reads g c =
     let more : c.args.attr_size + 16 ≤ c.args.section.now.offset + c.args.section.now.size - c.entries.at = omega arith in
     let p = err_from_is_err_and c.from_residual.result c.from_residual.ensures.1 in
     rw (p.1, p.2) (items_error (IsEventTypeEntry g.T.ByteOrder.number_of c.args.attr_size) (c.args.attr_size + 16) c.args.section.now.offset c.args.section.now.size _ _ c.entries.at _ some c.entries.invariant.so_far
-    (EventTypeEntryReadError g.T.ByteOrder.number_of c.args.attr_size) (g.C.Source.state c.read_entry_at.new.source) _
+    (EventTypeEntryReadError g.T.ByteOrder.number_of c.args.attr_size) (g.C.Source.state c.read_entry.new.source) _
     (λ k. entry_later g.T.ByteOrder.number_of g.met.T.ByteOrder.reads_first c.args.attr_size _ _ _ k _ c.entries.invariant.so_far.after_seek) more c.in_err-entry.ensures.reads)
 
 pub entries-preserved : goal.entries-preserved
@@ -22,7 +22,7 @@ entries-preserved g c =
     let on : c.entries.at + c.args.attr_size + 16 ≡ c.entries.at + (c.args.attr_size + 16) = omega arith in
     record {
       so_far = items_more (IsEventTypeEntry g.T.ByteOrder.number_of c.args.attr_size) (c.args.attr_size + 16) c.args.section.now.offset c.args.section.now.size _ _ c.entries.at _ some c.entries.invariant.so_far
-          (g.C.Source.state c.read_entry_at.new.source) c.in_ok-entry.entry c.push.new.self.items more c.in_ok-push.ensures.items c.in_ok-entry.ensures.reads;
+          (g.C.Source.state c.read_entry.new.source) c.in_ok-entry.entry c.push.new.self.items more c.in_ok-push.ensures.items c.in_ok-entry.ensures.reads;
       position = λ _. c.in_ok-entry.ensures.position ∙ at_offset_same (c.entries.at + c.args.attr_size + 16) _ _ c.entries.invariant.so_far.after_seek.all_bytes ∙ ap (λ k. at_offset k (g.C.Source.state c.args.source.now).position) on;
       pauses = c.in_ok-entry.ensures.pauses ∙ c.entries.invariant.pauses;
       same_loan = c.in_ok-entry.ensures.same_loan ∙ c.entries.invariant.same_loan;

@@ -19,7 +19,7 @@ returns-else-is_context_change-clause-goes c =
 pub values-preserved : goal.values-preserved
 values-preserved c =
     let yes : c.is_context_change.result ≡ true = search rules in
-    ap (λ k. chain_frames k false (remaining_u64s c.next.new.self)) c.context_of-context.ensures
+    ap (λ k. chain_frames k false (remaining_u64s c.next.new.self)) c.call_context-context.ensures
     ∙ sym (frames_after_change c.values.self.context c.values.self.after_frame (remaining_u64s c.values.self.values) (remaining_u64s c.next.new.self) c.in-Some.value c.in-Some.ensures.steps (sym c.is_context_change.ensures ∙ yes))
     ∙ c.values.invariant
 

@@ -12,12 +12,12 @@ returns c =
     let old = c.args.self.now in
     let ids = c.args.ids.now in
     let first = get_or ids 0 0 in
-    let p = c.last_with-previous.result in
+    let p = c.last_index-previous.result in
     let new : FirstIdIndex = record { last = c.insert.new.self; previous = c.push-2.new.self } in
     let some : 0 < length ids = search rules in
     let count : c.len-index.result ≡ length old.previous.items = search rules in
     let items : new.previous.items ≡ old.previous.items ++ p ∷ [] = c.in_ok-push-2.ensures.items ∙ ap (λ l. l ++ p ∷ []) c.try_reserve.ensures.items in (
       ap length items ∙ length_push old.previous.items p,
-      λ lists x there at. index_more_with old new lists ids first p some refl at there items c.last_with-previous.ensures
+      λ lists x there at. index_more_with old new lists ids first p some refl at there items c.last_index-previous.ensures
           (λ q. c.in_ok-insert.ensures.updates.0 q ∙ ap (λ n. cond (is_at (nat_cmp first) q) (Some n) (get nat_cmp old.last q)) count) x,
     )

@@ -19,4 +19,4 @@ returns c = λ attrs k.
     let count : n ≡ length old.parse_infos.items = search rules in
     let pushed : c.push.new.self.items ≡ old.parse_infos.items ++ c.new.result ∷ [] = c.in_ok-push.ensures.items in
     let places : c.push.new.self.items ≡ old.parse_infos.items ++ parse_info_of c.args.attr.now c.args.endian ∷ [] = pushed ∙ ap (λ p. old.parse_infos.items ++ p ∷ []) c.new.ensures in
-    represents_more c.args.endian old _ attrs a n k (c.in_ok-check_next.ensures c.args.endian c.args.ids.now attrs k) count refl places c.first_without_identifier_with-self.ensures c.in_ok-insert_all.ensures c.clear.ensures
+    represents_more c.args.endian old _ attrs a n k (c.in_ok-check_next.ensures c.args.endian c.args.ids.now attrs k) count refl places c.next_without_identifier-self.ensures c.in_ok-insert_all.ensures c.clear.ensures

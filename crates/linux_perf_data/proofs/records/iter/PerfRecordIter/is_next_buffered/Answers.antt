@@ -1,5 +1,5 @@
 use Rattle.std.proofs.Common.{rules}
-use Rattle.linux_perf_data.specs.Input.{HasNoPendingHeader}
+use Rattle.linux_perf_data.specs.RecordInput.{HasNoPendingHeader}
 use Rattle.linux_perf_data.specs.Iter.{TestsMayStart, section_size_of}
 use Rattle.linux_perf_data.proofs.BufferedRecords.{exact_finished, section_over, visible_in, tests_finished}
 use Rattle.std.specs.Prelude.{false}

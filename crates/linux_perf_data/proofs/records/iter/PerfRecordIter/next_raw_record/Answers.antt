@@ -1,7 +1,7 @@
 use Rattle.std.proofs.Common.{◌++◌, length, rules, refl, ap, sym, subst, vec_capacity}
 use Rattle.std.proofs.lemmas.Result.{err_from_is_err_and}
 use Rattle.perfdata_sections.specs.Error.{IsUnexpectedEof}
-use Rattle.linux_perf_data.specs.Input.{input_source_state}
+use Rattle.linux_perf_data.specs.RecordInput.{input_source_state}
 use Rattle.linux_perf_data.specs.Iter.{section_size_of, iter_source_state}
 use Rattle.linux_perf_data.proofs.RecordReads.{not_short_memory, exceeds_rest, header_truncated, header_short, header_error, not_header_memory, pass_truncated, pass_short, pass_failed, content_truncated, content_short, content_error, marker_whole, content_whole, after_header}
 use Rattle.linux_perf_data.proofs.TruncatedRecords.{record_truncated}

@@ -1,6 +1,6 @@
 use Rattle.std.proofs.Common.{rules, refl, ap, inl, inr}
 use Rattle.std.proofs.lemmas.Result.{err_from_is_err_and}
-use Rattle.linux_perf_data.specs.Input.{section_size_in}
+use Rattle.linux_perf_data.specs.RecordInput.{section_size_in}
 use Rattle.linux_perf_data.proofs.ProcessedRecords.{record_processed, record_rejected}
 use Rattle.linux_perf_data.proofs.records.iter.PerfRecordIter.process_record.Goals as goal
 

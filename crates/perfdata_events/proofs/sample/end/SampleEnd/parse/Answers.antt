@@ -2,7 +2,7 @@ use Rattle.std.proofs.Common.{inl, inr}
 use Rattle.std.proofs.lemmas.Result.{err_from_is_err_and}
 use Rattle.perfdata_base.specs.Raw.{bytes_of}
 use Rattle.std.specs.Option.{option_map}
-use Rattle.perfdata_events.specs.Registers.{registers_of}
+use Rattle.perfdata_events.specs.SampleRegisters.{registers_of}
 use Rattle.perfdata_events.proofs.sample.end.SampleEnd.parse.Goals as goal
 
 pub returns-in_err-interrupt_registers-clause-decodes : goal.returns-in_err-interrupt_registers-clause-decodes

@@ -6,4 +6,4 @@ use Rattle.perfdata_sections.proofs.feature_sections.number_sections.NrCpus.pars
 
 pub returns-clause-parses : goal.returns-clause-parses
 returns-clause-parses g c =
-    subst (λ number. ParsesPart 8 (nr_cpus_of number) (g.R.Source.state c.args.source.now) c.parse_in.result (g.R.Source.state c.parse_in.new.source)) (same_number g.T.ByteOrder.number_of c.ENDIAN.result _ c.ENDIAN.ensures g.met.T.FileOrder.reads_by) c.parse_in.ensures.parses
+    subst (λ number. ParsesPart 8 (nr_cpus_of number) (g.R.Source.state c.args.source.now) c.parse_with_endian.result (g.R.Source.state c.parse_with_endian.new.source)) (same_number g.T.ByteOrder.number_of c.ENDIAN.result _ c.ENDIAN.ensures g.met.T.FileOrder.reads_by) c.parse_with_endian.ensures.parses

@@ -1,0 +1,12 @@
+use Rattle.std.proofs.Common.{◌≡◌, ◌<◌, length, drop}
+use Rattle.code_cfi.specs.Numbers.{sleb128_value}
+use Rattle.code_cfi.proofs.leb128.sleb128_value.Given as goal
+
+abbrev pub invariant-bytes : goal.invariant-bytes
+invariant-bytes l = record {
+  within : l.left < length l.bytes;
+  value : l.value ≡ sleb128_value (drop l.left l.bytes);
+}
+
+abbrev pub decreases-bytes : goal.decreases-bytes
+decreases-bytes l = l.left

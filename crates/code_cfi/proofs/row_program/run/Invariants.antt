@@ -1,0 +1,14 @@
+use Rattle.std.proofs.Common.{◌≤◌, length}
+use Rattle.code_cfi.specs.Rows.{Moment, moment_of, Runs}
+use Rattle.code_cfi.proofs.row_program.run.Given as goal
+
+-- what the instructions that are left lead to, all instructions lead to, and the other way round
+abbrev pub invariant-instructions : goal.invariant-instructions
+invariant-instructions l = record {
+  within : length l.rest ≤ length l.program;
+  leads : (n : Moment) → Runs l.encoding l.cie l.initial' l.address l.rest (moment_of l.state) n → Runs l.encoding l.cie l.initial' l.address l.program (moment_of l.fn.state) n;
+  follows : (n : Moment) → Runs l.encoding l.cie l.initial' l.address l.program (moment_of l.fn.state) n → Runs l.encoding l.cie l.initial' l.address l.rest (moment_of l.state) n;
+}
+
+abbrev pub decreases-instructions : goal.decreases-instructions
+decreases-instructions l = length l.rest

@@ -1,0 +1,17 @@
+pub mod AppendLemmas
+pub mod ArmPltLemmas
+pub mod CrcLemmas
+pub mod BoundaryLemmas
+pub mod EntryLemmas
+pub mod KernelLineLemmas
+pub mod KernelSizeLemmas
+pub mod LayerLemmas
+pub mod LineLemmas
+pub mod LookupLemmas
+pub mod MapLineLemmas
+pub mod NameLemmas
+pub mod MergeLemmas
+pub mod PltLemmas
+pub mod StringLemmas
+pub mod SymbolLemmas
+pub mod TextLemmas

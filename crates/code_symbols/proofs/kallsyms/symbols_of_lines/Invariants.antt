@@ -1,0 +1,10 @@
+use Rattle.std.proofs.Common.{◌+◌, ◌-◌, length}
+use Rattle.code_symbols.specs.Kernel.{IsKernelLine}
+use Rattle.code_symbols.proofs.LineLemmas.{Lists}
+use Rattle.code_symbols.proofs.kallsyms.symbols_of_lines.Given as goal
+
+abbrev pub invariant-lines : goal.invariant-lines
+invariant-lines l = Lists IsKernelLine l.text l.at l.symbols.items
+
+abbrev pub decreases-lines : goal.decreases-lines
+decreases-lines l = length l.text + 1 - l.at

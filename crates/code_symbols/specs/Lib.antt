@@ -1,0 +1,17 @@
+pub mod ArmPlt
+pub mod Crc
+pub mod Boundaries
+pub mod Elf
+pub mod ElfFiles
+pub mod Kernel
+pub mod Layer
+pub mod Lines
+pub mod Merge
+pub mod Plt
+pub mod PltRelocations
+pub mod RankedLists
+pub mod Strings
+pub mod StringTable
+pub mod Symbols
+pub mod SymbolTable
+pub mod Text

@@ -1,0 +1,337 @@
+//! ELF files: their segments, symbols, build id and debug link (System V ABI, chapter "Object files").
+
+ghost use Rattle.std.specs.Prelude.{◌≡◌};
+
+use crate::error::{ElfError, ElfTable};
+use crate::ranked::RankedSymbols;
+use bstr::ByteSlice;
+use memchr::memchr;
+use perfdata_base::source::PlacedSource;
+use std::alloc::{AllocError, Global};
+
+mod arm_plt;
+mod code;
+mod frame_header;
+mod header;
+mod input;
+mod notes;
+mod plt;
+mod plt_ranges;
+mod sections;
+mod strings;
+mod symbols;
+
+pub use header::Segment;
+use header::{FileHeader, Section, Segments};
+use input::{Encoding, TableEntry, read_table};
+pub use notes::build_id_of_notes;
+use notes::{NoteRange, find_build_id};
+pub use plt_ranges::PltRange;
+pub use sections::SectionBytes;
+use sections::{find_section, read_contents};
+use strings::Strings;
+use symbols::{SymbolContext, add_symbols};
+
+// The largest part of a range of notes that is searched for the build id.
+const MAX_NOTE_SIZE: u64 = 65536;
+
+// The largest debug link that is read.
+const MAX_DEBUG_LINK_SIZE: u64 = 65536;
+
+/// The section of which the symbols are.
+#[derive(Clone, Copy, Debug, PartialEq, Eq)]
+pub enum SymbolSection {
+    /// `.symtab`, all symbols.
+    Full,
+    /// `.dynsym`, those for the dynamic linker.
+    Dynamic,
+}
+
+/// The name of the file with the debug information of another one (`.gnu_debuglink`).
+#[derive(Debug, Drop, PartialEq, Eq)]
+pub struct DebugLink {
+    /// The name of the file, without directories.
+    pub file_name: Vec<u8>,
+    /// The CRC-32 of the file.
+    pub crc: u32,
+}
+
+/// An ELF file whose headers are read.
+#[derive(Drop)]
+pub struct ElfFile<R> {
+    source: R,
+    header: FileHeader,
+    sections: Vec<Section>,
+    section_names: Strings,
+    segments: Vec<Segment>,
+    // The segment of `.eh_frame_hdr`.
+    frame_header: Option<Segment>,
+    notes: Vec<NoteRange>,
+}
+
+impl<R: PlacedSource + Drop> ElfFile<R> {
+    ghost use Rattle.code_symbols.specs.ElfFiles.{machine_of, segments_of};
+
+    /// Reads the file header, the section headers with their names, and the program headers.
+    ///
+    /// The errors are those of [`ElfError`]. No count of the file reserves memory: tables are read in pieces
+    /// of at most 4,096 bytes.
+    pub fn open(alloc: Global, mut source: R) -> Result<ElfFile<R>, ElfError> {
+        let mut header = header::read_file_header(&mut source)?;
+        let sections = header::read_sections(alloc, &mut source, &mut header)?;
+        let section_names = match find_section(&sections, header.names_index as usize) {
+            Some(section) => {
+                let bytes = read_contents(alloc, &mut source, &section, ElfTable::Strings)?;
+                Strings::new(alloc, bytes)?
+            }
+            None => Strings::new(alloc, Vec::new(alloc))?,
+        };
+        let Segments {
+            loaded,
+            frame_header,
+            mut notes,
+        } = header::read_segments(alloc, &mut source, &header)?;
+        notes::add_note_sections(&sections, &mut notes)?;
+        Ok(ElfFile {
+            source,
+            header,
+            sections,
+            section_names,
+            segments: loaded,
+            frame_header,
+            notes,
+        })
+    }
+
+    /// Returns the number of the machine (`e_machine`): 62 for x86-64, 183 for AArch64.
+    pub fn machine(&self) -> u16
+        ensures { result ≡ machine_of self.now }
+    {
+        self.header.machine
+    }
+
+    /// Returns the segments that are loaded into memory.
+    pub fn segments(&self) -> &[Segment]
+        ensures { result.now ≡ segments_of self.now }
+    {
+        &self.segments[..]
+    }
+
+    /// Returns the section that `symbols` reads: `.symtab` if there is one, otherwise `.dynsym`.
+    pub fn symbol_section(&self) -> Option<SymbolSection> {
+        if self.index_of_type(header::SYMTAB).is_some() {
+            Some(SymbolSection::Full)
+        } else if self.index_of_type(header::DYNSYM).is_some() {
+            Some(SymbolSection::Dynamic)
+        } else {
+            None
+        }
+    }
+
+    /// Reads the build id, or `None` if the file has none: the first note of the type `NT_GNU_BUILD_ID` in
+    /// the `PT_NOTE` segments, or in the note sections. The first 65,536 bytes of each are searched.
+    pub fn build_id(&mut self, alloc: Global) -> Result<Option<Vec<u8>>, ElfError> {
+        let encoding = self.header.encoding;
+        'notes: for range in self.notes.iter() {
+            let size = range.size.min(MAX_NOTE_SIZE);
+            let bytes = read_table(alloc, &mut self.source, range.offset, size, ElfTable::Notes)?;
+            if let Some(id) = find_build_id(encoding, &bytes, range.has_align_8) {
+                return Ok(Some(Vec::from_slice(alloc, id)?));
+            }
+        }
+        Ok(None)
+    }
+
+    /// Reads the debug link, or `None` if the file has none.
+    pub fn debug_link(&mut self, alloc: Global) -> Result<Option<DebugLink>, ElfError> {
+        let Some(mut section) = self.section_of_name(b".gnu_debuglink") else {
+            return Ok(None);
+        };
+        section.size = section.size.min(MAX_DEBUG_LINK_SIZE);
+        let bytes = read_contents(alloc, &mut self.source, &section, ElfTable::DebugLink)?;
+        parse_debug_link(alloc, self.header.encoding, &bytes)
+    }
+
+    /// Reads the symbols of functions and objects, and the labels in sections whose names contain `text`.
+    ///
+    /// Their starts are offsets in the file that has these segments: `self.segments()`, or those of the file
+    /// whose debug information this file contains. Symbols outside all segments are skipped. Those of a
+    /// relocatable file, or of one without segments, are at their offsets in its sections.
+    pub fn symbols(
+        &mut self,
+        alloc: Global,
+        segments: &[Segment],
+    ) -> Result<RankedSymbols, ElfError> {
+        let full = self.index_of_type(header::SYMTAB);
+        let Some(index) = full.or(self.index_of_type(header::DYNSYM)) else {
+            return Ok(RankedSymbols::new(alloc));
+        };
+        let Some(section) = find_section(&self.sections, index) else {
+            return Ok(RankedSymbols::new(alloc));
+        };
+        let entries = read_contents(alloc, &mut self.source, &section, ElfTable::Symbols)?;
+        let section_indices = self.large_indices(alloc, index)?;
+        let names = self.linked_strings(alloc, &section)?;
+        let text_sections = are_text(alloc, &self.sections, &self.section_names)?;
+        let context = SymbolContext {
+            header: self.header,
+            sections: &self.sections,
+            text_sections: &text_sections,
+            section_indices: &section_indices,
+            segments,
+            names: &names,
+        };
+        let mut symbols = Vec::new(alloc);
+        add_symbols(&context, &entries, section.entry_size, &mut symbols)?;
+        Ok(RankedSymbols {
+            names: names.into_bytes(),
+            symbols,
+        })
+    }
+
+    /// Adds a symbol `NAME@plt` for each entry of the procedure linkage table, `.plt` and `.plt.sec`, that
+    /// calls a function by its symbol.
+    ///
+    /// The entries are in the order of the addresses of their pointers, `r_offset` of the relocations
+    /// `.rela.plt` or `.rel.plt`. How many bytes are before the first one follows from the size of the
+    /// section and the number of entries. For 32-bit Arm the sizes of the entries follow from their code if
+    /// GNU ld or gold wrote it: an entry begins with a stub where Thumb code calls it. A table that isn't
+    /// what linkers write for the machine has no symbols. A relocation of a TLS descriptor has no entry, so
+    /// the code after the entries, which all descriptors share, has no symbol. A symbol of the file at the
+    /// start of an entry is preferred to these.
+    ///
+    /// If it fails, the symbols may have those of some entries.
+    pub fn add_plt_symbols(
+        &mut self,
+        alloc: Global,
+        symbols: &mut RankedSymbols,
+    ) -> Result<(), ElfError> {
+        let rela = self.section_of_name(b".rela.plt");
+        let Some(relocations) = rela.or(self.section_of_name(b".rel.plt")) else {
+            return Ok(());
+        };
+        let Some(dynamic) = self.find_symbol_table(relocations.link as usize) else {
+            return Ok(());
+        };
+        let entries = read_contents(alloc, &mut self.source, &relocations, ElfTable::Relocations)?;
+        let dynamic_entries = read_contents(alloc, &mut self.source, &dynamic, ElfTable::Symbols)?;
+        let names = self.linked_strings(alloc, &dynamic)?;
+        let code = self.arm_code(alloc)?;
+        let context = plt::PltContext {
+            encoding: self.header.encoding,
+            machine: self.header.machine,
+            relocations: &entries,
+            relocation_size: relocations.entry_size,
+            symbols: &dynamic_entries,
+            symbol_size: dynamic.entry_size,
+            names: &names,
+            code: &code,
+            code_encoding: arm_plt::code_encoding(&self.header),
+        };
+        let plt_relocations = plt::PltRelocations::read(alloc, &context)?;
+        if let Some(section) = self.code_of_name(b".plt") {
+            plt_relocations.add_plt(alloc, &context, &section, symbols)?;
+        }
+        if let Some(section) = self.code_of_name(b".plt.sec") {
+            plt_relocations.add_second_plt(alloc, &context, &section, symbols)?;
+        }
+        Ok(())
+    }
+
+    // The code of `.plt` for 32-bit Arm, or none.
+    fn arm_code(&mut self, alloc: Global) -> Result<Vec<u8>, ElfError> {
+        if self.header.machine != plt::ARM {
+            return Ok(Vec::new(alloc));
+        }
+        match self.code_of_name(b".plt") {
+            Some(section) => read_contents(alloc, &mut self.source, &section, ElfTable::Section),
+            None => Ok(Vec::new(alloc)),
+        }
+    }
+
+    // The section with this index, if it is a symbol table.
+    fn find_symbol_table(&self, index: usize) -> Option<Section> {
+        let section = find_section(&self.sections, index)?;
+        match section.section_type {
+            header::SYMTAB | header::DYNSYM => Some(section),
+            _ => None,
+        }
+    }
+
+    // The first section with a name that has contents in the file, if it is code.
+    fn code_of_name(&self, name: &[u8]) -> Option<Section> {
+        let section = self.section_of_name(name)?;
+        if section.is_code { Some(section) } else { None }
+    }
+
+    // The index of the first section of a type.
+    fn index_of_type(&self, section_type: u32) -> Option<usize> {
+        self.sections
+            .iter()
+            .position(|section| section.section_type == section_type)
+    }
+
+    // The bytes of the section indices of the symbols in the table with this index that don't fit into its
+    // entries (`SHT_SYMTAB_SHNDX`), or none.
+    fn large_indices(&mut self, alloc: Global, symbol_table: usize) -> Result<Vec<u8>, ElfError> {
+        let Some(at) = self.sections.iter().position(|section| {
+            section.section_type == header::SYMTAB_INDICES && section.link as usize == symbol_table
+        })
+        else {
+            return Ok(Vec::new(alloc));
+        };
+        match find_section(&self.sections, at) {
+            Some(section) => read_contents(alloc, &mut self.source, &section, ElfTable::Symbols),
+            None => Ok(Vec::new(alloc)),
+        }
+    }
+
+    // The first section with a name that has contents in the file.
+    fn section_of_name(&self, name: &[u8]) -> Option<Section> {
+        'sections: for section in self.sections.iter() {
+            if section.section_type != header::NOBITS
+                && self.section_names.string(section.name as usize) == name
+            {
+                return Some(*section);
+            }
+        }
+        None
+    }
+
+    // The strings of the section that another one is linked to.
+    fn linked_strings(&mut self, alloc: Global, section: &Section) -> Result<Strings, ElfError> {
+        let bytes = match find_section(&self.sections, section.link as usize) {
+            Some(strings) => read_contents(alloc, &mut self.source, &strings, ElfTable::Strings)?,
+            None => Vec::new(alloc),
+        };
+        Ok(Strings::new(alloc, bytes)?)
+    }
+}
+
+// Whether the names of the sections contain `text`.
+fn are_text(alloc: Global, sections: &[Section], names: &Strings) -> Result<Vec<bool>, AllocError> {
+    let mut flags = Vec::new(alloc);
+    'sections: for section in sections.iter() {
+        flags.push(names.string(section.name as usize).contains_str(b"text"))?;
+    }
+    Ok(flags)
+}
+
+// The debug link in the bytes of its section: a name, up to three NULs after its own, and the CRC.
+fn parse_debug_link(
+    alloc: Global,
+    encoding: Encoding,
+    bytes: &[u8],
+) -> Result<Option<DebugLink>, ElfError> {
+    let Some(name_len) = memchr(0, bytes) else {
+        return Ok(None);
+    };
+    let crc_at = (name_len + 4) & !3;
+    if name_len == 0 || bytes.len() < 4 || bytes.len() - 4 < crc_at {
+        return Ok(None);
+    }
+    Ok(Some(DebugLink {
+        file_name: Vec::from_slice(alloc, &bytes[..name_len])?,
+        crc: TableEntry { encoding, bytes }.read_u32(crc_at),
+    }))
+}

@@ -1,6 +1,0 @@
-use Rattle.std.proofs.Common.{◌≡◌}
-use Rattle.perfdata_mangled.specs.Text.{limit_of}
-use Rattle.perfdata_mangled.proofs.v0.RustNames.read.Given as goal
-
-abbrev pub invariant-tasks : goal.invariant-tasks
-invariant-tasks l = limit_of l.text ≡ limit_of l.fn.text

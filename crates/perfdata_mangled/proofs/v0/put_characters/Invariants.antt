@@ -1,6 +1,0 @@
-use Rattle.std.proofs.Common.{◌≡◌}
-use Rattle.perfdata_mangled.specs.Text.{limit_of}
-use Rattle.perfdata_mangled.proofs.v0.put_characters.Given as goal
-
-abbrev pub invariant-characters : goal.invariant-characters
-invariant-characters l = limit_of l.text ≡ limit_of l.fn.text

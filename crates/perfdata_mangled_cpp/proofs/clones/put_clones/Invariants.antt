@@ -1,6 +1,0 @@
-use Rattle.std.proofs.Common.{◌≡◌}
-use Rattle.perfdata_mangled.specs.Text.{limit_of}
-use Rattle.perfdata_mangled_cpp.proofs.clones.put_clones.Given as goal
-
-abbrev pub invariant-suffixes : goal.invariant-suffixes
-invariant-suffixes l = limit_of l.text ≡ limit_of l.fn.text

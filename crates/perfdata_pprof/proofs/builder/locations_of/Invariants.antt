@@ -1,8 +1,0 @@
-use Rattle.std.proofs.Common.{◌≡◌, map}
-use Rattle.std.specs.Map.Iter.{deref}
-use Rattle.perfdata_pprof.specs.Rows.{numbered}
-use Rattle.perfdata_pprof.specs.Tables.{location_row}
-use Rattle.perfdata_pprof.proofs.builder.locations_of.Given as goal
-
-abbrev pub invariant-rows : goal.invariant-rows
-invariant-rows l = l.locations.items ≡ numbered (location_row l.mapping_count l.function_count) 1 (map deref l.yielded)

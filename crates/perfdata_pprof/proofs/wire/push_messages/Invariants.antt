@@ -1,6 +1,0 @@
-use Rattle.std.proofs.Common.{take}
-use Rattle.perfdata_pprof.specs.Wire.{Appends, message_fields}
-use Rattle.perfdata_pprof.proofs.wire.push_messages.Given as goal
-
-abbrev pub invariant-messages : goal.invariant-messages
-invariant-messages g l = Appends l.initial.bytes.items (message_fields l.field g.M.Message.fields (take l.message-index l.messages)) l.bytes.items

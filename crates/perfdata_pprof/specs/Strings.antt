@@ -1,8 +1,0 @@
--- The table of strings of a profile.
-use Rattle.std.specs.Prelude.{ℕ, List, map}
-use Rattle.std.specs.String.{string_bytes}
-use Rattle.perfdata_pprof.specs.declared.strings.StringTable.{StringTable}
-
--- The texts, in the order in which they were added.
-abbrev pub texts_of : StringTable → List (List ℕ)
-texts_of table = map string_bytes table.texts.keys

@@ -1,6 +1,0 @@
-use Rattle.std.proofs.Common.{◌≡◌}
-use Rattle.perfdata_symbols.specs.Plt.{fixed_entries}
-use Rattle.perfdata_symbols.proofs.elf.plt.PltLayout.entries.Given as goal
-
-abbrev pub invariant-entries : goal.invariant-entries
-invariant-entries l = l.entries.items ≡ fixed_entries l.self l.index

@@ -1,5 +1,0 @@
-use Rattle.perfdata_symbols.specs.Plt.{AddsPlt}
-use Rattle.perfdata_symbols.proofs.elf.plt.add_entries.Given as goal
-
-abbrev pub invariant-relocations : goal.invariant-relocations
-invariant-relocations l = AddsPlt l.section l.entries l.relocations l.fn.symbols l.symbols

@@ -1,8 +1,0 @@
-use Rattle.perfdata_symbols.proofs.KernelSizeLemmas.{Extends}
-use Rattle.perfdata_symbols.proofs.kallsyms.extend_to_next.Given as goal
-
-abbrev pub invariant-symbols : goal.invariant-symbols
-invariant-symbols l = Extends l.fn.symbols l.symbols l.at l.end l.next_start
-
-abbrev pub decreases-symbols : goal.decreases-symbols
-decreases-symbols l = l.at

@@ -1,5 +1,0 @@
-use Rattle.perfdata_symbols.proofs.TextLemmas.{hex_digits_utf8}
-use Rattle.perfdata_symbols.proofs.text.hex_number.Goals as goal
-
-pub returns-in-Err : goal.returns-in-Err
-returns-in-Err c = λ h. c.in-Err.ensures.cases.0 (hex_digits_utf8 c.args.digits.now h.0.1)

@@ -1,8 +1,0 @@
-use Rattle.std.proofs.Common.{◌≡◌}
-use Rattle.perfdata_events.specs.Words.{u64s_in}
-use Rattle.perfdata_unwind.specs.Samples.{mask_bit, sample_value}
-use Rattle.perfdata_unwind.specs.Registers.{registers_below}
-use Rattle.perfdata_unwind.proofs.registers.Registers.of_sample.Given as goal
-
-abbrev pub invariant-registers : goal.invariant-registers
-invariant-registers l = l.registers ≡ registers_below (λ number. sample_value l.mask (u64s_in l.sample.values) (mask_bit l.machine number)) l.number

@@ -1,6 +1,0 @@
-use Rattle.perfdata_unwind.specs.Expressions.{remaining_of}
-use Rattle.perfdata_unwind.specs.Rules.{ValuesBelow}
-use Rattle.perfdata_unwind.proofs.rules.set_values.Given as goal
-
-abbrev pub invariant-registers : goal.invariant-registers
-invariant-registers l = ValuesBelow l.callee l.found l.cfa l.register (remaining_of l.fn.evaluator) l.caller (remaining_of l.evaluator)

@@ -1,0 +1,24 @@
+-- The rows of a builder.
+use Rattle.std.specs.Prelude.{ℕ, List, Vec, map}
+use Rattle.std.specs.declared.alloc.Global.{Global}
+use Rattle.pprof.specs.Samples.{Row}
+use Rattle.pprof.specs.Strings.{texts_of}
+use Rattle.pprof.specs.Tables.{Tables}
+use Rattle.pprof.specs.declared.builder.Builder.{Builder}
+use Rattle.pprof.specs.declared.builder.RowKey.{RowKey}
+
+abbrev pub row_of : RowKey × Vec ℕ Global → Row
+row_of entry = record { location_ids = entry.0.location_ids.items; labels = entry.0.labels.items; values = entry.1.items }
+
+abbrev pub rows_of : List (RowKey × Vec ℕ Global) → List Row
+rows_of entries = map row_of entries
+
+abbrev pub tables_of : Builder → Tables
+tables_of builder = record {
+  strings = texts_of builder.strings;
+  types = builder.sample_types.keys;
+  mappings = builder.mappings.keys;
+  functions = builder.functions.keys;
+  locations = builder.places.keys;
+  samples = rows_of builder.rows.entries;
+}

@@ -1,0 +1,495 @@
+//! Builds a profile of mappings, functions, locations and samples.
+ghost use Rattle.std.specs.Prelude.{◌≡◌, ◌<◌, ◌++◌, length, map, replicate, slice_get, IfOk, OnErr, OnOk};
+ghost use Rattle.std.specs.Str.Lossy.{utf8_lossy};
+ghost use Rattle.indexmap.specs.IndexMap.{index_map_len};
+ghost use Rattle.indexmap.specs.IndexSet.{IsUnique};
+ghost use Rattle.pprof.specs.Builders.{rows_of};
+ghost use Rattle.pprof.specs.Labels.{HasLabels, IsKeyOf, number_labels, thread_labels};
+ghost use Rattle.pprof.specs.Messages.{profile_value, sample_value};
+ghost use Rattle.pprof.specs.Rows.{AreDistinct, Grows, Identifies, IdentifiesBy, Interns, numbered};
+ghost use Rattle.pprof.specs.Samples.{AddsSamples, RaisesRow, raised, sample_row, weighted};
+ghost use Rattle.pprof.specs.Strings.{texts_of};
+ghost use Rattle.pprof.specs.Tables.{Builds, function_row, known_id, location_row, mapping_row};
+ghost use Rattle.pprof.specs.Tables.{no_rows};
+ghost use Rattle.pprof.specs.Texts.{AreStrings};
+
+use crate::profile::{Function, Label, Location, Mapping, Profile, Sample, ValueType};
+use crate::strings::StringTable;
+use indexmap::{IndexMap, IndexSet};
+use std::alloc::{AllocError, Global};
+use std::hash::Hash;
+
+/// A file that is mapped into memory. Its texts are indices of the table of strings.
+#[derive(Clone, Copy, PartialEq, Eq, Hash)]
+pub struct MappedFile {
+    /// The first address.
+    pub memory_start: u64,
+    /// The address after the last.
+    pub memory_limit: u64,
+    /// The offset in the file of the first address.
+    pub file_offset: u64,
+    /// The path of the file.
+    pub filename: u64,
+    /// The build id of the file in hexadecimal digits, or 0.
+    pub build_id: u64,
+}
+
+/// The names of a function, which are indices of the table of strings.
+#[derive(Clone, Copy, PartialEq, Eq, Hash)]
+pub struct FunctionNames {
+    /// The name.
+    pub name: u64,
+    /// The name as the file has it.
+    pub system_name: u64,
+}
+
+/// Where a frame of a stack is.
+#[derive(Clone, Copy, PartialEq, Eq, Hash)]
+pub struct LocationRow {
+    /// The id of the mapping that contains the address, or 0.
+    pub mapping_id: u64,
+    /// The address.
+    pub address: u64,
+    /// The id of the function.
+    pub function_id: u64,
+}
+
+/// The thread of samples. Its name is an index of the table of strings.
+#[derive(Clone, Copy, PartialEq, Eq, Hash)]
+pub struct SampleThread {
+    /// The name.
+    pub name: u64,
+    /// The process, if processes are distinguished.
+    pub pid: Option<i32>,
+    /// The thread, if threads are distinguished.
+    pub tid: Option<i32>,
+}
+
+// What the samples of a row have in common.
+#[derive(PartialEq, Eq, Hash, Drop)]
+struct RowKey {
+    location_ids: Vec<u64>,
+    labels: Vec<Label>,
+}
+
+/// How samples of a profile are added up.
+#[derive(Clone, Copy)]
+pub struct WeightedSamples {
+    /// The number of samples.
+    pub samples: u64,
+    /// The index of the value to which the weight is added.
+    pub column: usize,
+    /// The sum of the weights.
+    pub weight: u64,
+}
+
+/// What a profile says of all its samples.
+#[derive(Clone, Copy)]
+pub struct Summary {
+    /// The duration in nanoseconds, or 0.
+    pub duration: u64,
+    /// What counts the events between two samples.
+    pub period_type: Option<ValueType>,
+    /// The number of events between two samples, or 0.
+    pub period: u64,
+    /// The name of the sample type that is shown first.
+    pub default_sample_type: u64,
+}
+
+/// Builds a profile: texts, mappings, functions, locations and samples. A row that was added before gets the
+/// id that it has.
+#[derive(Drop)]
+pub struct Builder {
+    alloc: Global,
+    strings: StringTable,
+    sample_types: IndexSet<ValueType>,
+    mappings: IndexSet<MappedFile>,
+    functions: IndexSet<FunctionNames>,
+    places: IndexSet<LocationRow>,
+    rows: IndexMap<RowKey, Vec<u64>>,
+}
+
+impl Builder {
+    ghost use Rattle.pprof.specs.Builders.{tables_of};
+
+    /// Creates a profile without samples and without sample types.
+    ///
+    /// Fails if memory runs out.
+    pub fn new(alloc: Global) -> Result<Builder, AllocError>
+        ensures { IfOk result (λ builder. tables_of builder ≡ no_rows) }
+    {
+        Ok(Builder {
+            alloc,
+            strings: StringTable::new(alloc)?,
+            sample_types: IndexSet::new(alloc),
+            mappings: IndexSet::new(alloc),
+            functions: IndexSet::new(alloc),
+            places: IndexSet::new(alloc),
+            rows: IndexMap::new(alloc),
+        })
+    }
+
+    /// Returns the index of a text. Bytes that aren't UTF-8 become U+FFFD.
+    ///
+    /// Fails if memory runs out.
+    pub fn text(&mut self, text: &[u8]) -> Result<u64, AllocError>
+        ensures ok { IfOk result (λ index.
+            Interns (tables_of self.old).strings (utf8_lossy text.now) index (tables_of self.new).strings) }
+        ensures once { AreStrings (tables_of self.new).strings }
+        ensures err { OnErr result (tables_of self.new ≡ tables_of self.old) }
+        ensures rest { tables_of self.new
+            ≡ record (tables_of self.old) { strings = (tables_of self.new).strings } }
+    {
+        self.strings.intern(text)
+    }
+
+    /// Returns the index of the values of a sample type, which is appended if it is new. Samples that are
+    /// there have 0 of it.
+    ///
+    /// Fails if memory runs out.
+    pub fn add_type(&mut self, value_type: ValueType) -> Result<usize, AllocError>
+        ensures ok { IfOk result (λ index.
+            Interns (tables_of self.old).types value_type index (tables_of self.new).types) }
+        ensures once { AreDistinct (tables_of self.new).types }
+        ensures err { OnErr result (tables_of self.new ≡ tables_of self.old) }
+        ensures rest { tables_of self.new
+            ≡ record (tables_of self.old) { types = (tables_of self.new).types } }
+    {
+        let (index, _is_new) = self.sample_types.insert_full(value_type)?;
+        Ok(index)
+    }
+
+    /// Returns the number of sample types.
+    pub fn type_count(&self) -> usize
+        ensures { result ≡ length (tables_of self.now).types }
+    {
+        self.sample_types.len()
+    }
+
+    /// Returns the sample type with an index.
+    pub fn sample_type(&self, index: usize) -> Option<ValueType>
+        ensures { result ≡ slice_get (tables_of self.now).types index }
+    {
+        self.sample_types.get_index(index).copied()
+    }
+
+    /// Returns the id of a mapping.
+    ///
+    /// Fails if memory runs out.
+    pub fn mapping(&mut self, file: MappedFile) -> Result<u64, AllocError>
+        ensures ok { IfOk result (λ id.
+            Identifies (tables_of self.old).mappings file id (tables_of self.new).mappings) }
+        ensures once { AreDistinct (tables_of self.new).mappings }
+        ensures err { OnErr result (tables_of self.new ≡ tables_of self.old) }
+        ensures rest { tables_of self.new
+            ≡ record (tables_of self.old) { mappings = (tables_of self.new).mappings } }
+    {
+        row_id(&mut self.mappings, file)
+    }
+
+    /// Returns the id of a function.
+    ///
+    /// Fails if memory runs out.
+    pub fn function(&mut self, names: FunctionNames) -> Result<u64, AllocError>
+        ensures ok { IfOk result (λ id.
+            Identifies (tables_of self.old).functions names id (tables_of self.new).functions) }
+        ensures once { AreDistinct (tables_of self.new).functions }
+        ensures err { OnErr result (tables_of self.new ≡ tables_of self.old) }
+        ensures rest { tables_of self.new
+            ≡ record (tables_of self.old) { functions = (tables_of self.new).functions } }
+    {
+        row_id(&mut self.functions, names)
+    }
+
+    /// Returns the id of a location. The ids in it that no mapping or function has are 0 in the profile.
+    ///
+    /// Fails if memory runs out.
+    pub fn location(&mut self, place: LocationRow) -> Result<u64, AllocError>
+        ensures ok { IfOk result (λ id.
+            Identifies (tables_of self.old).locations place id (tables_of self.new).locations) }
+        ensures once { AreDistinct (tables_of self.new).locations }
+        ensures err { OnErr result (tables_of self.new ≡ tables_of self.old) }
+        ensures rest { tables_of self.new
+            ≡ record (tables_of self.old) { locations = (tables_of self.new).locations } }
+    {
+        row_id(&mut self.places, place)
+    }
+
+    /// Returns the labels of a thread: its name and, where they are distinguished, the ids of the process and
+    /// of the thread.
+    ///
+    /// Fails if memory runs out.
+    pub fn labels(&mut self, thread: SampleThread) -> Result<Vec<Label>, AllocError>
+        ensures ok { IfOk result (λ labels. HasLabels (tables_of self.new).strings thread labels.items) }
+        ensures once { AreStrings (tables_of self.new).strings }
+        ensures texts { Grows (tables_of self.old).strings (tables_of self.new).strings }
+        ensures rest { tables_of self.new
+            ≡ record (tables_of self.old) { strings = (tables_of self.new).strings } }
+    {
+        let comm = self.strings.intern_text("comm")?;
+        let pid = label_key(&mut self.strings, "pid", thread.pid)?;
+        let tid = label_key(&mut self.strings, "tid", thread.tid)?;
+        take_labels(self.alloc, comm, pid, tid, thread)
+    }
+
+    /// Adds samples with labels and a stack of locations, leaf first.
+    ///
+    /// Fails if memory runs out.
+    pub fn add(
+        &mut self,
+        labels: Vec<Label>,
+        location_ids: Vec<u64>,
+        weight: WeightedSamples,
+    ) -> Result<(), AllocError>
+        ensures ok { OnOk result (AddsSamples (length (tables_of self.old).types) (tables_of self.old).samples
+            labels.items location_ids.items weight (tables_of self.new).samples) }
+        ensures err { OnErr result (tables_of self.new ≡ tables_of self.old) }
+        ensures rest { tables_of self.new
+            ≡ record (tables_of self.old) { samples = (tables_of self.new).samples } }
+    {
+        let type_count = self.sample_types.len();
+        let key = RowKey {
+            location_ids,
+            labels,
+        };
+        if let Some(index) = self.rows.get_index_of(&key) {
+            return raise(&mut self.rows, index, type_count, weight);
+        }
+        let values = take_values(self.alloc, type_count, weight)?;
+        self.rows.insert(key, values)?;
+        Ok(())
+    }
+
+    /// Returns the profile.
+    ///
+    /// Fails if memory runs out.
+    pub fn finish(self, summary: Summary) -> Result<Profile, AllocError>
+        ensures { IfOk result (λ profile. Builds (tables_of self) summary (profile_value profile)) }
+    {
+        let Builder {
+            alloc,
+            strings,
+            sample_types,
+            mappings,
+            functions,
+            places,
+            rows,
+        } = self;
+        let samples = take_samples(alloc, rows, sample_types.len())?;
+        let (mapping_count, function_count) = (mappings.len(), functions.len());
+        Ok(Profile {
+            sample_types: take_types(alloc, sample_types)?,
+            samples,
+            mappings: take_mappings(alloc, &mappings)?,
+            locations: take_locations(alloc, &places, mapping_count, function_count)?,
+            functions: take_functions(alloc, &functions)?,
+            strings: strings.finish()?,
+            duration: summary.duration,
+            period_type: summary.period_type,
+            period: summary.period,
+            default_sample_type: summary.default_sample_type,
+        })
+    }
+}
+
+// Returns the id of a row, which is added if it is new. Ids count from 1.
+fn row_id<T: Eq + Hash + Drop>(rows: &mut IndexSet<T>, row: T) -> Result<u64, AllocError>
+    ensures ok { IfOk result (λ id.
+        IdentifiesBy T.eq rows.old.keys row id rows.new.keys) }
+    ensures err { OnErr result (rows.new.keys ≡ rows.old.keys) }
+    ensures once { IsUnique T.eq rows.new }
+{
+    let (index, _is_new) = rows.insert_full(row)?;
+    let _count = rows.len(); // for the prover
+    Ok(index as u64 + 1)
+}
+
+// Adds a number to the value with an index, if there is one.
+fn add_to(values: &mut Vec<u64>, index: usize, number: u64)
+    ensures { values.new.items ≡ raised index number values.old.items }
+{
+    if let Some(value) = values.get_mut(index) {
+        *value = value.saturating_add(number);
+    }
+}
+
+// Adds a weight to values.
+fn add_weight(values: &mut Vec<u64>, weight: WeightedSamples)
+    ensures { values.new.items ≡ weighted weight values.old.items }
+{
+    add_to(values, 0, weight.samples);
+    add_to(values, weight.column, weight.weight);
+}
+
+// Returns the values of the first samples of a row.
+fn take_values(
+    alloc: Global,
+    type_count: usize,
+    weight: WeightedSamples,
+) -> Result<Vec<u64>, AllocError>
+    ensures { IfOk result (λ values. values.items ≡ weighted weight (replicate type_count 0)) }
+{
+    let mut values = vec![in alloc; 0; type_count]?;
+    add_weight(&mut values, weight);
+    Ok(values)
+}
+
+// Adds a weight to the values of the row with an index.
+fn raise(
+    rows: &mut IndexMap<RowKey, Vec<u64>>,
+    index: usize,
+    type_count: usize,
+    weight: WeightedSamples,
+) -> Result<(), AllocError>
+    requires { index < index_map_len rows.old }
+    ensures ok { OnOk result (RaisesRow (rows_of rows.old.entries) index type_count weight
+        (rows_of rows.new.entries)) }
+    ensures err { OnErr result (rows_of rows.new.entries ≡ rows_of rows.old.entries) }
+{
+    let Some(values) = rows.get_index_mut(index) else {
+        return Ok(());
+    };
+    values.resize(type_count, 0)?;
+    add_weight(values, weight);
+    Ok(())
+}
+
+// Returns the sample types.
+fn take_types(alloc: Global, rows: IndexSet<ValueType>) -> Result<Vec<ValueType>, AllocError>
+    ensures { IfOk result (λ types. types.items ≡ rows.keys) }
+{
+    rows.into_iter().collect(alloc)
+}
+
+// Returns the mappings with their ids.
+fn take_mappings(alloc: Global, files: &IndexSet<MappedFile>) -> Result<Vec<Mapping>, AllocError>
+    ensures { IfOk result (λ mappings. mappings.items ≡ numbered mapping_row 1 files.now.keys) }
+{
+    let mut mappings = Vec::new(alloc);
+    'rows: for file in files {
+        mappings.push(Mapping {
+            id: mappings.len() as u64 + 1,
+            memory_start: file.memory_start,
+            memory_limit: file.memory_limit,
+            file_offset: file.file_offset,
+            filename: file.filename,
+            build_id: file.build_id,
+            has_functions: true,
+        })?;
+    }
+    Ok(mappings)
+}
+
+// Returns the functions with their ids.
+fn take_functions(
+    alloc: Global,
+    rows: &IndexSet<FunctionNames>,
+) -> Result<Vec<Function>, AllocError>
+    ensures { IfOk result (λ functions. functions.items ≡ numbered function_row 1 rows.now.keys) }
+{
+    let mut functions = Vec::new(alloc);
+    'rows: for names in rows {
+        functions.push(Function {
+            id: functions.len() as u64 + 1,
+            name: names.name,
+            system_name: names.system_name,
+        })?;
+    }
+    Ok(functions)
+}
+
+// Returns an id, or 0 if none of some rows has it.
+fn known(id: u64, count: usize) -> u64
+    ensures { result ≡ known_id count id }
+{
+    if (count as u64) < id { 0 } else { id }
+}
+
+// Returns the locations with their ids.
+fn take_locations(
+    alloc: Global,
+    places: &IndexSet<LocationRow>,
+    mapping_count: usize,
+    function_count: usize,
+) -> Result<Vec<Location>, AllocError>
+    ensures { IfOk result (λ locations.
+        locations.items ≡ numbered (location_row mapping_count function_count) 1 places.now.keys) }
+{
+    let mut locations = Vec::new(alloc);
+    'rows: for place in places {
+        locations.push(Location {
+            id: locations.len() as u64 + 1,
+            mapping_id: known(place.mapping_id, mapping_count),
+            address: place.address,
+            function_id: known(place.function_id, function_count),
+        })?;
+    }
+    Ok(locations)
+}
+
+// Returns the index of the key of a label with a number, or 0 if there is none.
+fn label_key(strings: &mut StringTable, key: &str, number: Option<i32>) -> Result<u64, AllocError>
+    ensures ok { IfOk result (λ index. IsKeyOf (texts_of strings.new) key.now number index) }
+    ensures texts { Grows (texts_of strings.old) (texts_of strings.new) }
+{
+    match number {
+        Some(_) => strings.intern_text(key),
+        None => Ok(0),
+    }
+}
+
+// Appends a label with a number, if there is one.
+fn push_number(labels: &mut Vec<Label>, key: u64, number: Option<i32>) -> Result<(), AllocError>
+    ensures { OnOk result (labels.new.items ≡ labels.old.items ++ number_labels key number) }
+{
+    if let Some(number) = number {
+        labels.push(Label {
+            key,
+            text: 0,
+            number: i64::from(number).cast_unsigned(),
+        })?;
+    }
+    Ok(())
+}
+
+// Returns the labels of a thread.
+fn take_labels(
+    alloc: Global,
+    comm: u64,
+    pid: u64,
+    tid: u64,
+    thread: SampleThread,
+) -> Result<Vec<Label>, AllocError>
+    ensures { IfOk result (λ labels. labels.items ≡ thread_labels comm pid tid thread) }
+{
+    let mut labels = Vec::new(alloc);
+    labels.push(Label {
+        key: comm,
+        text: thread.name,
+        number: 0,
+    })?;
+    push_number(&mut labels, pid, thread.pid)?;
+    push_number(&mut labels, tid, thread.tid)?;
+    Ok(labels)
+}
+
+// Returns the samples. Those that were added before a sample type have 0 of it.
+fn take_samples(
+    alloc: Global,
+    rows: IndexMap<RowKey, Vec<u64>>,
+    type_count: usize,
+) -> Result<Vec<Sample>, AllocError>
+    ensures { IfOk result (λ samples.
+        map sample_value samples.items ≡ map (sample_row type_count) (rows_of rows.entries)) }
+{
+    let mut samples = Vec::new(alloc);
+    'rows: for (key, mut values) in rows {
+        values.resize(type_count, 0)?;
+        samples.push(Sample {
+            location_ids: key.location_ids,
+            values,
+            labels: key.labels,
+        })?;
+    }
+    Ok(samples)
+}

@@ -1,0 +1,31 @@
+//! The page that shows a profile in a browser.
+ghost use Rattle.std.specs.Prelude.{IfOk};
+ghost use Rattle.std.specs.String.{string_bytes};
+ghost use Rattle.pprof.specs.Pages.{Embeds};
+
+mod page;
+
+use base64::engine::general_purpose::STANDARD;
+use page::{END, START};
+use std::alloc::{AllocError, Global};
+
+// Returns the bytes of a profile in base64 between two texts.
+fn page_between(alloc: Global, start: &str, profile: &[u8], end: &str) -> Result<String, AllocError>
+    ensures { IfOk result (λ page. Embeds profile.now (string_bytes page)) }
+{
+    let mut page = String::new(alloc);
+    page.push_str(start)?;
+    STANDARD.encode_string(profile, &mut page)?;
+    page.push_str(end)?;
+    Ok(page)
+}
+
+/// Returns a page that shows a profile, whose bytes [`encode`](crate::encode::encode) returns. The page loads
+/// nothing else.
+///
+/// Fails if memory runs out.
+pub fn profile_page(alloc: Global, profile: &[u8]) -> Result<String, AllocError>
+    ensures { IfOk result (λ page. Embeds profile.now (string_bytes page)) }
+{
+    page_between(alloc, START, profile, END)
+}
