@@ -1,6 +1,6 @@
 use Rattle.std.proofs.Common.{rules, sym, length, ◌≤◌}
 use Rattle.std.proofs.lemmas.List.{drop_all}
-use Rattle.perfdata_json.proofs.line.JsonLineRecordLine.as_bytes.Goals as goal
+use Rattle.perfdata_json.proofs.line.JsonLineLineFormat.as_bytes.Goals as goal
 
 pub returns-in-None : goal.returns-in-None
 returns-in-None c =

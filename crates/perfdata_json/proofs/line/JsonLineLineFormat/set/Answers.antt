@@ -1,6 +1,6 @@
 use Rattle.std.proofs.Common.{rules, ◌≡◌, ap, [], ◌∷◌, ◌++◌, length, ◌≤◌, drop, ◌∙◌}
 use Rattle.std.proofs.lemmas.List.{drop-append-le}
-use Rattle.perfdata_json.proofs.line.JsonLineRecordLine.set.Goals as goal
+use Rattle.perfdata_json.proofs.line.JsonLineLineFormat.set.Goals as goal
 
 pub returns-in-Ok-clause-on_ok : goal.returns-in-Ok-clause-on_ok
 returns-in-Ok-clause-on_ok c =
