@@ -156,7 +156,7 @@ fn binary_operation(opcode: u8) -> Option<BinaryOperation>
 }
 
 // The comparison of an opcode.
-fn comparison(opcode: u8) -> Option<Comparison>
+fn opcode_comparison(opcode: u8) -> Option<Comparison>
     ensures { result ≡ comparison_opcode opcode }
 {
     match opcode {
@@ -240,7 +240,7 @@ fn opcode_operands(opcode: u8) -> Option<Operands>
     if let Some(operation) = binary_operation(opcode) {
         return Some(Operands::Plain(Operation::Binary(operation)));
     }
-    if let Some(comparison) = comparison(opcode) {
+    if let Some(comparison) = opcode_comparison(opcode) {
         return Some(Operands::Plain(Operation::Binary(BinaryOperation::Compare(comparison))));
     }
     if let Some(operation) = unary_operation(opcode) {

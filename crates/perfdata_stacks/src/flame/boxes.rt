@@ -63,7 +63,7 @@ fn sorted_numbers(alloc: Global, names: &[FlameName]) -> Result<Vec<usize>, Allo
 }
 
 // Returns the ranks of names.
-fn ranks(alloc: Global, names: &[FlameName]) -> Result<Ranks, AllocError> {
+fn rank_names(alloc: Global, names: &[FlameName]) -> Result<Ranks, AllocError> {
     let mut ranks = Ranks {
         of_name: vec![in alloc; 0; names.len()]?,
         first: Vec::new(alloc),
@@ -123,7 +123,7 @@ fn shared_ranks(first: &[usize], second: &[usize]) -> usize {
 impl FlameBoxes {
     /// Returns the boxes of stacks.
     pub(crate) fn new(alloc: Global, stacks: &FlameStacks) -> Result<FlameBoxes, AllocError> {
-        let ranks = ranks(alloc, stacks.names())?;
+        let ranks = rank_names(alloc, stacks.names())?;
         let sorted = sorted_stacks(alloc, stacks, &ranks)?;
         let mut boxes = FlameBoxes {
             boxes: Vec::new(alloc),

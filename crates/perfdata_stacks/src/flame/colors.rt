@@ -13,7 +13,7 @@ struct Hue {
 }
 
 // Returns the hue of a kind of frames.
-fn hue(kind: FrameKind) -> Hue {
+fn kind_hue(kind: FrameKind) -> Hue {
     let (first, last) = match kind {
         FrameKind::Thread => ([184, 184, 196], [208, 208, 216]),
         FrameKind::User => ([222, 92, 32], [250, 216, 72]),
@@ -42,7 +42,7 @@ fn blend(first: u8, last: u8, shade: u32) -> u8 {
 
 /// Returns the color of a frame: the hue of its kind, in a shade that depends on its name alone.
 pub(crate) fn frame_color(kind: FrameKind, name: &[u8]) -> [u8; 3] {
-    let Hue { first, last } = hue(kind);
+    let Hue { first, last } = kind_hue(kind);
     let shade = shade(name);
     [
         blend(first[0], last[0], shade),
