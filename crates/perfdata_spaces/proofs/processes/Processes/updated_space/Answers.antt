@@ -19,10 +19,10 @@ pub returns-in-Some : goal.returns-in-Some
 unfolding Sets
 returns-in-Some c =
     let found = rw (to_z-of_z w32 c.args.pid c.ranges.pid) at c.in-Some.ensures in
-    same_old c.args.range c.args.value (value_of c.in-Some.space.now) (value_in c.args.self.now c.args.pid) (λ address. ap (λ space. value_in_space space address) found) c.with.result c.with.ensures
+    same_old c.args.range c.args.value (value_of c.in-Some.space.now) (value_in c.args.self.now c.args.pid) (λ address. ap (λ space. value_in_space space address) found) c.updated.result c.updated.ensures
 
 pub returns-in-None : goal.returns-in-None
 unfolding Sets
 returns-in-None c =
     let found = rw (to_z-of_z w32 c.args.pid c.ranges.pid) at c.in-None.ensures in
-    same_old c.args.range c.args.value (value_of c.new.result) (value_in c.args.self.now c.args.pid) (λ address. c.new.ensures address ∙ ap (λ space. value_in_space space address) found) c.with-in-None.result c.with-in-None.ensures
+    same_old c.args.range c.args.value (value_of c.new.result) (value_in c.args.self.now c.args.pid) (λ address. c.new.ensures address ∙ ap (λ space. value_in_space space address) found) c.updated-in-None.result c.updated-in-None.ensures
