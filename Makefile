@@ -1,4 +1,4 @@
-# The commands of this repository. Each calls rt or a script; `make` lists them.
+# The commands of this repository. Each calls rt or a script; `make` lists them. `make try` and `make test` take cargo where rt isn't installed.
 PREFIX ?= /usr/local
 DESTDIR ?=
 FILE ?= tests/recordings/several.data
@@ -33,5 +33,5 @@ dist: lib programs ## a tarball of what install installs, for machines without t
 wheel: lib ## the Python package with the library, for machines without the kit
 	cd python && python3 -B -c 'import build_backend; print(build_backend.build_wheel(".."))'
 
-clean: ## removes what rt built
-	rm -rf crates/*/out
+clean: ## removes what rt and cargo built
+	rm -rf crates/*/out target

@@ -2,7 +2,8 @@
 
 The static libraries are found in the folder DEWIKURA_DIR: libdewikura.a, and liblibc_c.a unless the first contains it, as an installed one
 does. Without this variable they are those of the repository (crates/dewikura/out/libdewikura.a, and liblibc_c.a of the kit whose `rt` is on
-PATH), or of the installation whose share/dewikura/python this folder is."""
+PATH), or of the installation whose share/dewikura/python this folder is. Without the kit, cargo builds the shared library and the programs,
+from the repository or from the sources in a source distribution, and the wheel contains the programs too."""
 
 import ast
 import base64
@@ -10,7 +11,9 @@ import hashlib
 import io
 import os
 import pathlib
+import json
 import re
+import shutil
 import subprocess
 import sysconfig
 import tarfile
@@ -20,6 +23,7 @@ import zipfile
 TOP = pathlib.Path(__file__).resolve().parent
 PACKAGE = TOP / "src/dewikura"
 LICENSES = ("LICENSE-MIT", "LICENSE-APACHE", "NOTICE")
+PROGRAMS = ("perflist", "perfinfo", "perfjson", "perffold")
 
 
 def version():
@@ -40,8 +44,41 @@ def library_folder():
     return pathlib.Path(folder) if folder else None
 
 
-def kit_licenses():
-    """The names and the bytes of the licences of the kit's crates, whose code the library contains."""
+def cargo_package():
+    """The folder of the package that cargo builds, if its sources are here."""
+    return next((folder for folder in (TOP / "cargo", TOP.parent) if (folder / "Cargo.toml").exists()), None)
+
+
+def cargo_folder():
+    """The folder of the package that cargo builds; None where the static library is the kit's, or there is no cargo."""
+    if library_folder() or shutil.which("rt") or not shutil.which("cargo"):
+        return None
+    return cargo_package()
+
+
+def cargo_output(*words):
+    """What a command of cargo prints on standard output."""
+    return subprocess.run(["cargo", *words], cwd=cargo_folder(), stdout=subprocess.PIPE, check=True).stdout
+
+
+def cargo_build(*words):
+    """Builds by cargo. Returns the paths of what it made."""
+    lines = cargo_output(*words, "--release", "--message-format", "json-render-diagnostics").splitlines()
+    messages = [message for message in map(json.loads, lines) if message["reason"] == "compiler-artifact" and message["target"]["name"] in ("dewikura", *PROGRAMS)]
+    return [pathlib.Path(path) for message in messages for path in message["filenames"]]
+
+
+def cargo_licenses():
+    """The names and the bytes of the licences of the registry's crates, whose code the library and the programs contain."""
+    packages = json.loads(cargo_output("metadata", "--format-version", "1"))["packages"]
+    folders = {f"{package['name']}-{package['version']}": pathlib.Path(package["manifest_path"]).parent for package in packages if package["source"]}
+    return {f"{name}/{path.name}": path.read_bytes() for name, folder in folders.items() for path in sorted(folder.glob("LICENSE*"))}
+
+
+def other_licenses():
+    """The names and the bytes of the licences of the other code that the wheel contains: that of the kit's crates, or of the registry's."""
+    if cargo_folder():
+        return cargo_licenses()
     installed = library_folder()
     with tempfile.TemporaryDirectory() as made:
         folder = installed.parent / "share/doc/dewikura/licenses" if installed else pathlib.Path(made)
@@ -63,11 +100,15 @@ def static_libraries():
 
 
 def link_library(path):
-    """Links the shared object that the package loads."""
+    """Makes the shared object that the package loads."""
+    if cargo_folder():
+        made = cargo_build("rustc", "--lib", "--no-default-features", "--crate-type", "cdylib")
+        shutil.copyfile(next(built for built in made if built.suffix in (".so", ".dylib", ".dll")), path)
+        return
     archives = static_libraries()
     for archive in archives:
         if not archive.exists():
-            raise SystemExit(f"{archive} doesn't exist: run `make lib` in the repository, or set DEWIKURA_DIR to a folder with libdewikura.a")
+            raise SystemExit(f"{archive} doesn't exist: run `make lib` in the repository, set DEWIKURA_DIR to a folder with libdewikura.a, or install cargo")
     compiler = os.environ.get("CC", "cc")
     subprocess.run([compiler, "-shared", "-o", path, "-Wl,--whole-archive", *archives, "-Wl,--no-whole-archive"], check=True)
 
@@ -124,6 +165,14 @@ def wheel_files():
     return files
 
 
+def programs(folder):
+    """The names and the bytes of the programs, if cargo builds them."""
+    if not cargo_folder():
+        return {}
+    made = {path.stem: path for path in cargo_build("build", "--bins")}
+    return {f"{folder}/scripts/{made[name].name}": made[name].read_bytes() for name in PROGRAMS}
+
+
 def prepare_metadata_for_build_wheel(metadata_directory, config_settings=None):
     folder = f"dewikura-{version()}.dist-info"
     for name, data in information(folder).items():
@@ -137,22 +186,37 @@ def build_wheel(wheel_directory, config_settings=None, metadata_directory=None):
     folder, lines = f"dewikura-{version()}.dist-info", []
     name = f"dewikura-{version()}-{tag()}.whl"
     files = {**wheel_files(), **information(folder)}
-    files.update((f"{folder}/licenses/{path}", data) for path, data in kit_licenses().items())
+    files.update((f"{folder}/licenses/{path}", data) for path, data in other_licenses().items())
+    scripts = programs(f"dewikura-{version()}.data")
     with zipfile.ZipFile(pathlib.Path(wheel_directory) / name, "w", zipfile.ZIP_DEFLATED) as wheel:
-        for path, data in files.items():
+        for path, data in {**files, **scripts}.items():
             digest = base64.urlsafe_b64encode(hashlib.sha256(data).digest()).rstrip(b"=").decode()
             lines.append(f"{path},sha256={digest},{len(data)}\n")
-            wheel.writestr(path, data)
+            entry = zipfile.ZipInfo(path)
+            entry.compress_type = zipfile.ZIP_DEFLATED
+            entry.external_attr = (0o100755 if path in scripts else 0o100644) << 16
+            wheel.writestr(entry, data)
         wheel.writestr(f"{folder}/RECORD", "".join(lines) + f"{folder}/RECORD,,\n")
     return name
 
 
+def cargo_sources():
+    """The files from which cargo builds the library and the programs."""
+    top = cargo_package()
+    if not top:
+        return {}
+    names = ["Cargo.toml", "crates.txt", "README.md", *LICENSES]
+    paths = [top / name for name in names] + [path for part in ("crates/*/src/**/*.rt", "rust/**/*") for path in top.glob(part)]
+    return {f"cargo/{path.relative_to(top)}": path.read_bytes() for path in sorted(paths) if path.is_file()}
+
+
 def build_sdist(sdist_directory, config_settings=None):
-    """Packs the package without the library, which its installation takes from DEWIKURA_DIR."""
+    """Packs the package without the library, which its installation takes from DEWIKURA_DIR or builds by cargo."""
     own = [TOP / name for name in ("pyproject.toml", "build_backend.py", "README.md")] + package_files() + sorted(TOP.glob("examples/*.py"))
     files = {str(path.relative_to(TOP)): path.read_bytes() for path in own}
     files.update((name, license_file(name)) for name in LICENSES)
     files["PKG-INFO"] = metadata()
+    files.update(cargo_sources())
     folder = f"dewikura-{version()}"
     with tarfile.open(pathlib.Path(sdist_directory) / f"{folder}.tar.gz", "w:gz", format=tarfile.PAX_FORMAT) as archive:
         for path, data in sorted(files.items()):

@@ -14,6 +14,12 @@ program_of() {
     realpath "${PROGRAMS:-$tests/../crates/$1/out}/$1"
 }
 
+# has_clap_texts: whether texts of arguments' errors and of the help are those of clap 4.5, as of the kit's: the variable CLAP is the version that
+# cargo took for the programs
+has_clap_texts() {
+    [ -z "${CLAP:-}" ] || printf '%s\n' 4.5 "$CLAP" | sort -CV
+}
+
 # runs ARGUMENT..: runs the program; its exit status is in $status
 runs() {
     status=0

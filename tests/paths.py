@@ -1,6 +1,7 @@
-"""Where the scripts of tests/ find programs and recordings."""
+"""Where the scripts of tests/ find programs, the library and recordings."""
 import os
 import pathlib
+import subprocess
 
 TESTS = pathlib.Path(__file__).resolve().parent
 RECORDINGS = TESTS / "recordings"
@@ -10,6 +11,11 @@ def program(name):
     """A program that `rt ci` or `rt run` built, or the one in the folder that the variable PROGRAMS names."""
     folder = os.environ.get("PROGRAMS")
     return pathlib.Path(folder).resolve() / name if folder else TESTS.parent / "crates" / name / "out" / name
+
+
+def library():
+    """What C programs are linked with."""
+    return subprocess.run([TESTS / "library"], capture_output=True, text=True, check=True).stdout.split()
 
 
 def recordings(*suffixes):

@@ -1,5 +1,7 @@
-//! Finds the static libraries: in the folder DEWIKURA_DIR, which contains libdewikura.a and liblibc_c.a, or by pkg-config.
+//! Finds the static libraries: in the folder DEWIKURA_DIR, or by pkg-config. The folder contains libdewikura.a, and liblibc_c.a unless the first
+//! contains it.
 use std::env;
+use std::path::Path;
 use std::process::Command;
 
 fn main() {
@@ -7,7 +9,9 @@ fn main() {
     if let Ok(folder) = env::var("DEWIKURA_DIR") {
         println!("cargo:rustc-link-search=native={folder}");
         println!("cargo:rustc-link-lib=static=dewikura");
-        println!("cargo:rustc-link-lib=static=libc_c");
+        if Path::new(&folder).join("liblibc_c.a").exists() {
+            println!("cargo:rustc-link-lib=static=libc_c");
+        }
         return;
     }
     let output = Command::new("pkg-config").args(["--libs", "--static", "dewikura"]).output();
@@ -21,6 +25,6 @@ fn main() {
                 }
             }
         }
-        _ => panic!("pkg-config doesn't find dewikura: set DEWIKURA_DIR to a folder with libdewikura.a and liblibc_c.a"),
+        _ => panic!("pkg-config doesn't find dewikura: set DEWIKURA_DIR to a folder with libdewikura.a"),
     }
 }

@@ -1,0 +1,3 @@
+//! The program `perffold`.
+
+dewikura::shim::macros::program!(perffold);

@@ -1,0 +1,3 @@
+//! The program `perfinfo`.
+
+dewikura::shim::macros::program!(perfinfo);

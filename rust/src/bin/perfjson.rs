@@ -1,0 +1,3 @@
+//! The program `perfjson`.
+
+dewikura::shim::macros::program!(perfjson);

@@ -1,0 +1,3 @@
+//! The program `perflist`.
+
+dewikura::shim::macros::program!(perflist);
