@@ -1,4 +1,4 @@
-# The commands of this repository. Each calls rt or a script; `make` lists them. `make try` and `make test` take cargo where rt isn't installed.
+# The commands of this repository. Each calls rt or a script; `make` lists them. `make test` takes cargo, and `make try` does where rt isn't installed.
 PREFIX ?= /usr/local
 DESTDIR ?=
 FILE ?= tests/recordings/several.data
@@ -12,7 +12,7 @@ help: ## lists the targets
 try: ## lists FILE before any proof: make try FILE=perf.data
 	packaging/try "$(FILE)"
 
-test: ## runs the cases in crates/conformance/data before any proof: three minutes
+test: ## runs the cases and the other tests of rust/tests by cargo, before any proof: two minutes
 	packaging/test
 
 check: ## the gate: every proof, must-fail edit and test, the programs and the C library
