@@ -60,8 +60,8 @@ impl<T> SliceExt<T> for [T] {
         sort::sort_by(self, compare)
     }
 
-    fn sort_by_key_in<K: Ord, F: FnMut(&T) -> K>(&mut self, _: Global, mut key: F) -> Result<(), AllocError> {
-        sort::sort_by(self, |a, b| key(a).cmp(&key(b)))
+    fn sort_by_key_in<K: Ord, F: FnMut(&T) -> K>(&mut self, _: Global, key: F) -> Result<(), AllocError> {
+        sort::sort_by_key(self, key)
     }
 }
 
