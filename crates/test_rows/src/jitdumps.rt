@@ -7,6 +7,7 @@ use perfdata_base::raw::RawData;
 use perfdata_base::source::Script;
 use perfdata_jit::*;
 use std::io;
+use std::mem::swap;
 
 // The number of bytes of a function name from which on the offset of the code may exceed 64 bits.
 const NAME_LIMIT: usize = 1 << 32;
@@ -41,6 +42,7 @@ pub fn push_parsed(
 pub fn push_calls(call: &Call<'_>, out: &mut Output) -> CaseResult {
     let source = call.script()?;
     let mut last = Output::new(String::with_capacity(call.alloc, RESULT_SIZE)?);
+    let mut lines = Output::new(String::with_capacity(call.alloc, RESULT_SIZE)?);
     let opened = match call.case.number("buffer", 0)? {
         0 => JitDumpReader::new(call.alloc, source),
         size => JitDumpReader::new_with_buffer_size(call.alloc, source, size as usize),
@@ -55,29 +57,32 @@ pub fn push_calls(call: &Call<'_>, out: &mut Output) -> CaseResult {
     for word in call.case.option("calls").unwrap_or("next").split(',') {
         let (count, step) = split_count(word)?;
         last.text.clear();
-        push_repeated(call, count, step, &mut reader, (&mut last, out))?;
+        push_repeated(
+            call,
+            (count, step),
+            &mut reader,
+            (&mut last, &mut lines),
+            out,
+        )?;
     }
     Ok(())
 }
 
-// Makes a call this many times.
+// Makes a call this many times. `last` and `lines` have memory for the results of two calls.
 fn push_repeated(
     call: &Call<'_>,
-    count: u64,
-    step: &str,
+    (count, step): (u64, &str),
     reader: &mut Reader,
-    (last, out): (&mut Output, &mut Output),
+    (last, lines): (&mut Output, &mut Output),
+    out: &mut Output,
 ) -> CaseResult {
     for _ in 0..count {
-        let start = out.text.len();
-        push_call(call, step, reader, out)?;
-        let line = out.text.get(start..).unwrap_or("");
-        if line == last.text.as_str() {
-            out.text.truncate(start);
-        } else {
-            last.text.clear();
-            write!(last, "{line}");
+        lines.text.clear();
+        push_call(call, step, reader, lines)?;
+        if lines.text != last.text {
+            out.append(lines);
         }
+        swap(last, lines);
     }
     Ok(())
 }

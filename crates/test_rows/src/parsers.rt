@@ -283,16 +283,29 @@ fn push_attributes(parsed: &Result<Vec<AttributeDescription>, Error>, out: &mut 
     }
 }
 
+// Parses meta info, and prints its pairs.
+fn push_meta_info(call: &Call<'_>, out: &mut Output) -> CaseResult {
+    match parse_meta_info_map(call.alloc, call.bytes) {
+        Ok(map) => {
+            let mut pairs = Vec::new(call.alloc);
+            for (key, value) in map.iter() {
+                pairs.push((*key, *value))?;
+            }
+            pairs.sort()?;
+            out.push_line(&pairs);
+        }
+        Err(error) => out.push_result(&Err::<(), _>(error)),
+    }
+    Ok(())
+}
+
 // Parses a record of simpleperf, or its meta info.
 fn push_simpleperf<T: FileOrder>(call: &Call<'_>, out: &mut Output) -> CaseResult {
     let (alloc, bytes) = (call.alloc, call.bytes);
     match call.case.call {
         "decode" => out.push_line(&SimpleperfFileRecord::decode(alloc, bytes)),
         "decode_v1" => out.push_io_result(&SimpleperfFileRecord::decode_v1::<T>(alloc, bytes)),
-        "parse_meta_info_map" => match parse_meta_info_map(alloc, bytes) {
-            Ok(map) => out.push_line(&map.iter().collect::<Vec<_>>(alloc)?),
-            Err(error) => out.push_result(&Err::<(), _>(error)),
-        },
+        "parse_meta_info_map" => push_meta_info(call, out)?,
         "get_event_types" => {
             let Ok(map) = parse_meta_info_map(alloc, bytes) else {
                 return Err(CaseError::Invalid("meta info that isn't UTF-8"));

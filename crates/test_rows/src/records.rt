@@ -124,8 +124,8 @@ impl Reading<'_> {
         for _ in 0..MAX_RECORDS {
             let next = records.next(perf_file);
             match (&next, later) {
-                (Ok(None), 1..) if is_end => later += 1,
-                (Err(Error::Failed), 1..) if !is_end => later += 1,
+                (Ok(None), 1..) if is_end => later = later.saturating_add(1),
+                (Err(Error::Failed), 1..) if !is_end => later = later.saturating_add(1),
                 (_, 0) => {
                     is_end = matches!(next, Ok(None));
                     later = u8::from(!matches!(next, Ok(Some(_))));
@@ -135,7 +135,7 @@ impl Reading<'_> {
                 _ => {
                     self.push_next(&next, out);
                     write!(out, " later\n");
-                    later += 1;
+                    later = later.saturating_add(1);
                 }
             }
             if later == 3 {

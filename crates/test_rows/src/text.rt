@@ -70,6 +70,12 @@ impl Output {
         }
     }
 
+    /// Appends the text of another output.
+    pub fn append(&mut self, other: &Output) {
+        write!(self, "{}", other.text);
+        self.is_out_of_memory |= other.is_out_of_memory;
+    }
+
     /// Appends a result after its name if it isn't the first result.
     pub fn append_other(&mut self, first: &str, name: &str, other: Output) -> CaseResult {
         let other = other.finish()?;

@@ -151,14 +151,14 @@ impl<'a> Reader<'a> {
     #[cycle(evaluate)]
     fn value(&mut self, depth: usize) -> CaseResult<Value> {
         let mut bytes = Vec::new(self.scope.alloc);
-        let (mut number, mut sign) = (0u64, "+");
+        let (mut number, mut is_subtracted) = (0u64, false);
         for _ in 0..=self.rest.len() {
             let (word, after) = split_word(self.rest);
             match word {
                 "" | ")" | "," => break,
                 "+" | "-" => {
                     self.rest = after;
-                    sign = word;
+                    is_subtracted = word == "-";
                     continue;
                 }
                 _ => {}
@@ -166,9 +166,10 @@ impl<'a> Reader<'a> {
             self.rest = after;
             let term = self.term(word, depth)?;
             bytes.extend_from_slice(&term.bytes)?;
-            number = match sign {
-                "+" => number.wrapping_add(term.number),
-                _ => number.wrapping_sub(term.number),
+            number = if is_subtracted {
+                number.wrapping_sub(term.number)
+            } else {
+                number.wrapping_add(term.number)
             };
         }
         Ok(Value { bytes, number })

@@ -60,7 +60,7 @@ impl<C: Read + Seek> PerfFileReader<C> {
     ///   attributes don't tell to which of them a record belongs.
     /// - [`Error::OutOfMemory`] if memory runs out.
     pub fn parse_file(cursor: C) -> Result<Self, Error> {
-        let source = Buffered::with_position(cursor);
+        let source = Buffered::with_position(cursor)?;
         let reader = inner::PerfFileReader::parse_file(inner::Global, source)?;
         let perf_file = PerfFile::new(reader.perf_file, Error::Read(ReadError::PerfEventAttr))?;
         let record_iter = PerfRecordIter::new(reader.record_iter, &perf_file, Input::File)?;
@@ -86,7 +86,7 @@ impl<R: Read> PerfFileReader<R> {
     ///   don't tell to which of them a record belongs.
     /// - [`Error::OutOfMemory`] if memory runs out.
     pub fn parse_pipe(reader: R) -> Result<Self, Error> {
-        let reader = inner::PerfFileReader::parse_pipe(inner::Global, Buffered::new(reader))?;
+        let reader = inner::PerfFileReader::parse_pipe(inner::Global, Buffered::new(reader)?)?;
         let unknown = Error::IoError(io::Error::from(io::ErrorKind::InvalidInput));
         let perf_file = PerfFile::new(reader.perf_file, unknown)?;
         let record_iter = PerfRecordIter::new(reader.record_iter, &perf_file, Input::Pipe)?;
@@ -314,13 +314,13 @@ impl<R: Read> PerfRecordIter<R> {
         if !matches!(self.stage, Stage::Reading) {
             return Ok(());
         }
-        let stage = match self.read_records(perf_file) {
+        let read = self.read_records(perf_file);
+        let renamed = perf_file.rename();
+        self.stage = match read.and_then(|is_available| renamed.map(|()| is_available)) {
             Ok(true) => Stage::Reading,
             Ok(false) => Stage::Ended,
             Err(error) => Stage::Failed(Some(error)),
         };
-        perf_file.rename();
-        self.stage = stage;
         if !matches!(self.stage, Stage::Reading)
             && let Err(error) = self.sorter.finish()
         {

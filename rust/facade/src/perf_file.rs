@@ -9,7 +9,7 @@ use crate::inner;
 use crate::linux_perf_event_reader::Endianness;
 use crate::record::UserRecordType;
 use crate::sections::{
-    AttributeDescription, ClockData, CompressionInfo, NrCpus, PmuMappings, SampleTimeRange,
+    AttributeDescription, ClockData, CompressionInfo, NrCpus, PmuMappings, SampleTimeRange, owned,
 };
 use crate::simpleperf::SimpleperfFileRecord;
 use std::collections::HashMap;
@@ -61,17 +61,18 @@ impl PerfFile {
     }
 
     // Follows a new section EVENT_DESC, which names all attributes again.
-    pub(crate) fn rename(&mut self) {
+    pub(crate) fn rename(&mut self) -> Result<(), Error> {
         if !self.has_new_names {
-            return;
+            return Ok(());
         }
         self.has_new_names = false;
         let described = self.inner.event_attributes();
         for (attribute, description) in self.attributes.iter_mut().zip(described) {
             if attribute.name() != description.name() {
-                attribute.name = description.name().map(str::to_owned);
+                attribute.name = description.name().map(owned).transpose()?;
             }
         }
+        Ok(())
     }
 
     /// Returns the attributes of the recorded events, with their names and identifiers. There is at least

@@ -242,6 +242,14 @@ impl std::ops::Index<&u32> for PmuNames {
     }
 }
 
+// A copy of a text.
+pub(crate) fn owned(text: &str) -> Result<String, Error> {
+    let mut copy = String::new();
+    copy.try_reserve_exact(text.len())?;
+    copy.push_str(text);
+    Ok(copy)
+}
+
 /// The attribute of an event, with its name and the identifiers of its records if they are known.
 #[derive(Debug, Clone)]
 pub struct AttributeDescription {
@@ -264,7 +272,7 @@ impl AttributeDescription {
         event_ids.extend_from_slice(description.ids());
         Ok(Self {
             attr,
-            name: description.name().map(str::to_owned),
+            name: description.name().map(owned).transpose()?,
             event_ids,
         })
     }

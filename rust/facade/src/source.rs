@@ -1,6 +1,7 @@
 //! A reader as a source of the library.
 
 use crate::inner;
+use std::collections::TryReserveError;
 use std::io::{self, Read, Seek, SeekFrom};
 
 // The number of bytes that are read at once.
@@ -12,7 +13,7 @@ const BUFFER_SIZE: usize = 64 * 1024;
 /// library asked for.
 pub(crate) struct Buffered<R> {
     reader: R,
-    buffer: Box<[u8]>,
+    buffer: Vec<u8>,
     // The unread bytes are `buffer[start..end]`.
     start: usize,
     end: usize,
@@ -21,14 +22,17 @@ pub(crate) struct Buffered<R> {
 }
 
 impl<R: Read> Buffered<R> {
-    pub(crate) fn new(reader: R) -> Self {
-        Buffered {
+    pub(crate) fn new(reader: R) -> Result<Self, TryReserveError> {
+        let mut buffer = Vec::new();
+        buffer.try_reserve_exact(BUFFER_SIZE)?;
+        buffer.resize(BUFFER_SIZE, 0);
+        Ok(Buffered {
             reader,
-            buffer: vec![0; BUFFER_SIZE].into_boxed_slice(),
+            buffer,
             start: 0,
             end: 0,
             position: None,
-        }
+        })
     }
 
     fn read_reader(&mut self, place: &mut [u8]) -> io::Result<usize> {
@@ -109,12 +113,13 @@ impl<R: Read> inner::Source for Buffered<R> {
 
 impl<R: Read + Seek> Buffered<R> {
     // A reader whose position is known, if it can tell it.
-    pub(crate) fn with_position(mut reader: R) -> Self {
+    pub(crate) fn with_position(mut reader: R) -> Result<Self, TryReserveError> {
         let position = reader.stream_position().ok();
-        Buffered {
+        let buffered = Buffered::new(reader)?;
+        Ok(Buffered {
             position,
-            ..Buffered::new(reader)
-        }
+            ..buffered
+        })
     }
 
     // The target of a seek, if it and the position are known.

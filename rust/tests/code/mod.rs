@@ -1,8 +1,9 @@
-//! The calls of call frame information, of DWARF expressions, of chains of frames and of demanglers.
+//! The calls of call frame information, of DWARF expressions, of chains of frames, of demanglers and of zstd.
 
 mod chains;
 mod expressions;
 mod frame_rows;
+mod streams;
 
 use crate::language::{Call, Output, Tested, number};
 use crate::library::Global;
@@ -17,6 +18,8 @@ pub fn call(call: &Call<'_>, out: &mut Output) -> Tested<bool> {
         "expressions" => expressions::push_values(call, out)?,
         "chains" => chains::push_chains(call, out)?,
         "demangle" => push_text(call, out)?,
+        "zstd" => streams::push_content(call, out)?,
+        "zstd-pieces" => streams::push_pieces(call, out)?,
         _ => return Ok(false),
     }
     Ok(true)

@@ -458,9 +458,14 @@ pub enum TaskWasPreempted {
     No,
 }
 
-// Names a parsed record that isn't a sample, or returns `None` if this crate has no name for its type.
-pub(crate) fn named(record: inner::EventRecord<'_>, misc: u16) -> Option<EventRecord<'_>> {
-    Some(match record {
+// Names a parsed record that isn't a sample. A record of a type without a name here stays raw.
+#[inline]
+pub(crate) fn named<'a>(
+    record: inner::EventRecord<'a>,
+    raw: &RawEventRecord<'a>,
+) -> EventRecord<'a> {
+    let misc = raw.misc;
+    match record {
         inner::EventRecord::Mmap(mmap) => EventRecord::Mmap(MmapRecord::new(mmap, misc)),
         inner::EventRecord::Mmap2(mmap) => EventRecord::Mmap2(Mmap2Record::new(mmap, misc)),
         inner::EventRecord::Comm(comm) => EventRecord::Comm(comm.into()),
@@ -470,6 +475,6 @@ pub(crate) fn named(record: inner::EventRecord<'_>, misc: u16) -> Option<EventRe
         inner::EventRecord::Throttle(throttle) => EventRecord::Throttle(throttle.into()),
         inner::EventRecord::Unthrottle(throttle) => EventRecord::Unthrottle(throttle.into()),
         inner::EventRecord::ContextSwitch(switch) => EventRecord::ContextSwitch(switch.into()),
-        _ => return None,
-    })
+        _ => EventRecord::Raw(raw.clone()),
+    }
 }

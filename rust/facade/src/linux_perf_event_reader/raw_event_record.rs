@@ -169,10 +169,11 @@ impl<'a> RawEventRecord<'a> {
     pub fn parse(&self) -> Result<EventRecord<'a>, io::Error> {
         let format = &self.parse_info.format;
         if self.record_type == RecordType::SAMPLE {
-            return match SampleRecord::parse_format(self.data, self.misc, format)? {
-                Some(sample) => Ok(EventRecord::Sample(sample)),
-                None => Ok(EventRecord::Raw(self.clone())),
-            };
+            if !format.has_known_fields() {
+                return Ok(EventRecord::Raw(self.clone()));
+            }
+            let sample = SampleRecord::parse_format(self.data, self.misc, format)?;
+            return Ok(EventRecord::Sample(sample));
         }
         if !has_name(self.record_type) {
             return Ok(EventRecord::Raw(self.clone()));
@@ -183,7 +184,7 @@ impl<'a> RawEventRecord<'a> {
             body: convert::inner_raw_data(self.data),
             parse_info: inner::NO_OFFSETS,
         })?;
-        Ok(named(record, self.misc).unwrap_or_else(|| EventRecord::Raw(self.clone())))
+        Ok(named(record, self))
     }
 }
 

@@ -56,20 +56,19 @@ impl<'a> SampleRecord<'a> {
         parse_info: &RecordParseInfo,
     ) -> Result<Self, io::Error> {
         let format = parse_info.format_in::<T>();
-        Self::parse_format(data, misc, &format)?
-            .ok_or_else(|| io::Error::from(io::ErrorKind::InvalidData))
+        if !format.has_known_fields() {
+            return Err(io::Error::from(io::ErrorKind::InvalidData));
+        }
+        Self::parse_format(data, misc, &format)
     }
 
-    // Parses the body of a sample of a format. `None` if the offset of a field isn't known.
+    // Parses the body of a sample of a format whose offsets are known.
     #[inline]
     pub(crate) fn parse_format(
         data: RawData<'a>,
         misc: u16,
         format: &inner::EventFormat,
-    ) -> io::Result<Option<Self>> {
-        if !format.has_known_fields() {
-            return Ok(None);
-        }
+    ) -> io::Result<Self> {
         let mut fields = convert::inner_raw_data(data);
         let sample = inner::SampleRecord::parse(format, &mut fields)?;
         let mask = format.sample_regs_user;
@@ -77,7 +76,7 @@ impl<'a> SampleRecord<'a> {
             Some(registers) if registers.abi != 0 => Some(Regs::new(mask, registers.values.into())),
             _ => None,
         };
-        Ok(Some(Self {
+        Ok(Self {
             id: sample.identifier.or(sample.id),
             addr: sample.address,
             stream_id: sample.stream_id,
@@ -98,6 +97,6 @@ impl<'a> SampleRecord<'a> {
             data_page_size: sample.data_page_size,
             code_page_size: sample.code_page_size,
             cpu_mode: CpuMode::from_misc(misc),
-        }))
+        })
     }
 }

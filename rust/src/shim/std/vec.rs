@@ -226,6 +226,16 @@ impl<T: Copy> Vec<T> {
         Ok(())
     }
 
+    /// Appends copies of the elements of a range.
+    pub fn extend_from_within(&mut self, range: ::std::ops::Range<usize>) -> Result<(), AllocError>
+    where
+        T: Copy,
+    {
+        self.0.try_reserve(range.len())?;
+        self.0.extend_from_within(range);
+        Ok(())
+    }
+
     /// Removes the elements from `len` on, or appends copies of `value` up to `len`.
     pub fn resize(&mut self, len: usize, value: T) -> Result<(), AllocError> {
         self.0.try_reserve(len.saturating_sub(self.0.len()))?;
