@@ -1,4 +1,4 @@
-//! The calls of call frame information, of DWARF expressions, of chains of frames, of demanglers and of zstd.
+//! The calls of call frame information, of DWARF expressions, of chains of frames, of demanglers and of decompressors.
 
 mod chains;
 mod expressions;
@@ -18,6 +18,8 @@ pub fn call(call: &Call<'_>, out: &mut Output) -> Tested<bool> {
         "expressions" => expressions::push_values(call, out)?,
         "chains" => chains::push_chains(call, out)?,
         "demangle" => push_text(call, out)?,
+        "inflate" => streams::push_inflated(call, out)?,
+        "zlib" => streams::push_zlib(call, out)?,
         "zstd" => streams::push_content(call, out)?,
         "zstd-pieces" => streams::push_pieces(call, out)?,
         _ => return Ok(false),

@@ -1,7 +1,8 @@
-//! Frames of zstd.
+//! Frames of zstd, and deflate and zlib.
 
 use crate::language::{Call, Output, Tested};
 use crate::library::Global;
+use dewikura::inflate::{inflate, inflate_zlib};
 use dewikura::zstd::{StreamDecoder, decompress};
 
 /// Prints the content of the frames, whose size is the option `size`, or the error.
@@ -9,6 +10,29 @@ pub fn push_content(call: &Call<'_>, out: &mut Output) -> Tested {
     let size = call.case.number("size")?.ok_or("a case without a size")?;
     match decompress(Global, call.bytes, usize::try_from(size)?) {
         Ok(content) => push_bytes(&content, out),
+        Err(error) => writeln!(out, "{error}"),
+    }
+    Ok(())
+}
+
+/// Prints the output of deflate data, whose size is the option `size`, and the number of bytes that it takes, or the error.
+pub fn push_inflated(call: &Call<'_>, out: &mut Output) -> Tested {
+    let size = call.case.number("size")?.ok_or("a case without a size")?;
+    match inflate(Global, call.bytes, usize::try_from(size)?) {
+        Ok((output, consumed)) => {
+            push_bytes(&output, out);
+            writeln!(out, "{consumed} bytes");
+        }
+        Err(error) => writeln!(out, "{error}"),
+    }
+    Ok(())
+}
+
+/// Prints the output of zlib data, whose size is the option `size`, or the error.
+pub fn push_zlib(call: &Call<'_>, out: &mut Output) -> Tested {
+    let size = call.case.number("size")?.ok_or("a case without a size")?;
+    match inflate_zlib(Global, call.bytes, usize::try_from(size)?) {
+        Ok(output) => push_bytes(&output, out),
         Err(error) => writeln!(out, "{error}"),
     }
     Ok(())
