@@ -2,12 +2,14 @@
 use crate::command_line::FAILURE;
 use crate::input::path_of_name;
 use crate::position::Position;
-use crate::truncation::{OpeningPart, find_truncated_part};
 use linux_perf_data::Error;
 use linux_perf_data::jitdump::JitDumpError;
+use linux_perf_data::source::Counted;
+use linux_perf_data::truncation::{OpeningPart, find_truncated_part};
 use std::fmt::{Display, Formatter, InlineText};
+use std::fs::File;
 use std::io::ErrorKind;
-use std::{fmt, io};
+use std::{fmt, fs, io};
 
 // The maximum size in bytes of the text of an I/O error.
 const TEXT_SIZE: usize = 256;
@@ -79,9 +81,9 @@ impl From<InputError> for ProgramError {
     }
 }
 
-// Displays an I/O error without the system's number of it.
+/// Displays an I/O error without the system's number of it.
 #[derive(Clone, Copy)]
-struct IoCause<'a>(&'a io::Error);
+pub struct IoCause<'a>(pub &'a io::Error);
 
 impl Display for IoCause<'_> {
     fn fmt<W: fmt::Write>(&self, f: &mut Formatter<W>) -> fmt::Result {
@@ -171,18 +173,22 @@ pub fn print_output_error(rt: &HostRuntime, program: &str, error: &io::Error) ->
     FAILURE
 }
 
-// Returns the part of an input that ends too early, if this is the error of an opening that ends so.
+// Returns the part of a regular file that ends too early, if this is the error of an opening that ends so.
 fn truncated_opening_part(
     rt: &HostRuntime,
     input: &str,
     error: &InputError,
 ) -> Option<OpeningPart> {
     match error {
-        InputError::Metadata(Error::IoError(cause)) if cause.kind() == ErrorKind::UnexpectedEof => {
-            find_truncated_part(rt, path_of_name(input))
-        }
-        _ => None,
+        InputError::Metadata(Error::IoError(cause)) if cause.kind() == ErrorKind::UnexpectedEof =>
+            {}
+        _ => return None,
     }
+    let path = path_of_name(input);
+    if !fs::metadata(rt, path).ok()?.is_file() {
+        return None;
+    }
+    find_truncated_part(&mut Counted::new(File::open(rt, path).ok()?))
 }
 
 /// Prints an error of a program that reads this input. Returns the exit status. If the metadata of a regular

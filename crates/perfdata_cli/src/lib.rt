@@ -8,4 +8,3 @@ pub mod input;
 pub mod input_bytes;
 pub mod position;
 pub mod progress;
-mod truncation;

@@ -6,10 +6,9 @@ use Rattle.perfdata_base.specs.Raw.{bytes_of}
 use Rattle.perfdata_base.specs.ParseInfo.{is_set}
 use Rattle.perfdata_base.specs.declared.attr.PerfEventAttr.{PerfEventAttr}
 use Rattle.perfdata_base.specs.declared.endian.Endianness.{Endianness}
-use Rattle.perfdata_base.specs.declared.endian.Endianness.TheVariants.{LittleEndian, BigEndian}
 use Rattle.perfdata_base.specs.declared.raw.RawData.{RawData}
 use Rattle.perfdata_events.specs.SampleFormat.{TID, TIME, ID, CPU, STREAM_ID, IDENTIFIER}
-use Rattle.perfdata_events.specs.AttributeFlags.{SAMPLE_ID_ALL}
+use Rattle.perfdata_events.specs.AttributeFlags.{SAMPLE_ID_ALL, recorded_flags}
 use Rattle.perfdata_events.specs.Format.{IsTruncated}
 use Rattle.perfdata_events.specs.Words.{words_size}
 use Rattle.perfdata_events.specs.declared.fields.registers.RegisterMasks.{RegisterMasks}
@@ -36,10 +35,9 @@ module _ (attr : PerfEventAttr) (order : Endianness) where
   abbrev pub big_endian_format_of : EventFormat
   big_endian_format_of = format_with (is_set attr.flags.0 (63 - SAMPLE_ID_ALL))
 
--- The same if a compiler of the byte order laid out the flags.
-abbrev pub native_format_of : PerfEventAttr → Endianness → EventFormat
-native_format_of attr LittleEndian = event_format_of attr LittleEndian
-native_format_of attr BigEndian = big_endian_format_of attr BigEndian
+  -- The same by the flags as they are recorded in this byte order.
+  abbrev pub native_format_of : EventFormat
+  native_format_of = format_with (is_set (recorded_flags order attr.flags.0) SAMPLE_ID_ALL)
 
 -- The masks of the registers in a sample.
 abbrev pub register_masks_of : EventFormat → RegisterMasks

@@ -123,15 +123,15 @@ impl EventFormat {
         }
     }
 
-    /// Returns the format of the records of an attribute whose flags a compiler of the byte order `endian`
-    /// laid out: that of [`EventFormat::with_big_endian_flags`] in big-endian order, else that of
-    /// [`EventFormat::with_little_endian_flags`].
+    /// Returns the format of the records of an attribute of a recording in the byte order `endian`. Its flags
+    /// are those of [`EventFlags::from_attribute`].
     pub fn new(attr: &PerfEventAttr, endian: Endianness) -> EventFormat
         ensures { result ≡ native_format_of attr.now endian }
     {
-        match endian {
-            Endianness::LittleEndian => EventFormat::with_little_endian_flags(attr, endian),
-            Endianness::BigEndian => EventFormat::with_big_endian_flags(attr, endian),
+        let flags = EventFlags::from_attribute(attr, endian);
+        EventFormat {
+            sample_id_all: flags.contains(EventFlags::SAMPLE_ID_ALL),
+            ..EventFormat::with_little_endian_flags(attr, endian)
         }
     }
 

@@ -4,7 +4,7 @@ use Rattle.std.specs.Option.{option_map}
 use Rattle.perfdata_base.specs.declared.endian.Endianness.{Endianness}
 use Rattle.perfdata_sections.specs.AttributeDescription.{attr_in, name_in}
 use Rattle.perfdata_sections.specs.declared.feature_sections.AttributeDescription.{AttributeDescription}
-use Rattle.perfdata_events.specs.EventFormat.{event_format_of}
+use Rattle.perfdata_events.specs.EventFormat.{native_format_of}
 use Rattle.perfdata_events.specs.declared.format.EventFormat.{EventFormat}
 use Rattle.linux_perf_data.specs.Layout.{RecordView}
 use Rattle.perfdata_json.specs.declared.line.Envelope.{Envelope}
@@ -35,4 +35,4 @@ name_at attributes index = option_map name_in (slice_get attributes index)
 
 -- The format of the records of the attribute with this index, in a byte order.
 abbrev pub format_at : List AttributeDescription → ℕ → Endianness → Option EventFormat
-format_at attributes index endian = option_map (λ d. event_format_of (attr_in d) endian) (slice_get attributes index)
+format_at attributes index endian = option_map (λ d. native_format_of (attr_in d) endian) (slice_get attributes index)

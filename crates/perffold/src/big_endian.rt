@@ -1,27 +1,16 @@
-//! Recordings of big-endian machines. Their compilers make flag n of an attribute bit 63 - n of the word,
-//! where the reader doesn't see SAMPLE_ID_ALL: it knows the times of samples alone.
+//! Recordings of big-endian machines. The reader doesn't see SAMPLE_ID_ALL in the flags that their compilers
+//! lay out: it knows the times of samples alone.
 
 use crate::records::Source;
-use bitflags::Flags;
-use linux_perf_data::attr::PerfEventAttr;
 use linux_perf_data::event::RawEventRecord;
-use linux_perf_data::raw::{Endianness, RawData};
+use linux_perf_data::raw::RawData;
 use linux_perf_data::{
     Error, PerfFile, PerfFileRecord, PerfRecordIter, RawUserRecord, RecordPlace, UserRecordType,
 };
 use perfdata_events::format::EventFormat;
 use perfdata_events::formats::EventFormats;
-use perfdata_events::sample_bits::EventFlags;
 use perfdata_order::sorter::Sorter;
 use std::alloc::{AllocError, Global};
-
-/// Returns the flags of an attribute.
-pub(crate) fn event_flags(perf_file: &PerfFile, attr: &PerfEventAttr) -> EventFlags {
-    EventFlags::from_bits_retain(match perf_file.endian() {
-        Endianness::LittleEndian => attr.flags.0,
-        Endianness::BigEndian => attr.flags.0.reverse_bits(),
-    })
-}
 
 /// Returns the format of the records of an attribute, by its index. The formats of the attributes that were
 /// read since the last call are added first.

@@ -1,9 +1,8 @@
 //! Counts the samples of a recording.
 
-use crate::big_endian::{event_flags, find_format};
+use crate::big_endian::find_format;
 use crate::options::{Options, WeightKind};
 use crate::records::Records;
-use crate::resolver::FrameResolver;
 use crate::sample_summary::SampleSummary;
 use crate::selection::Selection;
 use bitflags::Flags;
@@ -21,6 +20,7 @@ use perfdata_profile::error::ProfileError;
 use perfdata_profile::options::{Detail, ProfileOptions};
 use perfdata_profile::profile::Profile;
 use perfdata_profile::sums::SampleWeight;
+use perfdata_resolver::FrameResolver;
 use std::alloc::Global;
 use std::io;
 
@@ -36,7 +36,7 @@ pub(crate) struct SampleCounter<'a> {
     records: u64,
     other_events: u64,
     undecoded: u64,
-    sample_summary: SampleSummary,
+    summary: SampleSummary,
 }
 
 /// What was counted.
@@ -52,7 +52,7 @@ pub(crate) struct CountedSamples<'a> {
     /// The number of samples with fields that aren't known.
     pub(crate) undecoded: u64,
     /// The times of the samples, and their weight.
-    pub(crate) sample_summary: SampleSummary,
+    pub(crate) summary: SampleSummary,
 }
 
 // Returns what a sample counts.
@@ -62,11 +62,11 @@ fn sample_weight(
     attr: &PerfEventAttr,
     sample: &SampleRecord<'_>,
 ) -> u64 {
-    let is_frequency = event_flags(perf_file, attr).contains(EventFlags::FREQ);
+    let flags = EventFlags::from_attribute(attr, perf_file.endian());
     match (weight, sample.period) {
         (WeightKind::Samples, _) => 1,
         (WeightKind::Period, Some(period)) => period,
-        (WeightKind::Period, None) if is_frequency => 1,
+        (WeightKind::Period, None) if flags.contains(EventFlags::FREQ) => 1,
         (WeightKind::Period, None) => attr.period_or_freq,
     }
 }
@@ -99,7 +99,7 @@ impl<'a> SampleCounter<'a> {
             records: 0,
             other_events: 0,
             undecoded: 0,
-            sample_summary: SampleSummary::new(),
+            summary: SampleSummary::new(),
         }
     }
 
@@ -151,7 +151,7 @@ impl<'a> SampleCounter<'a> {
             .add_record(raw.misc, &record, weight)
             .map_err(count_error)?;
         if let (EventRecord::Sample(sample), Some(counted)) = (&record, weight) {
-            self.sample_summary.add(sample.timestamp, counted.weight);
+            self.summary.add(sample.timestamp, counted.weight);
         }
         Ok(())
     }
@@ -223,7 +223,7 @@ impl<'a> SampleCounter<'a> {
             selection,
             other_events,
             undecoded,
-            sample_summary,
+            summary,
             ..
         } = self;
         let (profile, resolver) = builder.finish();
@@ -233,7 +233,7 @@ impl<'a> SampleCounter<'a> {
             selection,
             other_events,
             undecoded,
-            sample_summary,
+            summary,
         }
     }
 }

@@ -1,11 +1,11 @@
 //! The stacks of a profile's flame graph.
 
 use crate::lines::set_thread;
-use crate::resolver::function_kinds::FunctionKinds;
 use perfdata_profile::locations::LocationId;
 use perfdata_profile::names::NameId;
 use perfdata_profile::profile::Profile;
 use perfdata_profile::sums::{SampleKey, Thread};
+use perfdata_resolver::FunctionKinds;
 use perfdata_stacks::flame::stacks::{FlameName, FlameStack, FlameStacks, FrameKind};
 use perfdata_stacks::flame::svg::{Caption, write_flame_graph};
 use std::alloc::{AllocError, Global};

@@ -5,37 +5,28 @@ mod big_endian;
 mod counter;
 mod flame;
 mod lines;
-mod mapping_names;
 mod options;
 mod output;
 mod pprof_output;
 mod records;
-mod resolver;
 mod sample_summary;
 mod selection;
-mod symbols;
 mod title;
 mod top;
-mod unwinding;
 
+use clap::ArgMatches;
+use code_files::PathError;
 use counter::SampleCounter;
 use linux_perf_data::{Error, PerfFileReader};
-use options::{Arguments, Options, OutputFormat, parse};
-use output::{
-    FoldError, format_detail, format_weight, is_for_terminal, output_format, print_notes,
-    write_counted,
-};
-use perfdata_cli::command_line::{
-    SUCCESS, USAGE_ERROR, arguments, print_argument_error, print_clap_error,
-};
+use options::{Arguments, Options, OutputFormat, command_with_options};
+use output::{FoldError, print_notes, write_counted};
+use perfdata_cli::command_line::{SUCCESS, USAGE_ERROR, run_program};
 use perfdata_cli::error::{InputError, ProgramError, print_error};
 use perfdata_cli::input::{OpenInput, display_name, input_path};
+use perfdata_resolver::FrameResolver;
 use records::{Records, Source};
-use resolver::FrameResolver;
-use std::alloc::Global;
-use std::io::ErrorKind;
+use std::io::{ErrorKind, IsTerminal};
 use std::process::ExitCode;
-use symbols::directories::PathError;
 
 // The program's name.
 const NAME: &str = "perffold";
@@ -54,56 +45,17 @@ fn opening_error(error: Error) -> InputError {
     }
 }
 
-// Opens a pipe or a perf.data file. Fails with `Metadata` if its metadata can't be read.
-fn open_source(
-    alloc: Global,
-    source: Source,
-    is_pipe: bool,
-) -> Result<PerfFileReader<Source>, InputError> {
-    let opened = if is_pipe {
-        PerfFileReader::parse_pipe(alloc, source)
-    } else {
-        PerfFileReader::parse_file(alloc, source)
-    };
-    opened.map_err(opening_error)
-}
-
-// Opens the input at a path.
+// Opens the input at a path. Fails with `Metadata` if its metadata can't be read.
 fn open_input(rt: &HostRuntime, path: &str) -> Result<PerfFileReader<Source>, InputError> {
     let input = OpenInput::open(rt, path).map_err(InputError::Io)?;
     let is_pipe = input.is_pipe()?;
     let source = input.into_source(rt.alloc()).map_err(InputError::Io)?;
-    open_source(rt.alloc(), source, is_pipe)
-}
-
-// Opens what the options name frames by, with what a format needs.
-fn open_resolver<'a>(
-    rt: &'a HostRuntime,
-    options: &Options<'a>,
-    format: OutputFormat,
-) -> Result<FrameResolver<'a>, PathError<'a>> {
-    let mut resolver = FrameResolver::open(rt, options)?;
-    match format {
-        OutputFormat::Frames => resolver.list_frames(rt.alloc()),
-        OutputFormat::Pprof | OutputFormat::Html => resolver.keep_files(rt.alloc()),
-        OutputFormat::Svg => resolver.keep_function_kinds(rt.alloc()),
-        OutputFormat::Lines | OutputFormat::Top => {}
-    }
-    Ok(resolver)
-}
-
-// Creates what counts the samples for a format.
-fn new_counter<'a>(
-    alloc: Global,
-    options: &Options<'a>,
-    format: OutputFormat,
-    resolver: FrameResolver<'a>,
-) -> SampleCounter<'a> {
-    let options = Options {
-        weight: format_weight(format, options.weight),
-        ..*options
+    let opened = if is_pipe {
+        PerfFileReader::parse_pipe(rt.alloc(), source)
+    } else {
+        PerfFileReader::parse_file(rt.alloc(), source)
     };
-    SampleCounter::new(alloc, &options, format_detail(format), resolver)
+    opened.map_err(opening_error)
 }
 
 // Writes the profile of an input: also of the samples before an error.
@@ -116,7 +68,11 @@ fn fold_records<'a>(
 ) -> Result<(), FoldError<'a>> {
     let mut perf_file = reader.perf_file;
     let mut records = Records::new(rt.alloc(), &perf_file, reader.record_iter);
-    let mut counter = new_counter(rt.alloc(), &arguments.options, format, resolver);
+    let options = Options {
+        weight: format.weight(arguments.options.weight),
+        ..arguments.options
+    };
+    let mut counter = SampleCounter::new(rt.alloc(), &options, format.detail(), resolver);
     let read = counter.add_all(&mut records, &mut perf_file);
     let counted = counter.finish();
     write_counted(rt, arguments, format, &perf_file, &counted)?;
@@ -129,22 +85,26 @@ fn fold_records<'a>(
 fn fold<'a>(
     rt: &'a HostRuntime,
     arguments: &Arguments<'a>,
+    format: OutputFormat,
     path: &str,
 ) -> Result<(), FoldError<'a>> {
-    let format = output_format(rt, arguments);
-    let resolver = open_resolver(rt, &arguments.options, format)?;
+    let data = format.data(rt.alloc());
+    let resolver = FrameResolver::open(rt, &arguments.options.names, data)?;
     let reader = open_input(rt, path)?;
     fold_records(rt, arguments, format, reader, resolver)
 }
 
-// Folds the input that the options name. Returns the exit status.
-fn run(rt: &HostRuntime, arguments: &Arguments<'_>) -> u8 {
-    if is_for_terminal(rt, arguments) {
+// Folds the input that the arguments name. Returns the exit status.
+fn run(rt: &HostRuntime, matches: &ArgMatches<'_>) -> u8 {
+    let arguments = Arguments::new(matches);
+    let format = OutputFormat::from_arguments(rt, &arguments);
+    let is_to_terminal = arguments.output.is_none() && rt.stdout().is_terminal();
+    if format == OutputFormat::Pprof && is_to_terminal {
         let _ = eprintln!(rt; "{NAME}: a profile isn't written to a terminal: name a file with -o");
         return USAGE_ERROR;
     }
     let path = input_path(rt, arguments.options.file);
-    match fold(rt, arguments, path) {
+    match fold(rt, &arguments, format, path) {
         Ok(()) => SUCCESS,
         Err(FoldError::Program(error)) => print_error(rt, NAME, display_name(path), &error),
         Err(FoldError::File(PathError { path, error })) => {
@@ -154,12 +114,6 @@ fn run(rt: &HostRuntime, arguments: &Arguments<'_>) -> u8 {
 }
 
 fn main(rt: HostRuntime) -> ExitCode {
-    let status = match arguments(&rt) {
-        Ok(words) => match parse(rt.alloc(), NAME, &words) {
-            Ok(arguments) => run(&rt, &arguments),
-            Err(error) => print_clap_error(&rt, NAME, &error),
-        },
-        Err(error) => print_argument_error(&rt, NAME, &error),
-    };
-    ExitCode::from(status)
+    let command = command_with_options(rt.alloc(), NAME);
+    run_program(&rt, NAME, command, run)
 }

@@ -1,10 +1,13 @@
 //! The program's command line.
 
 use crate::selection::Selection;
-use clap::{Arg, ArgAction, ArgMatches, Command, Error};
+use clap::{Arg, ArgAction, ArgMatches, Command};
+use code_files::FileOptions;
 use demangle::Style;
 use perfdata_cli::command_line::{FILE, RECORDING_HELP, command};
+use perfdata_names::KernelList;
 use perfdata_profile::options::ThreadIds;
+use perfdata_resolver::{NameKind, ResolverOptions};
 use std::alloc::{AllocError, Global};
 
 // What the program does.
@@ -214,17 +217,6 @@ pub(crate) enum WeightKind {
     Period,
 }
 
-/// Which name a frame has.
-#[derive(Clone, Copy, PartialEq, Eq)]
-pub(crate) enum NameKind {
-    /// The symbol, or the file where there is none.
-    Symbol,
-    /// The file.
-    File,
-    /// The address.
-    Address,
-}
-
 /// What is written.
 #[derive(Clone, Copy, PartialEq, Eq)]
 pub(crate) enum OutputFormat {
@@ -242,34 +234,6 @@ pub(crate) enum OutputFormat {
     Frames,
 }
 
-/// Which list names the kernel's functions.
-#[derive(Clone, Copy)]
-pub(crate) enum KernelList<'a> {
-    /// That of a file.
-    File(&'a str),
-    /// That of the running kernel, if it is the recorded one.
-    Running,
-    /// None, as `--kallsyms` says.
-    Nothing,
-    /// None, since files are those of another machine.
-    OtherMachine,
-}
-
-/// Where symbols are.
-#[derive(Clone, Copy)]
-pub(crate) struct SymbolOptions<'a> {
-    /// The directory that precedes the paths of files.
-    pub(crate) symfs: Option<&'a str>,
-    /// The directory of debug files.
-    pub(crate) debug_dir: Option<&'a str>,
-    /// The kernel's list of symbols.
-    pub(crate) kernel_list: KernelList<'a>,
-    /// The directory of perf-PID.map files.
-    pub(crate) maps: Option<&'a str>,
-    /// The file of the code that the kernel gives to each process.
-    pub(crate) vdso: Option<&'a str>,
-}
-
 /// What the arguments select.
 #[derive(Clone, Copy)]
 pub(crate) struct Options<'a> {
@@ -279,12 +243,8 @@ pub(crate) struct Options<'a> {
     pub(crate) weight: WeightKind,
     /// Which ids follow the name of a thread.
     pub(crate) thread_ids: ThreadIds,
-    pub(crate) name_kind: NameKind,
-    /// The style of the texts of mangled names, unless these stay.
-    pub(crate) demangling: Option<Style>,
-    pub(crate) symbols: SymbolOptions<'a>,
-    /// Whether samples with a copy of their stack are unwound.
-    pub(crate) unwinds: bool,
+    /// How frames are named.
+    pub(crate) names: ResolverOptions<'a>,
 }
 
 /// The arguments.
@@ -319,8 +279,11 @@ fn with_values<'a>(name: &str, arg: Arg<'a>) -> Arg<'a> {
     }
 }
 
-// Returns the command with its options.
-fn command_with_options<'a>(alloc: Global, name: &'a str) -> Result<Command<'a>, AllocError> {
+/// Returns the command with its options.
+pub(crate) fn command_with_options(
+    alloc: Global,
+    name: &'static str,
+) -> Result<Command<'static>, AllocError> {
     let mut command = command(alloc, name, ABOUT, RECORDING_HELP)?;
     for option in OPTIONS {
         let arg = argument(alloc, option)?;
@@ -329,7 +292,7 @@ fn command_with_options<'a>(alloc: Global, name: &'a str) -> Result<Command<'a>,
     Ok(command)
 }
 
-// Returns which samples are counted.
+// Parses which samples are counted.
 fn parse_selection<'a>(matches: &ArgMatches<'a>) -> Selection<'a> {
     if matches.get_flag(ALL_EVENTS) {
         return Selection::All;
@@ -340,7 +303,7 @@ fn parse_selection<'a>(matches: &ArgMatches<'a>) -> Selection<'a> {
     }
 }
 
-// Returns what a sample counts.
+// Parses what a sample counts.
 fn parse_weight(matches: &ArgMatches<'_>) -> WeightKind {
     match matches.get_str(WEIGHT) {
         Some(PERIOD) => WeightKind::Period,
@@ -348,7 +311,7 @@ fn parse_weight(matches: &ArgMatches<'_>) -> WeightKind {
     }
 }
 
-// Returns which ids follow the name of a thread.
+// Parses which ids follow the name of a thread.
 fn parse_thread_ids(matches: &ArgMatches<'_>) -> ThreadIds {
     if matches.get_flag(TID) {
         ThreadIds::Thread
@@ -359,7 +322,7 @@ fn parse_thread_ids(matches: &ArgMatches<'_>) -> ThreadIds {
     }
 }
 
-// Returns which name a frame has.
+// Parses which name a frame has.
 fn parse_name_kind(matches: &ArgMatches<'_>) -> NameKind {
     if matches.get_flag(RAW) {
         NameKind::Address
@@ -370,7 +333,7 @@ fn parse_name_kind(matches: &ArgMatches<'_>) -> NameKind {
     }
 }
 
-// Returns the style of the texts of mangled names, unless these stay.
+// Parses the style of the texts of mangled names, unless these stay.
 fn parse_demangling(matches: &ArgMatches<'_>) -> Option<Style> {
     if matches.get_flag(NO_DEMANGLE) {
         None
@@ -381,7 +344,7 @@ fn parse_demangling(matches: &ArgMatches<'_>) -> Option<Style> {
     }
 }
 
-// Returns which list names the kernel's functions.
+// Parses which list names the kernel's functions.
 fn parse_kernel_list<'a>(matches: &ArgMatches<'a>) -> KernelList<'a> {
     match (matches.get_str(KALLSYMS), matches.get_str(SYMFS)) {
         (Some(NO_LIST), _) => KernelList::Nothing,
@@ -391,18 +354,23 @@ fn parse_kernel_list<'a>(matches: &ArgMatches<'a>) -> KernelList<'a> {
     }
 }
 
-// Returns where symbols are.
-fn parse_symbols<'a>(matches: &ArgMatches<'a>) -> SymbolOptions<'a> {
-    SymbolOptions {
-        symfs: matches.get_str(SYMFS),
-        debug_dir: matches.get_str(DEBUG_DIR),
+// Parses how frames are named.
+fn parse_names<'a>(matches: &ArgMatches<'a>) -> ResolverOptions<'a> {
+    ResolverOptions {
+        name_kind: parse_name_kind(matches),
+        demangling: parse_demangling(matches),
+        unwinds: !matches.get_flag(NO_UNWIND),
+        files: FileOptions {
+            symfs: matches.get_str(SYMFS),
+            debug_dir: matches.get_str(DEBUG_DIR),
+            maps: matches.get_str(MAPS),
+            vdso: matches.get_str(VDSO),
+        },
         kernel_list: parse_kernel_list(matches),
-        maps: matches.get_str(MAPS),
-        vdso: matches.get_str(VDSO),
     }
 }
 
-// Returns what is written, if an argument says so.
+// Parses what is written, if an argument says so.
 fn parse_format(matches: &ArgMatches<'_>) -> Option<OutputFormat> {
     if matches.get_flag(SVG) {
         return Some(OutputFormat::Svg);
@@ -417,30 +385,19 @@ fn parse_format(matches: &ArgMatches<'_>) -> Option<OutputFormat> {
     }
 }
 
-// Returns what the arguments select.
-fn parse_options<'a>(matches: &ArgMatches<'a>) -> Options<'a> {
-    Options {
-        file: matches.get_str(FILE),
-        selection: parse_selection(matches),
-        weight: parse_weight(matches),
-        thread_ids: parse_thread_ids(matches),
-        name_kind: parse_name_kind(matches),
-        demangling: parse_demangling(matches),
-        symbols: parse_symbols(matches),
-        unwinds: !matches.get_flag(NO_UNWIND),
+impl<'a> Arguments<'a> {
+    /// Returns what parsed arguments select.
+    pub(crate) fn new(matches: &ArgMatches<'a>) -> Arguments<'a> {
+        Arguments {
+            options: Options {
+                file: matches.get_str(FILE),
+                selection: parse_selection(matches),
+                weight: parse_weight(matches),
+                thread_ids: parse_thread_ids(matches),
+                names: parse_names(matches),
+            },
+            format: parse_format(matches),
+            output: matches.get_str(OUTPUT),
+        }
     }
-}
-
-/// Parses the arguments, of which the first is the program's name.
-pub(crate) fn parse<'a>(
-    alloc: Global,
-    name: &'a str,
-    words: &'a [String],
-) -> Result<Arguments<'a>, Error> {
-    let matches = command_with_options(alloc, name)?.try_get_matches_from(words)?;
-    Ok(Arguments {
-        options: parse_options(&matches),
-        format: parse_format(&matches),
-        output: matches.get_str(OUTPUT),
-    })
 }

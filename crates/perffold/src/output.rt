@@ -5,19 +5,20 @@ use crate::flame::write_svg;
 use crate::lines::write_lines;
 use crate::options::{Arguments, OutputFormat, WeightKind};
 use crate::pprof_output::{ProfileInput, write_page, write_pprof};
-use crate::resolver::function_kinds::FunctionKinds;
-use crate::symbols::FileCounts;
-use crate::symbols::directories::PathError;
-use crate::title::graph_title;
+use crate::title::write_title;
 use crate::top::write_top;
-use crate::unwinding::EndCounts;
+use code_files::{FileCounts, PathError};
 use linux_perf_data::PerfFile;
-use perfdata_cli::error::{InputError, ProgramError};
+use perfdata_cli::error::{InputError, IoCause, ProgramError};
+use perfdata_names::{KERNEL_LIST_PATH, MissingKernelSymbols};
 use perfdata_profile::options::Detail;
+use perfdata_resolver::{EndCounts, FormatData, FrameListing, FunctionKinds, MappingOrder};
 use perfdata_stacks::flame::svg::Caption;
+use std::alloc::Global;
+use std::fmt::{Display, Formatter};
 use std::fs::File;
 use std::io::{BufWriter, IsTerminal, Write};
-use std::{fs, io};
+use std::{fmt, fs, io};
 
 // The format of files by the end of their names.
 const FORMATS: [(&str, OutputFormat); 3] = [
@@ -47,66 +48,100 @@ impl<'a> From<PathError<'a>> for FoldError<'a> {
     }
 }
 
-// What is written: a profile in a format, and what a picture says of itself.
+// A profile in a format, and what a picture says of itself.
 #[derive(Clone, Copy)]
 struct FoldResult<'a> {
     format: OutputFormat,
     recorded: ProfileInput<'a>,
     caption: Caption<'a>,
-    /// What code functions are, if it is shown.
-    function_kinds: Option<&'a FunctionKinds>,
-    /// The lines of the frames of each sample, if they are written.
-    frames: &'a [u8],
+    /// What the format needs beside names.
+    data: &'a FormatData,
 }
 
-// Returns what weights count.
-fn weight_unit(weight: WeightKind) -> &'static str {
-    match weight {
-        WeightKind::Samples => "samples",
-        WeightKind::Period => "events",
+// Displays why functions of the kernel have no names.
+#[derive(Clone, Copy)]
+struct MissingNames<'a>(&'a MissingKernelSymbols);
+
+impl Display for MissingNames<'_> {
+    fn fmt<W: fmt::Write>(&self, f: &mut Formatter<W>) -> fmt::Result {
+        match self.0 {
+            MissingKernelSymbols::SwitchedOff => f.write_str("--kallsyms is none"),
+            MissingKernelSymbols::OtherMachine => {
+                f.write_str("--symfs is given without --kallsyms")
+            }
+            MissingKernelSymbols::NoRecordedId => {
+                f.write_str("the recording has no build id of its kernel")
+            }
+            MissingKernelSymbols::NoRunningId => {
+                f.write_str("the build id of the running kernel can't be read")
+            }
+            MissingKernelSymbols::OtherKernel => {
+                f.write_str("the running kernel isn't the recorded one")
+            }
+            MissingKernelSymbols::Unreadable(error) => {
+                write!(f, "{KERNEL_LIST_PATH}: {}", IoCause(error))
+            }
+        }
     }
 }
 
-// Returns the format of a file by the end of its name.
-fn file_format(path: &str) -> OutputFormat {
-    match FORMATS.iter().find(|(suffix, _)| path.ends_with(*suffix)) {
-        Some((_, format)) => *format,
-        None => OutputFormat::Lines,
+impl WeightKind {
+    // Returns what weights count.
+    fn unit(self) -> &'static str {
+        match self {
+            WeightKind::Samples => "samples",
+            WeightKind::Period => "events",
+        }
     }
 }
 
-/// Returns what is written.
-pub(crate) fn output_format(rt: &HostRuntime, arguments: &Arguments<'_>) -> OutputFormat {
-    match (arguments.format, arguments.output) {
-        (Some(format), _) => format,
-        (None, Some(path)) => file_format(path),
-        (None, None) if rt.stdout().is_terminal() => OutputFormat::Top,
-        (None, None) => OutputFormat::Lines,
+impl OutputFormat {
+    /// Returns what is written.
+    pub(crate) fn from_arguments(rt: &HostRuntime, arguments: &Arguments<'_>) -> OutputFormat {
+        match (arguments.format, arguments.output) {
+            (Some(format), _) => format,
+            (None, Some(path)) => {
+                let mut formats = FORMATS.iter();
+                let found = formats.find(|(suffix, _)| path.ends_with(*suffix));
+                found.map_or(OutputFormat::Lines, |(_, format)| *format)
+            }
+            (None, None) if rt.stdout().is_terminal() => OutputFormat::Top,
+            (None, None) => OutputFormat::Lines,
+        }
     }
-}
 
-/// Returns whether a profile for pprof is to be written to a terminal.
-pub(crate) fn is_for_terminal(rt: &HostRuntime, arguments: &Arguments<'_>) -> bool {
-    arguments.output.is_none()
-        && output_format(rt, arguments) == OutputFormat::Pprof
-        && rt.stdout().is_terminal()
-}
-
-/// Returns what a sample counts in a format.
-pub(crate) fn format_weight(format: OutputFormat, weight: WeightKind) -> WeightKind {
-    match format {
-        OutputFormat::Pprof | OutputFormat::Html => WeightKind::Period,
-        OutputFormat::Lines | OutputFormat::Svg | OutputFormat::Top | OutputFormat::Frames =>
-            weight,
+    // Returns whether the format is that of a profile for pprof.
+    fn is_profile(self) -> bool {
+        matches!(self, OutputFormat::Pprof | OutputFormat::Html)
     }
-}
 
-/// Returns what the locations of a profile have that is written in a format.
-pub(crate) fn format_detail(format: OutputFormat) -> Detail {
-    match format {
-        OutputFormat::Pprof | OutputFormat::Html => Detail::Locations,
-        OutputFormat::Lines | OutputFormat::Svg | OutputFormat::Top | OutputFormat::Frames => {
+    /// Returns what a sample counts.
+    pub(crate) fn weight(self, weight: WeightKind) -> WeightKind {
+        if self.is_profile() {
+            WeightKind::Period
+        } else {
+            weight
+        }
+    }
+
+    /// Returns what the locations of the profile have.
+    pub(crate) fn detail(self) -> Detail {
+        if self.is_profile() {
+            Detail::Locations
+        } else {
             Detail::Functions
+        }
+    }
+
+    /// Returns what is needed beside names, before the first sample.
+    pub(crate) fn data(self, alloc: Global) -> FormatData {
+        match self {
+            OutputFormat::Frames => FormatData::Listing(FrameListing::new(alloc)),
+            OutputFormat::Pprof | OutputFormat::Html => {
+                FormatData::Mappings(MappingOrder::new(alloc))
+            }
+            OutputFormat::Svg => FormatData::Kinds(FunctionKinds::new(alloc)),
+            OutputFormat::Lines | OutputFormat::Top => FormatData::Nothing,
         }
     }
 }
@@ -114,7 +149,7 @@ pub(crate) fn format_detail(format: OutputFormat) -> Detail {
 // Writes a profile.
 fn write_profile<W: Write>(
     rt: &HostRuntime,
-    outcome: FoldResult<'_>,
+    folded: FoldResult<'_>,
     out: &mut W,
 ) -> io::Result<()> {
     let alloc = rt.alloc();
@@ -122,38 +157,43 @@ fn write_profile<W: Write>(
         format,
         recorded,
         caption,
-        function_kinds,
-        frames,
-    } = outcome;
+        data,
+    } = folded;
     let profile = recorded.profile;
-    match format {
-        OutputFormat::Lines => write_lines(alloc, profile, out)?,
-        OutputFormat::Svg => write_svg(alloc, profile, function_kinds, caption, out)?,
-        OutputFormat::Pprof => write_pprof(alloc, recorded, out)?,
-        OutputFormat::Html => write_page(alloc, recorded, out)?,
-        OutputFormat::Top => write_top(alloc, profile, caption.unit, out)?,
-        OutputFormat::Frames => out.write_all(frames)?,
+    match (format, data) {
+        (OutputFormat::Svg, FormatData::Kinds(kinds)) => {
+            write_svg(alloc, profile, Some(kinds), caption, out)?
+        }
+        (OutputFormat::Svg, _) => write_svg(alloc, profile, None, caption, out)?,
+        (OutputFormat::Frames, FormatData::Listing(listing)) => {
+            out.write_all(listing.lines.as_slice())?
+        }
+        (OutputFormat::Frames, _) => {}
+        (OutputFormat::Lines, _) => write_lines(alloc, profile, out)?,
+        (OutputFormat::Pprof, _) => write_pprof(alloc, recorded, out)?,
+        (OutputFormat::Html, _) => write_page(alloc, recorded, out)?,
+        (OutputFormat::Top, _) => write_top(alloc, profile, caption.unit, out)?,
     }
     out.flush()
 }
 
 // Writes standard output.
-fn write_stdout(rt: &HostRuntime, outcome: FoldResult<'_>) -> io::Result<()> {
+fn write_stdout(rt: &HostRuntime, folded: FoldResult<'_>) -> io::Result<()> {
     let mut out = BufWriter::new(rt.alloc(), rt.stdout())?;
-    write_profile(rt, outcome, &mut out)
+    write_profile(rt, folded, &mut out)
 }
 
 // Writes a file, which then replaces the one at a path.
-fn write_file(rt: &HostRuntime, part: &str, path: &str, outcome: FoldResult<'_>) -> io::Result<()> {
+fn write_file(rt: &HostRuntime, part: &str, path: &str, folded: FoldResult<'_>) -> io::Result<()> {
     let mut out = BufWriter::new(rt.alloc(), File::create(rt, part)?)?;
-    write_profile(rt, outcome, &mut out)?;
+    write_profile(rt, folded, &mut out)?;
     fs::rename(rt, part, path)
 }
 
 // Writes the file at a path: first one beside it, so that it is either as before or whole.
-fn replace_file(rt: &HostRuntime, path: &str, outcome: FoldResult<'_>) -> io::Result<()> {
+fn replace_file(rt: &HostRuntime, path: &str, folded: FoldResult<'_>) -> io::Result<()> {
     let part = format!(in rt.alloc(); "{path}.part")?;
-    let written = write_file(rt, part.as_str(), path, outcome);
+    let written = write_file(rt, part.as_str(), path, folded);
     if written.is_err() {
         let _ = fs::remove_file(rt, part.as_str());
     }
@@ -161,17 +201,17 @@ fn replace_file(rt: &HostRuntime, path: &str, outcome: FoldResult<'_>) -> io::Re
 }
 
 // Writes standard output, or the file that the command line names.
-fn write_outcome<'a>(
+fn write_result<'a>(
     rt: &HostRuntime,
     path: Option<&'a str>,
-    outcome: FoldResult<'_>,
+    folded: FoldResult<'_>,
 ) -> Result<(), FoldError<'a>> {
     match path {
-        Some(path) => replace_file(rt, path, outcome).map_err(|error| FoldError::File(PathError {
+        Some(path) => replace_file(rt, path, folded).map_err(|error| FoldError::File(PathError {
             path,
             error,
         })),
-        None => write_stdout(rt, outcome).map_err(|error| FoldError::Program(ProgramError::Output(
+        None => write_stdout(rt, folded).map_err(|error| FoldError::Program(ProgramError::Output(
             error,
         ))),
     }
@@ -186,29 +226,38 @@ pub(crate) fn write_counted<'a>(
     counted: &CountedSamples<'_>,
 ) -> Result<(), FoldError<'a>> {
     let profile = &counted.profile;
-    let unit = weight_unit(arguments.options.weight);
+    let weight = arguments.options.weight;
     let total = profile.sums.total().weight;
-    let title = graph_title(rt.alloc(), perf_file, counted.selection, total, unit);
+    let title = write_title(
+        rt.alloc(),
+        perf_file,
+        counted.selection,
+        total,
+        weight.unit(),
+    );
     let title = title.map_err(|error| FoldError::Program(ProgramError::Output(error)))?;
-    let caption = Caption {
-        title: title.as_slice(),
-        unit,
-    };
+    let data = &counted.resolver.data;
     let recorded = ProfileInput {
         perf_file,
         profile,
-        files: counted.resolver.files(),
-        sample_summary: counted.sample_summary,
-        shows_weights: arguments.options.weight == WeightKind::Period,
+        files: match data {
+            FormatData::Mappings(order) => Some(order),
+            _ => None,
+        },
+        sample_summary: counted.summary,
+        shows_weights: weight == WeightKind::Period,
     };
-    let outcome = FoldResult {
+    let caption = Caption {
+        title: title.as_slice(),
+        unit: weight.unit(),
+    };
+    let folded = FoldResult {
         format,
         recorded,
         caption,
-        function_kinds: counted.resolver.function_kinds(),
-        frames: counted.resolver.listed_frames(),
+        data,
     };
-    write_outcome(rt, arguments.output, outcome)
+    write_result(rt, arguments.output, folded)
 }
 
 // Writes on standard error how many files with symbols weren't used, compared or read, if there are any.
@@ -265,10 +314,11 @@ pub(crate) fn print_notes(rt: &HostRuntime, name: &str, counted: &CountedSamples
     if let Some(counts) = counted.resolver.end_counts() {
         print_end_counts(rt, name, counts);
     }
-    if let Some(why) = counted.resolver.missing_kernel_list() {
-        let _ = eprintln!(rt; "{name}: functions of the kernel have no names: {why}");
+    if let Some(missing) = counted.resolver.missing_kernel_symbols() {
+        let _ = eprintln!(rt;
+            "{name}: functions of the kernel have no names: {}",
+            MissingNames(missing)
+        );
     }
-    if let Some(counts) = counted.resolver.file_counts() {
-        print_file_counts(rt, name, counts);
-    }
+    print_file_counts(rt, name, counted.resolver.file_counts());
 }

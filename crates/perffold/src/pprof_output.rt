@@ -2,12 +2,12 @@
 
 mod convert;
 
-use crate::resolver::mapped_files::MappedFiles;
 use crate::sample_summary::SampleSummary;
 use convert::{COUNT, Column, Description, SAMPLES, convert};
 use linux_perf_data::attr::PerfEventAttr;
 use linux_perf_data::{AttributeDescription, PerfFile};
 use perfdata_profile::profile::Profile;
+use perfdata_resolver::MappingOrder;
 use pprof::encode::encode;
 use pprof::html::profile_page;
 use std::alloc::{AllocError, Global};
@@ -25,8 +25,8 @@ const TASK_CLOCK: u64 = 1;
 pub(crate) struct ProfileInput<'a> {
     pub(crate) perf_file: &'a PerfFile,
     pub(crate) profile: &'a Profile,
-    /// What the profile says of mapped files, if it does.
-    pub(crate) files: Option<&'a MappedFiles>,
+    /// The order in which files were mapped, if it is known.
+    pub(crate) files: Option<&'a MappingOrder>,
     pub(crate) sample_summary: SampleSummary,
     /// Whether the weights of samples are shown first, and not their number.
     pub(crate) shows_weights: bool,

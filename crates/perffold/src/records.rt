@@ -1,6 +1,6 @@
 //! The records in the order in which they apply.
 
-use crate::big_endian::{BigEndianRecords, event_flags};
+use crate::big_endian::BigEndianRecords;
 use bitflags::Flags;
 use linux_perf_data::raw::Endianness;
 use linux_perf_data::{Error, PerfFile, PerfFileRecord, PerfRecordIter, RecordPlace};
@@ -27,7 +27,7 @@ pub(crate) enum Records {
 // Returns whether the records that aren't samples have times.
 fn has_times(perf_file: &PerfFile) -> bool {
     for event in perf_file.event_attributes() {
-        let flags = event_flags(perf_file, event.attributes());
+        let flags = EventFlags::from_attribute(event.attributes(), perf_file.endian());
         if flags.contains(EventFlags::SAMPLE_ID_ALL) {
             return true;
         }

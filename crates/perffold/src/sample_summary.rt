@@ -1,6 +1,6 @@
-//! The time that counted samples span, and the weight that they have in common.
+//! The times of all counted samples, and the weight that they have in common.
 
-/// The times and weights of samples.
+/// The times and the common weight of samples.
 #[derive(Clone, Copy)]
 pub(crate) struct SampleSummary {
     // The first and the last time.
@@ -15,7 +15,7 @@ pub(crate) struct SampleSummary {
 const LARGEST: u64 = i64::MAX as u64;
 
 impl SampleSummary {
-    /// Creates the summary of no samples.
+    /// Returns that of no samples.
     pub(crate) fn new() -> SampleSummary {
         SampleSummary {
             times: None,

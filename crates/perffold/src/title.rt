@@ -52,9 +52,9 @@ fn push_command(alloc: Global, title: &mut Vec<u8>, perf_file: &PerfFile) -> io:
     Ok(())
 }
 
-/// Returns the title: the event whose samples are counted, the sum of their weights with its unit, and the
+/// Writes the title: the event whose samples are counted, the sum of their weights with its unit, and the
 /// command that recorded.
-pub(crate) fn graph_title(
+pub(crate) fn write_title(
     alloc: Global,
     perf_file: &PerfFile,
     selection: Selection<'_>,

@@ -14,22 +14,18 @@ mod record_statistics;
 mod records;
 mod report;
 
-use clap::{ArgMatches, Error};
+use clap::ArgMatches;
 use jit::JitCounts;
 use linux_perf_data::jitdump::{JitDumpError, JitDumpReader};
 use linux_perf_data::{PerfFile, PerfFileReader};
 use perfdata_base::source::CountedBuffer;
-use perfdata_cli::command_line::{
-    FILE, RECORDING_OR_JITDUMP_HELP, SUCCESS, arguments, command, print_argument_error,
-    print_clap_error,
-};
+use perfdata_cli::command_line::{FILE, RECORDING_OR_JITDUMP_HELP, SUCCESS, command, run_program};
 use perfdata_cli::error::{InputError, ProgramError, print_error};
 use perfdata_cli::input::{InputKind, OpenInput, display_name, input_path};
 use perfdata_cli::input_bytes::InputBytes;
 use perfdata_cli::progress::Progress;
 use records::RecordCounts;
 use report::Report;
-use std::alloc::Global;
 use std::process::ExitCode;
 
 // The program's name.
@@ -139,11 +135,6 @@ fn report_input(rt: &HostRuntime, path: &str) -> Result<(), ProgramError> {
     }
 }
 
-// Parses the arguments.
-fn parse(alloc: Global, words: &[String]) -> Result<ArgMatches<'_>, Error> {
-    command(alloc, NAME, ABOUT, RECORDING_OR_JITDUMP_HELP)?.try_get_matches_from(words)
-}
-
 // Reports on the input that the arguments name. Returns the exit status.
 fn run(rt: &HostRuntime, matches: &ArgMatches<'_>) -> u8 {
     let path = input_path(rt, matches.get_str(FILE));
@@ -154,12 +145,6 @@ fn run(rt: &HostRuntime, matches: &ArgMatches<'_>) -> u8 {
 }
 
 fn main(rt: HostRuntime) -> ExitCode {
-    let status = match arguments(&rt) {
-        Ok(words) => match parse(rt.alloc(), &words) {
-            Ok(matches) => run(&rt, &matches),
-            Err(error) => print_clap_error(&rt, NAME, &error),
-        },
-        Err(error) => print_argument_error(&rt, NAME, &error),
-    };
-    ExitCode::from(status)
+    let command = command(rt.alloc(), NAME, ABOUT, RECORDING_OR_JITDUMP_HELP);
+    run_program(&rt, NAME, command, run)
 }

@@ -110,13 +110,13 @@ impl RecordCounts {
     fn add_formats(&mut self, perf_file: &PerfFile) -> Result<(), AllocError> {
         let added = perf_file.event_attributes().get(self.formats.len()..);
         for event in added.unwrap_or(&[]) {
-            self.formats
-                .push_with_little_endian_flags(event.attributes(), perf_file.endian())?;
+            self.formats.push(event.attributes(), perf_file.endian())?;
         }
         Ok(())
     }
 
-    // Adds the record of an event to the counts of its body and of the event.
+    // Adds the record of an event to the counts of its body and of the event. The reader doesn't know its
+    // time if the flags of the attribute are those of a big-endian compiler.
     fn add_event(
         &mut self,
         alloc: Global,
@@ -125,7 +125,12 @@ impl RecordCounts {
         record: &RawEventRecord<'_>,
     ) -> Result<(), AllocError> {
         if let Some(format) = self.formats.get(index) {
-            self.statistics.add(alloc, format, timestamp, record)?;
+            let own_time = match format.sample_id(record) {
+                Ok(id) => id.timestamp,
+                Err(_) => None,
+            };
+            let time = timestamp.or(own_time);
+            self.statistics.add(alloc, format, time, record)?;
         }
         self.count_for_event(index, record.record_type, timestamp)
     }

@@ -1,6 +1,5 @@
 //! Makes the profile that pprof reads of the samples that were counted.
 
-use crate::resolver::mapped_files::MappedFiles;
 use indexmap::IndexSet;
 use perfdata_profile::interned::Interned;
 use perfdata_profile::locations::{Location, LocationId};
@@ -8,6 +7,7 @@ use perfdata_profile::mappings::MappingId;
 use perfdata_profile::names::NameId;
 use perfdata_profile::profile::Profile;
 use perfdata_profile::sums::{SampleKey, Sums, Thread};
+use perfdata_resolver::MappingOrder;
 use pprof::builder::{
     Builder, FunctionNames, LocationRow, MappedFile, SampleThread, Summary, WeightedSamples,
 };
@@ -30,7 +30,7 @@ pub(crate) struct Description<'a> {
     /// The columns.
     pub(crate) columns: &'a [Column],
     /// The order in which files were mapped, if it is known.
-    pub(crate) files: Option<&'a MappedFiles>,
+    pub(crate) files: Option<&'a MappingOrder>,
     /// Whether the weights of the first column are shown first, and not the number of samples.
     pub(crate) shows_weights: bool,
     /// The time between the first and the last sample in nanoseconds, or 0.
@@ -103,7 +103,7 @@ fn by_record(first: &UsedMapping, second: &UsedMapping) -> Ordering {
 fn ordered_mappings(
     alloc: Global,
     profile: &Profile,
-    files: Option<&MappedFiles>,
+    files: Option<&MappingOrder>,
 ) -> Result<Vec<UsedMapping>, AllocError> {
     let used = used_mappings(alloc, profile)?;
     let mut mappings = Vec::new(alloc);

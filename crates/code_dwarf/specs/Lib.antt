@@ -1,0 +1,4 @@
+-- Definitions.
+pub mod Forms
+pub mod Numbers
+pub mod Units

@@ -1,0 +1,12 @@
+-- Lemmas.
+mod Ascending
+mod CountingSamples
+mod EntryStacks
+mod Growing
+mod LineSums
+mod Nesting
+mod NodeSums
+mod Numbered
+mod Regrouping
+mod TableRows
+mod Tallying
