@@ -19,18 +19,23 @@ pub fn sort_by<T, F: FnMut(&T, &T) -> Ordering>(items: &mut [T], mut compare: F)
 
 /// Sorts elements by keys; elements with equal keys keep their order. If memory runs out, they stay as they are.
 ///
-/// Elements that are less than one before them are late. These alone are sorted, and then merged with the others, which
-/// ascend.
+/// Elements that are less than one before them are late. If they are at most a quarter of all, they alone are sorted,
+/// and merged with the others, which ascend.
 pub fn sort_by_key<T, K: Ord, F: FnMut(&T) -> K>(items: &mut [T], mut key: F) -> Result<(), AllocError> {
     let late_count = count_late(items, &mut key);
     if late_count == 0 {
         return Ok(());
     }
+    let has_few_late = late_count <= items.len() / 4;
     let mut order: Vec<usize> = Vec::new();
     order.try_reserve_exact(items.len())?;
     let mut late: Vec<(K, usize)> = Vec::new();
-    late.try_reserve_exact(late_count)?;
-    split_late(items, &mut key, &mut order, &mut late);
+    late.try_reserve_exact(if has_few_late { late_count } else { items.len() })?;
+    if has_few_late {
+        split_late(items, &mut key, &mut order, &mut late);
+    } else {
+        late.extend(items.iter().enumerate().map(|(position, item)| (key(item), position)));
+    }
     // With the positions after the keys no two are equal, so this is stable.
     late.sort_unstable();
     merge_late(items, &mut key, &mut order, late);
@@ -70,7 +75,7 @@ fn split_late<T, K: Ord, F: FnMut(&T) -> K>(items: &[T], key: &mut F, order: &mu
     }
 }
 
-// Merges the late elements into `order`, from the last one on. `order` has the capacity.
+// Merges the sorted late elements into `order`, from the last one on. `order` has the capacity.
 fn merge_late<T, K: Ord, F: FnMut(&T) -> K>(items: &[T], key: &mut F, order: &mut Vec<usize>, mut late: Vec<(K, usize)>) {
     let mut rest = order.len();
     let mut end = rest + late.len();
