@@ -12,7 +12,7 @@ help: ## lists the targets
 try: ## lists FILE before any proof: make try FILE=perf.data
 	packaging/try "$(FILE)"
 
-test: ## runs the cases and the other tests of rust/tests by cargo, before any proof: two minutes
+test: ## runs the cases and the other tests of rust/tests by cargo, before any proof: two minutes of processor time
 	packaging/test
 
 check: ## the gate: every proof, must-fail edit and test, the programs and the C library
