@@ -222,8 +222,19 @@ fn push_jitdump(call: &Call<'_>, out: &mut Output) -> CaseResult {
     Ok(())
 }
 
-// Parses a section of attributes or of simpleperf's symbol tables.
+// Parses a section of simpleperf's symbol tables or of attributes.
 fn push_section<T: FileOrder>(call: &Call<'_>, out: &mut Output) -> CaseResult {
+    let (alloc, bytes, endian) = (call.alloc, call.bytes, call.endian);
+    match call.case.call {
+        "parse_file_section" => out.push_result(&parse_file_section(alloc, bytes, endian)),
+        "parse_file2_section" => out.push_result(&parse_file2_section(alloc, bytes, endian)),
+        _ => return push_attribute_section::<T>(call, out),
+    }
+    Ok(())
+}
+
+// Parses a section of attributes.
+fn push_attribute_section<T: FileOrder>(call: &Call<'_>, out: &mut Output) -> CaseResult {
     let (alloc, mut source) = (call.alloc, call.script()?);
     let numbers = call.case.numbers(alloc, "section")?;
     let section = PerfFileSection {
@@ -232,14 +243,6 @@ fn push_section<T: FileOrder>(call: &Call<'_>, out: &mut Output) -> CaseResult {
     };
     let attr_size = call.case.number("attr-size", 0)?;
     let parsed = match call.case.call {
-        "parse_file_section" => {
-            out.push_result(&parse_file_section(alloc, call.bytes, call.endian));
-            return Ok(());
-        }
-        "parse_file2_section" => {
-            out.push_result(&parse_file2_section(alloc, call.bytes, call.endian));
-            return Ok(());
-        }
         "parse_event_desc_section" => {
             AttributeDescription::parse_event_desc_section::<_, T>(alloc, &mut source)
         }
