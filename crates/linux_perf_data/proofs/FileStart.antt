@@ -1,8 +1,8 @@
 -- An opening determines a file and an iterator over its records.
 use Rattle.std.proofs.Common.{◌≡◌, ℕ, List, drop, sym, ap, ◌∙◌, subst, Option, None, Some}
 use Rattle.std.specs.Prelude.{IfSome, Result, Ok, Err}
-use Rattle.perfdata_base.specs.Source.{State, Position, AfterSeek, RemainsFromPosition, remaining_from}
-use Rattle.perfdata_base.specs.declared.endian.Endianness.{Endianness}
+use Rattle.perfdata_sources.specs.Source.{State, Position, AfterSeek, RemainsFromPosition, remaining_from}
+use Rattle.perfdata_sources.specs.declared.endian.Endianness.{Endianness}
 use Rattle.perfdata_sections.specs.declared.error.Error.{Error}
 use Rattle.linux_perf_data.specs.declared.file.opening.FileOpening.{FileOpening}
 use Rattle.linux_perf_data.specs.declared.file_reader.PerfFileReader.{PerfFileReader}
@@ -12,14 +12,15 @@ use Rattle.linux_perf_data.specs.RecordInput.{section_size_in, input_source_stat
 use Rattle.linux_perf_data.specs.Layout.{SectionSize, RecordView, LayoutEnd, RemainingRecords}
 use Rattle.linux_perf_data.specs.Iter.{iter_source_state}
 use Rattle.linux_perf_data.specs.PerfFile.{endian_of_file, attributes_of_file}
-use Rattle.linux_perf_data.specs.FileOpening.{IsFileHeader, HoldsSections, section_data, DescribesAttributes, OpenedFileAt, FileOpened}
+use Rattle.linux_perf_data.specs.FileOpening.{IsFileHeader, HoldsSections, section_data, DescribesAttributes}
+use Rattle.linux_perf_data.specs.steps.FileOpening.{OpenedFileAt, FileOpened}
 use Rattle.linux_perf_data.specs.OpenedFile.{DescribesFile, StartsReader, BuildsReader, FileOpensAt, FileParsed, ParsesFile}
 
 module _ (attrs : List Attribute) (records : List RecordView) (end : LayoutEnd) where
   abbrev Comes : Option (List ℕ) → Endianness → SectionSize → ℕ → ℕ → Type 0
   Comes o order bound offset round = IfSome o (λ bytes. RemainingRecords order bytes bound offset round attrs records end)
 
-  remaining_there : (o o' : Option (List ℕ)) (e e' : Endianness) (s s' : SectionSize) (f f' r r' : ℕ) → o ≡ o' → e ≡ e' → s ≡ s' → f ≡ f' → r ≡ r' → Comes o e s f r → Comes o' e' s' f' r'
+  pub remaining_there : (o o' : Option (List ℕ)) (e e' : Endianness) (s s' : SectionSize) (f f' r r' : ℕ) → o ≡ o' → e ≡ e' → s ≡ s' → f ≡ f' → r ≡ r' → Comes o e s f r → Comes o' e' s' f' r'
   remaining_there o o' e e' s s' f f' r r' po pe ps pf pr comes =
       subst (λ x. Comes x e' s' f' r') po (subst (λ x. Comes o x s' f' r') pe (subst (λ x. Comes o e x f' r') ps (subst (λ x. Comes o e s x r') pf (subst (λ x. Comes o e s f x) pr comes))))
 

@@ -4,9 +4,9 @@ use Rattle.std.specs.Prelude.{◌⊎◌, IsSome, cond, nat_eq, if◌then◌else�
 use Rattle.std.specs.Map.{update_all, update}
 use Rattle.std.proofs.lemmas.Bool.{eq-eqb, eqb-true}
 use Rattle.std.proofs.lemmas.List.Sums.{fold-append}
-use Rattle.perfdata_base.specs.Features.{InsertsFeature}
-use Rattle.perfdata_base.specs.Endian.{number_in}
-use Rattle.perfdata_base.specs.declared.endian.Endianness.{Endianness}
+use Rattle.perfdata_identifiers.specs.Features.{InsertsFeature}
+use Rattle.perfdata_sources.specs.Endian.{number_in}
+use Rattle.perfdata_sources.specs.declared.endian.Endianness.{Endianness}
 use Rattle.perfdata_records.specs.HeaderFeature.{IsHeaderFeature}
 use Rattle.perfdata_records.specs.declared.user_record.HeaderFeature.{HeaderFeature}
 use Rattle.linux_perf_data.specs.Descriptions.{described_attributes}
@@ -14,7 +14,7 @@ use Rattle.linux_perf_data.specs.LateMetadata.{features_in_record}
 use Rattle.linux_perf_data.specs.Layout.{attributes_in_records, attributes_in_record, record_type_of}
 use Rattle.linux_perf_data.specs.Names.{feature_in_body}
 use Rattle.linux_perf_data.specs.PipeOpening.{features_in_records, feature_data_in}
-use Rattle.linux_perf_data.specs.PipeSteps.{RecordAdded, CollectsMetadata}
+use Rattle.linux_perf_data.specs.steps.PipeSteps.{RecordAdded, CollectsMetadata}
 use Rattle.linux_perf_data.specs.FeatureData.{feature_data_of}
 use Rattle.linux_perf_data.specs.declared.metadata_records.PipeMetadata.{PipeMetadata}
 
@@ -58,11 +58,11 @@ described_one order ps p n =
     ∙ ap (λ f. f n) (fold-append (λ (g : ℕ → Option (List ℕ)) (q : ℕ × List ℕ). update nat_eq g q.0 (Some q.1)) (λ _. None) (features_in_records order ps) (features_in_record order None (record_type_of order p) (drop 8 p)))
 
 -- the features that have data after an insertion
-is_some_of : (t : Bool) (d : List ℕ) (o : Option (List ℕ)) → IsSome (cond t (Some d) o) → IsSome o ⊎ (t ≡ true)
+pub is_some_of : (t : Bool) (d : List ℕ) (o : Option (List ℕ)) → IsSome (cond t (Some d) o) → IsSome o ⊎ (t ≡ true)
 is_some_of true d o some = inr refl
 is_some_of false d o some = inl some
 
-some_of : (t : Bool) (d : List ℕ) (o : Option (List ℕ)) → IsSome o ⊎ (t ≡ true) → IsSome (cond t (Some d) o)
+pub some_of : (t : Bool) (d : List ℕ) (o : Option (List ℕ)) → IsSome o ⊎ (t ≡ true) → IsSome (cond t (Some d) o)
 some_of true d o either = refl
 some_of false d o (inl some) = some
 some_of false d o (inr is) = absurd cc

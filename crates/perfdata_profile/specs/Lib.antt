@@ -8,8 +8,10 @@ pub mod Profiles
 pub mod Resolving
 pub mod SampleSums
 pub mod Samples
+pub mod Selecting
 pub mod Sums
 pub mod Interned
 pub mod Tallies
 pub mod Threads
 pub mod Values
+pub mod steps

@@ -49,6 +49,27 @@ pub fn open<C: PlacedSource>(is_pipe: bool, source: C) -> Opened<PerfRecordIter<
     Ok((reader.perf_file, reader.record_iter))
 }
 
+/// The call that reads a file whose recording wasn't finished, or whose end is missing.
+const UNFINISHED: &str = "read-unfinished";
+
+/// Opens the input of a call.
+fn open_input<C: PlacedSource>(call: &str, source: C) -> Opened<PerfRecordIter<C>> {
+    if call != UNFINISHED {
+        return open(is_pipe(call), source);
+    }
+    let reader = PerfFileReader::parse_unfinished_file(Global, source)?;
+    Ok((reader.perf_file, reader.record_iter))
+}
+
+/// Opens the input of a call in memory.
+fn open_input_in_memory<'a>(call: &str, bytes: &'a [u8]) -> Opened<InMemoryRecords<'a>> {
+    if call != UNFINISHED {
+        return open_in_memory(is_pipe(call), bytes);
+    }
+    let reader = InMemoryReader::parse_unfinished_file(Global, bytes)?;
+    Ok((reader.perf_file, reader.records))
+}
+
 /// Opens a file or a pipe in memory.
 pub fn open_in_memory(is_pipe: bool, bytes: &[u8]) -> Opened<InMemoryRecords<'_>> {
     let reader = match is_pipe {
@@ -179,7 +200,7 @@ impl Reading<'_> {
 
 impl SourceCall for Reading<'_> {
     fn push<C: PlacedSource>(&self, source: C, out: &mut Output) -> Tested {
-        self.push_opened(open(is_pipe(self.call.case.call), source), out)
+        self.push_opened(open_input(self.call.case.call, source), out)
     }
 }
 
@@ -189,8 +210,7 @@ impl SourceCall for Reading<'_> {
 /// With the option `of=NAMES` each line ends with the values of these accessors after its call. With `other=file` or `other=pipe` the
 /// calls get the `PerfFile` of the second input.
 pub fn push_reading(call: &Call<'_>, out: &mut Output) -> Tested {
-    let is_pipe = is_pipe(call.case.call);
-    let opened = open_in_memory(is_pipe, call.bytes);
+    let opened = open_input_in_memory(call.case.call, call.bytes);
     let first_offset = opened
         .as_ref()
         .map_or(0, |(_, records)| records.first_record_offset());
