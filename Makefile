@@ -12,7 +12,7 @@ help: ## lists the targets
 try: ## shows perffold's table of a recording of a Rust program, by cargo: make try FILE=perf.data for another recording
 	scripts/try $(FILE)
 
-test: ## runs the cases and the other tests of rust/tests by cargo, before any proof: two minutes
+test: ## runs the cases and the other tests of rust/tests by cargo, before any proof: two minutes of processor time
 	scripts/test
 
 check: ## the gate: every proof, must-fail edit and test, the programs and the C library

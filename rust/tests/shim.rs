@@ -122,6 +122,27 @@ fn sorts_are_stable() {
     }
 }
 
+// Ascending keys, some of which are late: by none, by little, and those of several writers in turn.
+#[test]
+fn late_elements_are_merged() {
+    let mut numbers = Numbers(11);
+    for len in [2, 3, 40, 3000] {
+        let mut inputs: Vec<Vec<u64>> = vec![(0..len).collect(), (0..len).rev().collect()];
+        inputs.push((0..len).map(|index| if numbers.below(8) == 0 { 0 } else { index / 3 }).collect());
+        inputs.push((0..len).map(|index| index + numbers.below(20)).collect());
+        inputs.push((0..len).map(|index| index % (len / 2)).collect());
+        inputs.push((0..len).map(|index| if index == 0 { len } else { index }).collect());
+        for input in inputs {
+            let items: Vec<(u64, usize)> = input.into_iter().enumerate().map(|(position, key)| (key, position)).collect();
+            let mut expected = items.clone();
+            expected.sort_by_key(|item| item.0);
+            let mut sorted = items;
+            sorted.sort_by_key_in(Global, |item| item.0).expect("memory");
+            assert_eq!(sorted, expected);
+        }
+    }
+}
+
 #[test]
 fn owners_share_a_value_that_the_last_one_drops() {
     struct Counted<'a>(&'a Cell<u32>);

@@ -7,7 +7,7 @@ use Rattle.std.specs.Borrow.{Bor}
 use Rattle.std.specs.List.{concat}
 use Rattle.perfdata_sections.specs.declared.error.Error.{Error}
 use Rattle.std.specs.Io.Cursor.{cursor_inner, cursor_position}
-use Rattle.perfdata_sources.specs.Source.{State, Position, AfterSeek, memory_source_at, prepend, all_bytes_of, Consumed}
+use Rattle.perfdata_sources.specs.Source.{State, Position, memory_source_at, prepend, all_bytes_of, Consumed}
 use Rattle.linux_perf_data.specs.declared.records.input.RecordInput.{RecordInput}
 use Rattle.linux_perf_data.specs.declared.records.input.RecordInput.TheVariants.{Section, Pipe}
 use Rattle.linux_perf_data.specs.declared.records.iter.IdentifiedRecord.{IdentifiedRecord}
@@ -93,14 +93,6 @@ abbrev bytes_in : Option (List ℕ) → List ℕ
 bytes_in None = []
 bytes_in (Some bytes) = bytes
 
--- the iterator at the first record of a section in these bytes is in place
-pub section_in_place : (bytes : List ℕ) (it : MemoryIter) → (size : ℕ) × (section_size_in it.input ≡ Some size) → AfterSeek (memory_source_at bytes 0) (iter_source_state memory_state it) → it.offset ≡ 0 → IsInPlace it bytes (cursor_position it.source)
-section_in_place bytes it in_section after_seek start = λ runs.
-    let view = section_view it.input in_section.0 (memory_state it.source) in_section.1 in
-    let all : (cursor_inner it.source).now ≡ bytes = ap (λ s. bytes_in (all_bytes_of s.position)) (sym view) ∙ ap bytes_in after_seek.all_bytes in
-    let at : cursor_position it.source ≡ cursor_position it.source + it.offset = omega (arith, start) in
-    ap (λ s. s.bytes) view ∙ ap (λ l. Some (drop (cursor_position it.source) l)) all ∙ ap (λ n. Some (drop n bytes)) at
-
 -- the bytes of the cursor of an opened file
 pub file_bytes : (bytes : List ℕ) (file : PerfFile) (it : MemoryIter) → FileParsed memory_state (memory_source_at bytes 0) file it → (cursor_inner it.source).now ≡ bytes
 file_bytes bytes file it parsed =
@@ -108,7 +100,12 @@ file_bytes bytes file it parsed =
 
 -- the iterator of an opened file is in place
 pub file_in_place : (bytes : List ℕ) (file : PerfFile) (it : MemoryIter) → FileParsed memory_state (memory_source_at bytes 0) file it → IsInPlace it bytes (cursor_position it.source)
-file_in_place bytes file it parsed = section_in_place bytes it parsed.in_section parsed.after_seek parsed.at_first_record.offset
+file_in_place bytes file it parsed = λ runs.
+    let view = section_view it.input parsed.in_section.0 (memory_state it.source) parsed.in_section.1 in
+    let all = file_bytes bytes file it parsed in
+    let start = parsed.at_first_record.offset in
+    let at : cursor_position it.source ≡ cursor_position it.source + it.offset = omega (arith, start) in
+    ap (λ s. s.bytes) view ∙ ap (λ l. Some (drop (cursor_position it.source) l)) all ∙ ap (λ n. Some (drop n bytes)) at
 
 -- the iterator of an opened pipe is in place: the header of its first record was read ahead
 pub pipe_in_place : (bytes : List ℕ) (file : PerfFile) (it : MemoryIter) → PipeParsed memory_state (memory_source_at bytes 0) file it → IsInPlace it bytes (cursor_position it.source - 8)

@@ -127,7 +127,6 @@ pub struct InMemoryReader<'a> {
 
 impl<'a> InMemoryReader<'a> {
     ghost use Rattle.linux_perf_data.specs.InMemoryReading.{ParsesFileInMemory, ParsesPipeInMemory};
-    ghost use Rattle.linux_perf_data.specs.UnfinishedFile.{ParsesUnfinishedFileInMemory};
 
     /// Opens a perf.data file in memory, as `PerfFileReader::parse_file` does.
     ///
@@ -138,31 +137,6 @@ impl<'a> InMemoryReader<'a> {
         ensures { ParsesFileInMemory bytes.now result }
     {
         let reader = PerfFileReader::parse_file(alloc, Cursor::new(bytes))?;
-        let first_record_offset = reader.record_iter.source.position();
-        let records = InMemoryRecords {
-            records: reader.record_iter,
-            input: bytes,
-            first_record_offset,
-        };
-        Ok(InMemoryReader {
-            perf_file: reader.perf_file,
-            records,
-        })
-    }
-
-    /// Opens a perf.data file in memory whose recording wasn't finished, or whose end is missing, as
-    /// `PerfFileReader::parse_unfinished_file` does.
-    ///
-    /// # Errors
-    ///
-    /// The errors are those of `PerfFileReader::parse_unfinished_file`.
-    pub fn parse_unfinished_file(
-        alloc: Global,
-        bytes: &'a [u8],
-    ) -> Result<InMemoryReader<'a>, Error>
-        ensures { ParsesUnfinishedFileInMemory bytes.now result }
-    {
-        let reader = PerfFileReader::parse_unfinished_file(alloc, Cursor::new(bytes))?;
         let first_record_offset = reader.record_iter.source.position();
         let records = InMemoryRecords {
             records: reader.record_iter,

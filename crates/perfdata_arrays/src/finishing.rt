@@ -31,6 +31,7 @@ pub struct FinishResult {
 }
 
 // Bytes that are written one after another into an array, up to its capacity.
+#[derive(Drop)]
 struct Output<'a> {
     array: &'a mut [u8],
     size: u64,

@@ -185,7 +185,7 @@ impl Display for InputError {
                 let features = if *has_features {
                     ""
                 } else {
-                    ": and no features"
+                    ": no features either"
                 };
                 write!(
                     f,

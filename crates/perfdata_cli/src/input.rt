@@ -231,7 +231,7 @@ pub fn open_in_memory(
 }
 
 // Buffers a reader. Fails if the allocation of the buffer fails.
-fn with_buffer<R: Read + Drop>(alloc: Global, reader: R) -> Result<CountedBuffer<R>>
+pub(crate) fn with_buffer<R: Read + Drop>(alloc: Global, reader: R) -> Result<CountedBuffer<R>>
     ensures counts { IfOk result (λ s. buffered_state s ≡ opaque_source 0 0) }
     ensures empty { IfOk result (λ s. counted_buffer_bytes s ≡ []) }
 {

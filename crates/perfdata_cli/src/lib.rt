@@ -1,5 +1,5 @@
-//! What the programs share: their command lines and options, inputs, records in order of time, outputs, errors
-//! and progress.
+//! What the programs share: their command lines and options, inputs, records in order of time, outputs,
+//! errors and progress.
 #![tactic(auto)]
 
 pub mod args;

@@ -1,8 +1,8 @@
 //! The opening of a recording: a pipe, or a file, also one that isn't finished or whose end is missing.
 
 use crate::error::InputError;
-use crate::input::OpenInput;
-use crate::input_bytes::Source;
+use crate::input::{OpenInput, with_buffer};
+use crate::input_bytes::{InputBytes, Source};
 use linux_perf_data::in_memory::InMemoryReader;
 use linux_perf_data::truncation::{Completeness, find_whole_parts};
 use linux_perf_data::{
@@ -116,6 +116,13 @@ impl Recording {
         };
         opened.map_err(InputError::Metadata)
     }
+
+    /// Opens a file with these bytes. Fails with `Metadata` if its metadata can't be read.
+    pub fn open_bytes(alloc: Global, bytes: Vec<u8>) -> Result<Recording, InputError> {
+        let bytes = InputBytes::Memory(Cursor::new(bytes));
+        let source = with_buffer(alloc, bytes).map_err(InputError::Io)?;
+        open_file(alloc, source).map_err(InputError::Metadata)
+    }
 }
 
 /// The records of a recording in the order in which they apply.
@@ -161,13 +168,10 @@ pub struct RecordingInMemory<'a> {
     pub kind: RecordingKind,
 }
 
-// Opens a file in memory, as an unfinished one unless it is complete.
+// Opens a complete file in memory.
 fn open_file_in_memory(alloc: Global, bytes: &[u8]) -> Result<RecordingInMemory<'_>, Error> {
     let kind = RecordingKind::of_file(alloc, &mut Cursor::new(bytes))?;
-    let reader = match kind.completeness {
-        Completeness::Complete => InMemoryReader::parse_file(alloc, bytes)?,
-        _ => InMemoryReader::parse_unfinished_file(alloc, bytes)?,
-    };
+    let reader = InMemoryReader::parse_file(alloc, bytes)?;
     Ok(RecordingInMemory { reader, kind })
 }
 
@@ -180,7 +184,15 @@ fn open_pipe_in_memory(alloc: Global, bytes: &[u8]) -> Result<RecordingInMemory<
     })
 }
 
-/// Opens a pipe or a file in memory. Fails with `Metadata` if its metadata can't be read.
+/// Returns whether a file in memory is complete. Fails with `Metadata` if its header can't be read.
+pub fn is_complete_file(alloc: Global, bytes: &[u8]) -> Result<bool, InputError> {
+    match RecordingKind::of_file(alloc, &mut Cursor::new(bytes)) {
+        Ok(kind) => Ok(kind.completeness == Completeness::Complete),
+        Err(error) => Err(InputError::Metadata(error)),
+    }
+}
+
+/// Opens a pipe or a complete file in memory. Fails with `Metadata` if its metadata can't be read.
 pub fn open_recording_in_memory(
     alloc: Global,
     bytes: &[u8],

@@ -66,8 +66,8 @@ impl<'a> TextOutput<'a> {
         }
     }
 
-    /// Writes a text and clears it, if it is long. Fails if it can't be written, and removes the file that isn't
-    /// whole.
+    /// Writes a text and clears it, if it is long. Fails if it can't be written, and removes the file that
+    /// isn't whole.
     pub fn add(&mut self, text: &mut Vec<u8>) -> io::Result<()> {
         if text.len() < PART_SIZE {
             return Ok(());

@@ -296,8 +296,12 @@ impl<'a> Symbols<'a> {
             return Ok(None);
         };
         let address = frame.frame.lookup_address();
+        let of_kernel = match table {
+            TableId::Kernel => self.kernel.find_index(files, mapping, address)?,
+            _ => None,
+        };
         let index = match (table, self.table(files, table)) {
-            (TableId::Kernel, _) => self.kernel.find_index(files, mapping, address)?,
+            (TableId::Kernel, _) => of_kernel,
             (_, Some(view)) => view.find_index(address, mapping),
             (_, None) => None,
         };

@@ -129,12 +129,13 @@ impl<'a> EventTable<'a> {
     pub fn add_events(&mut self, perf_file: &PerfFile) -> Result<(), AllocError> {
         let known = self.rows.len();
         for (index, event) in perf_file.event_attributes().iter().enumerate().skip(known) {
-            self.rows.push(EventRow {
+            let row = EventRow {
                 first_of_name: first_of_name(perf_file, index, event),
                 is_listed: self.is_listed(index, event),
                 samples: 0,
                 counted: SampleSummary::NONE,
-            })?;
+            };
+            self.rows.push(row)?;
         }
         Ok(())
     }

@@ -54,8 +54,8 @@ impl RecordNotes {
         }
     }
 
-    /// Applies a record, in order of time. Returns the process and the address of the first executable mapping
-    /// of the program that was executed, if the record has it.
+    /// Applies a record, in order of time. Returns the process and the address of the first executable
+    /// mapping of the program that was executed, if the record has it.
     ///
     /// Fails if memory runs out.
     pub fn apply(&mut self, record: &EventRecord<'_>) -> Result<Option<(i32, u64)>, AllocError> {

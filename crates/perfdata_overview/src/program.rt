@@ -56,8 +56,8 @@ impl ExecutedProgram {
         }
     }
 
-    /// Applies a record, in order of time. Returns the process and the address of the first executable mapping
-    /// of the program, if the record has it.
+    /// Applies a record, in order of time. Returns the process and the address of the first executable
+    /// mapping of the program, if the record has it.
     ///
     /// Fails if memory runs out.
     pub fn apply(&mut self, record: &EventRecord<'_>) -> Result<Option<(i32, u64)>, AllocError> {

@@ -100,3 +100,13 @@ first_totals es new key before total weight samples_are weight_is total_is is =
       omega (arith, sum_by_push entry_samples es one, ap (sum_by entry_samples) is),
       omega (arith, sum_by_push entry_weight es one, ap (sum_by entry_weight) is),
     )
+
+-- The totals after an entry with a new key.
+pub pushed_totals : (es new : List (SampleKey × Sums)) (key : SampleKey) (sums before total : Sums) → before.samples ≡ sum_by entry_samples es
+    → before.weight ≡ sum_by entry_weight es → total.samples ≡ before.samples + sums.samples → total.weight ≡ before.weight + sums.weight
+    → new ≡ es ++ (key, sums) ∷ [] → (total.samples ≡ sum_by entry_samples new) × (total.weight ≡ sum_by entry_weight new)
+pushed_totals es new key sums before total samples_are weight_is samples_total weight_total is =
+    let one : SampleKey × Sums = (key, sums) in (
+      omega (arith, samples_are, samples_total, sum_by_push entry_samples es one, ap (sum_by entry_samples) is),
+      omega (arith, weight_is, weight_total, sum_by_push entry_weight es one, ap (sum_by entry_weight) is),
+    )

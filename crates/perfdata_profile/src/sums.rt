@@ -99,6 +99,16 @@ impl Sums {
             weight: checked_sum(self.weight, weight)?,
         })
     }
+
+    // Returns these sums with others added, if both numbers are below 2^63.
+    fn checked_sum(self, more: Sums) -> Option<Sums>
+        ensures { IfSome result (λ total. (total.samples ≡ self.samples + more.samples)
+            × (total.weight ≡ self.weight + more.weight)) }
+    {
+        let samples = checked_sum(self.samples, more.samples)?;
+        let weight = checked_sum(self.weight, more.weight)?;
+        Some(Sums { samples, weight })
+    }
 }
 
 // Adds a sample to the sums with an index.
@@ -179,14 +189,15 @@ impl SampleSums {
 
     // Adds a key that wasn't counted before, with its sums.
     fn add_entry(&mut self, key: SampleKey, sums: Sums) -> Result<(), ProfileError> {
-        let samples = checked_sum(self.total.samples, sums.samples).ok_or(ProfileError::Overflow)?;
-        let weight = checked_sum(self.total.weight, sums.weight).ok_or(ProfileError::Overflow)?;
-        if self.entries.get_index_of(&key).is_some() {
+        let Some(total) = self.total.checked_sum(sums) else {
+            return Err(ProfileError::Overflow);
+        };
+        if let Some(_index) = self.entries.get_index_of(&key) {
             return Ok(());
         }
         match self.entries.insert(key, sums) {
             Ok(_) => {
-                self.total = Sums { samples, weight };
+                self.total = total;
                 Ok(())
             }
             Err(_) => Err(ProfileError::Memory),

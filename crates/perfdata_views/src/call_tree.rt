@@ -1,5 +1,5 @@
-//! The call tree of a profile as text, as `perf report` prints it: below the name of each thread the functions
-//! that its stacks start with.
+//! The call tree of a profile as text, as `perf report` prints it: below the name of each thread the
+//! functions that its stacks start with.
 
 use crate::entry_tree::{EntryTree, entry_tree};
 use crate::lines::push_thread;
@@ -173,7 +173,8 @@ fn by_weight(branches: &[Branch<'_>], first: usize, second: usize) -> Ordering {
     }
 }
 
-// Takes the last of some nodes, those that are deeper than a node. Returns them in the order of their weights.
+// Takes the last of some nodes, those that are deeper than a node. Returns them in the order of their
+// weights.
 fn take_children(
     alloc: Global,
     nodes: &[Node],
@@ -196,8 +197,8 @@ fn take_children(
     Ok(children)
 }
 
-// Returns the nodes with those directly below each, and at last one with the threads. In a tree a node follows
-// those in it.
+// Returns the nodes with those directly below each, and at last one with the threads. In a tree a node
+// follows those in it.
 fn branches<'a>(
     alloc: Global,
     tree: &'a EntryTree,

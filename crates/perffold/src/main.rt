@@ -153,10 +153,7 @@ fn fold<'a>(
     );
     let read = read.map_err(|error| output_error(arguments, error))?;
     progress.finish();
-    let read = match read {
-        Ok(records) => kind.check_end(records),
-        Err(error) => Err(error),
-    };
+    let read = read.and_then(|records| kind.check_end(records));
     let counted = counter
         .finish(&perf_file)
         .map_err(|_| InputError::OutOfMemory)?;

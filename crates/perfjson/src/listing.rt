@@ -10,7 +10,8 @@ use perfdata_cli::input_bytes::Source;
 use perfdata_cli::position::Position;
 use perfdata_cli::progress::Progress;
 use perfdata_cli::recording::{
-    Recording, RecordingInMemory, RecordingKind, open_recording_in_memory,
+    Recording, RecordingInMemory, RecordingKind, RecordingRecords, is_complete_file,
+    open_recording_in_memory,
 };
 use perfdata_json::JsonLine;
 use perfdata_listing::{
@@ -118,6 +119,49 @@ fn list_pipe(
     finish(listed, position, unlisted, &mut out)
 }
 
+// Writes a line for each record of an unfinished file. Returns the number of lines.
+fn list_unfinished_records(
+    records: &mut RecordingRecords,
+    perf_file: &mut PerfFile,
+    line: &mut JsonLine,
+    out: &mut Output,
+) -> Result<u64, ListFault> {
+    let mut lines = 0u64;
+    for _ in 0..u64::MAX {
+        let written = match records.next_record(perf_file) {
+            Ok(Some((place, record))) => write_record(place, &record, perf_file, line, out),
+            Ok(None) => break,
+            Err(error) => Err(ListCause::Perf(error)),
+        };
+        if let Err(cause) = written {
+            return Err(ListFault { lines, cause });
+        }
+        lines = lines.saturating_add(1);
+    }
+    Ok(lines)
+}
+
+// Lists an unfinished file in order of time.
+fn list_unfinished_by_time(
+    rt: &HostRuntime,
+    byte_limit: usize,
+    bytes: Vec<u8>,
+) -> Result<(), ProgramError> {
+    let Recording { reader, kind } = Recording::open_bytes(rt.alloc(), bytes)?;
+    let mut perf_file = reader.perf_file;
+    let mut records = RecordingRecords::new(rt.alloc(), kind, &perf_file, reader.record_iter);
+    let mut line = JsonLine::new(rt.alloc(), byte_limit);
+    let mut out = output(rt)?;
+    let listed = list_unfinished_records(&mut records, &mut perf_file, &mut line, &mut out);
+    let lines = line_count(&listed);
+    let position = Position {
+        records: lines,
+        offset: None,
+    };
+    finish(listed, position, None, &mut out)?;
+    Ok(kind.check_end(lines)?)
+}
+
 // Lists an input in order of time. The input is read into memory.
 fn list_input_by_time(
     rt: &HostRuntime,
@@ -126,6 +170,9 @@ fn list_input_by_time(
     is_pipe: bool,
 ) -> Result<(), ProgramError> {
     let bytes = input.into_bytes().map_err(InputError::Io)?;
+    if !is_pipe && !is_complete_file(rt.alloc(), &bytes)? {
+        return list_unfinished_by_time(rt, byte_limit, bytes);
+    }
     let RecordingInMemory { reader, kind } = open_recording_in_memory(rt.alloc(), &bytes, is_pipe)?;
     let mut out = output(rt)?;
     let mut line = RecordLine::new(JsonLine::new(rt.alloc(), byte_limit), kind);
@@ -147,8 +194,8 @@ fn line_count(listed: &Result<u64, ListFault>) -> u64 {
     }
 }
 
-/// Flushes the lines, unless the output has failed. Fails with the error of the record that ended the listing,
-/// if one did, else with the error of the listing, or else with that of the flush.
+/// Flushes the lines, unless the output has failed. Fails with the error of the record that ended the
+/// listing, if one did, else with the error of the listing, or else with that of the flush.
 pub(crate) fn finish(
     listed: Result<u64, ListFault>,
     position: Position,

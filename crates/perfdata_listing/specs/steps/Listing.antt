@@ -28,7 +28,7 @@ module _ (IsLine : RecordView → List ℕ → Type 0) (allocates : Bool) where
         (file' : PerfFile) : Type 0 where
       pub records : List RecordView
       pub count : lines ≡ length records
-      pub appends : WritesLines before after records
+      pub appends : WritesLines IsLine allocates before after records
       pub prefix : AreFirstRemaining state old records
       pub complete : old.stage ≡ Running → EndsComplete state old records new
       pub none_if_ended : old.stage ≡ Ended → records ≡ []
@@ -39,7 +39,7 @@ module _ (IsLine : RecordView → List ℕ → Type 0) (allocates : Bool) where
       pub was_running : old.stage ≡ Running
       pub records : List RecordView
       pub count : lines ≡ length records
-      pub appends : WritesLines before after records
+      pub appends : WritesLines IsLine allocates before after records
       pub prefix : AreFirstRemaining state old records
       pub cause : e ≢ Memory → EndsWithError state old records e
           ⊎ SourceErrorInSomeRecord old.endian (section_size_of state old) (iter_source_state state old) e (iter_source_state state new)
@@ -50,7 +50,7 @@ module _ (IsLine : RecordView → List ℕ → Type 0) (allocates : Bool) where
       pub records : List RecordView
       pub next : RecordView
       pub count : lines ≡ length records
-      pub wrote : WrotePrefix before after records next
+      pub wrote : WrotePrefix IsLine allocates before after records next
       pub prefix : AreFirstRemaining state old (records ++ next ∷ [])
 
     -- the first records are listed, and then the flush of their lines before a possible wait fails
@@ -58,7 +58,7 @@ module _ (IsLine : RecordView → List ℕ → Type 0) (allocates : Bool) where
       pub was_running : old.stage ≡ Running
       pub records : List RecordView
       pub count : lines ≡ length records
-      pub appends : WritesLines before after records
+      pub appends : WritesLines IsLine allocates before after records
       pub prefix : AreFirstRemaining state old records
 
     abbrev pub ListingFails : PerfRecordIter R → Option (List ℕ) → Option (List ℕ) → ℕ → ListCause → PerfRecordIter R → Type 0

@@ -11,7 +11,7 @@ use Rattle.perfdata_order.specs.declared.streaming.BodyBuffer.TheVariants.{Sorte
 use Rattle.perfdata_order.specs.declared.streaming.OrderedRecords.{OrderedRecords}
 use Rattle.perfdata_order.specs.HeldRecord.{view_with, held_view}
 use Rattle.perfdata_order.specs.Sorter.{available_of, RoundEnded, AllRoundsEnded}
-use Rattle.perfdata_order.specs.StreamingOrder.{Unplaced, unplaced_of, budget_of, SameBudget, SameOrder, FitsBudget, HalfReleasedEarly, ReturnsSorted, KeepsSorter, body_in}
+use Rattle.perfdata_order.specs.StreamingOrder.{Unplaced, nothing, waiting, ending, failing, failed, unplaced_of, budget_of, SameBudget, SameOrder, FitsBudget, HalfReleasedEarly, ReturnsSorted, KeepsSorter, body_in}
 
 -- Neither the end nor an error was read.
 abbrev pub IsOngoing : Unplaced → Type 0
