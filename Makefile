@@ -1,7 +1,7 @@
-# The commands of this repository. Each calls rt or a script; `make` lists them. `make test` takes cargo, and `make try` does where rt isn't installed.
+# The commands of this repository. Each calls rt or a script; `make` lists them. `make try` and `make test` take cargo.
 PREFIX ?= /usr/local
 DESTDIR ?=
-FILE ?= tests/recordings/several.data
+FILE ?=
 export DESTDIR PREFIX
 
 .PHONY: help try test check programs lib install dist wheel clean
@@ -9,29 +9,29 @@ export DESTDIR PREFIX
 help: ## lists the targets
 	@sed -n 's/^\([a-z]*\):.*## /\1\t/p' Makefile
 
-try: ## lists FILE before any proof: make try FILE=perf.data
-	packaging/try "$(FILE)"
+try: ## shows perffold's table of a recording of a Rust program, by cargo: make try FILE=perf.data for another recording
+	scripts/try $(FILE)
 
 test: ## runs the cases and the other tests of rust/tests by cargo, before any proof: two minutes of processor time
-	packaging/test
+	scripts/test
 
 check: ## the gate: every proof, must-fail edit and test, the programs and the C library
 	.ci/run
 
 programs: ## proves and builds perflist, perfinfo, perfjson and perffold, those whose sources changed
-	packaging/build_programs
+	scripts/build_programs
 
 lib: ## proves and builds libdewikura.a and libdewikura.so in crates/dewikura/out/install, if their sources changed
-	packaging/build_library
+	scripts/build_library
 
-install: lib programs ## installs the library, header, dewikura.pc, programs and man pages below PREFIX (and DESTDIR)
-	packaging/install
+install: lib programs ## installs the library, header, dewikura.pc, programs, man pages and completions below PREFIX (and DESTDIR)
+	scripts/install
 
 dist: lib programs ## a tarball of what install installs, for machines without the kit
-	packaging/dist
+	scripts/dist
 
 wheel: lib ## the Python package with the library, for machines without the kit
-	cd python && python3 -B -c 'import build_backend; print(build_backend.build_wheel(".."))'
+	cd bindings/python && python3 -B -c 'import build_backend; print(build_backend.build_wheel(".."))'
 
 clean: ## removes what rt and cargo built
 	rm -rf crates/*/out target

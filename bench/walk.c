@@ -205,7 +205,7 @@ static uint64_t read_samples(const char *mode, const uint8_t *bytes, size_t size
     if (strcmp(mode, "samples")) own_samples(bytes, &all);
     if (!strcmp(mode, "own-samples")) return all.count;
     Samples found = {reserve(capacity * sizeof *all.samples), reserve(capacity * sizeof *all.frames), 0, 0};
-    if (dewikura_read_file_samples(bytes, size, NULL, found.samples, capacity, &found.count, found.frames, capacity, &found.frames_count)) exit(2);
+    if (dewikura_read_file_samples(bytes, size, &(struct dewikura_cursor){0, 0}, found.samples, capacity, &found.count, found.frames, capacity, &found.frames_count)) exit(2);
     if (strcmp(mode, "samples")
         && (found.count != all.count || memcmp(found.samples, all.samples, all.count * sizeof *all.samples) || found.frames_count != all.frames_count
             || memcmp(found.frames, all.frames, all.frames_count * sizeof *all.frames))) exit(3);
@@ -239,11 +239,11 @@ int main(int argc, char **argv) {
     else if (!strcmp(argv[1], "compare")) {
         struct dewikura_record *others = calloc(total = own(bytes, records), sizeof *others);
         uint64_t count = 0;
-        if (!others || dewikura_read_file_records(bytes, size, NULL, others, total, &count)) return 2;
+        if (!others || dewikura_read_file_records(bytes, size, &(struct dewikura_cursor){0, 0}, others, total, &count)) return 2;
         if (count != total || memcmp(records, others, total * sizeof *others)) return 3;
     }
     else if (!strcmp(argv[1], "pages")) total = pages(bytes, size, records);
-    else if (dewikura_read_file_records(bytes, size, NULL, records, capacity, &total)) return 2;
+    else if (dewikura_read_file_records(bytes, size, &(struct dewikura_cursor){0, 0}, records, capacity, &total)) return 2;
     printf("%" PRIu64 "\n", total);
     return 0;
 }

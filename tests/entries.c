@@ -2,6 +2,7 @@
 // name or path in hexadecimal; then a line with the status of each call. Before that it reads them once more with small arrays, the entries
 // of a file in pages, and fails if anything differs. Then it prints a line for the details of each sample, with their numbers and the bytes
 // of their parts, and one for each counter value of a sample or a READ record.
+#include "arguments.h"
 #include "dewikura.h"
 #include <inttypes.h>
 #include <stdio.h>
@@ -70,7 +71,7 @@ static void check_few(reader *read, size_t entry_size, const uint8_t *wanted, ui
     size_t written = wanted_count < 3 ? (size_t)wanted_count : 3;
     uint64_t count;
     memset(few, 0xaa, sizeof few);
-    if (read(NULL, few, 3, &count) != wanted_status || count != wanted_count)
+    if (read(FIRST, few, 3, &count) != wanted_status || count != wanted_count)
         fail("another count with a small array", count);
     if (memcmp(few, wanted, written * entry_size))
         fail("other entries in a small array", 0);
@@ -84,7 +85,7 @@ static void *read_all(reader *read, size_t entry_size, uint64_t *count, dewikura
     uint8_t *all = calloc(capacity + 1, entry_size);
     if (!all)
         exit(2);
-    *status = read(NULL, all, capacity, count);
+    *status = read(FIRST, all, capacity, count);
     if (is_pipe) {
         check_few(read, entry_size, all, *count, *status);
     } else {
@@ -182,7 +183,7 @@ static void print_counters(void)
     dewikura_status status;
     if (!all)
         exit(2);
-    status = read_counters(NULL, all, capacity, &count);
+    status = read_counters(FIRST, all, capacity, &count);
     if (is_pipe) {
         check_few(read_counters, sizeof *all, (const uint8_t *)all, count, status);
     } else {
@@ -234,10 +235,10 @@ static void print_details(void)
     dewikura_status ignored;
     if (is_pipe) {
         ignored = dewikura_read_pipe_records(data, size, 0, records, capacity, &count);
-        ignored = dewikura_read_pipe_attrs(data, size, attrs, capacity, NULL, 0, NULL, 0, NULL);
+        ignored = dewikura_read_pipe_attrs(data, size, attrs, capacity, NONE, 0, NONE, 0, IGNORED(0));
     } else {
-        ignored = dewikura_read_file_records(data, size, NULL, records, capacity, &count);
-        ignored = dewikura_read_file_attrs(data, size, attrs, capacity, NULL, 0, NULL, 0, NULL);
+        ignored = dewikura_read_file_records(data, size, FIRST, records, capacity, &count);
+        ignored = dewikura_read_file_attrs(data, size, attrs, capacity, NONE, 0, NONE, 0, IGNORED(0));
     }
     (void)ignored;
     for (i = 0; i < count; i++)

@@ -1,5 +1,6 @@
-// Compares each field of each struct of include/dewikura.h, by its name, with an input in which the fields have different numbers. Also
-// makes each call with NULL for an empty input and empty arrays, and reads the version and the texts of the statuses.
+// Compares each field of each struct of dewikura.h, by its name, with an input in which the fields have different numbers. Also
+// makes each call with an empty input and empty arrays, and reads the version and the texts of the statuses.
+#include "arguments.h"
 #include "dewikura.h"
 #include <inttypes.h>
 #include <stdio.h>
@@ -174,7 +175,7 @@ static void check_file(void)
     CHECK(records[0].misc, 0x4001);
     CHECK(records[0].has_timestamp, 1);
     CHECK(records[0].has_attr, 1);
-    CHECK(dewikura_read_file_records(input, size, NULL, records, 1, NULL), DEWIKURA_OK);
+    CHECK(dewikura_read_file_records(input, size, FIRST, records, 1, IGNORED(0)), DEWIKURA_OK);
     CHECK(records[0].timestamp, 0);
     CHECK(records[0].attr_index, 0);
     CHECK(records[0].has_timestamp, 0);
@@ -222,7 +223,7 @@ static void check_file(void)
     CHECK(is_present, 1);
     CHECK(feature_size, 16);
     CHECK(strcmp(names, "feature of 64.."), 0);
-    CHECK(dewikura_read_file_feature(input, size, 66, NULL, 0, &is_present, NULL), DEWIKURA_OK);
+    CHECK(dewikura_read_file_feature(input, size, 66, NONE, 0, &is_present, IGNORED(0)), DEWIKURA_OK);
     CHECK(is_present, 0);
 }
 
@@ -334,11 +335,11 @@ static void check_samples(void)
     CHECK(dewikura_read_file_samples(input, size, &cursor, samples, 4, &count, frames, 4, &frames_count), DEWIKURA_OK);
     CHECK(count | frames_count, 0);
     CHECK(cursor.offset, 256);
-    CHECK(dewikura_read_file_samples(input, size, NULL, samples, 1, NULL, NULL, 0, NULL), DEWIKURA_OK);
+    CHECK(dewikura_read_file_samples(input, size, FIRST, samples, 1, IGNORED(0), NONE, 0, IGNORED(1)), DEWIKURA_OK);
     CHECK(samples[0].frames_count, 0);
     CHECK(samples[0].fields, words | DEWIKURA_SAMPLE_CALLCHAIN);
     put_at(256 + 8 + 128 + 96 + 6, 7, 2); // a record size below that of a record header
-    CHECK(dewikura_read_file_samples(input, size, NULL, samples, 4, &count, frames, 4, &frames_count), DEWIKURA_BAD_RECORD_SIZE);
+    CHECK(dewikura_read_file_samples(input, size, FIRST, samples, 4, &count, frames, 4, &frames_count), DEWIKURA_BAD_RECORD_SIZE);
     CHECK(count, 2);
     CHECK(frames_count, 3);
 }
@@ -406,7 +407,7 @@ static void check_tasks(void)
     CHECK(tasks[1].timestamp, 0x907);
     CHECK(tasks[1].type, DEWIKURA_RECORD_EXIT);
     CHECK(tasks[2].type, 0xabababab);
-    CHECK(dewikura_read_file_tasks(NULL, 0, NULL, NULL, 0, NULL), DEWIKURA_TRUNCATED);
+    CHECK(dewikura_read_file_tasks(NONE, 0, FIRST, NONE, 0, IGNORED(0)), DEWIKURA_TRUNCATED);
 }
 
 // A file with one attribute, and three mappings: by an inode, by a build id, and without an identity; then one that is truncated.
@@ -498,9 +499,9 @@ static void check_mappings(void)
     CHECK(mappings[0].pid, 0x901);
     CHECK(mappings[0].tid, 0x902);
     CHECK(mappings[0].build_id_size | mappings[0].is_data | mappings[0].misc, 0);
-    CHECK(dewikura_read_file_mappings(NULL, 0, NULL, NULL, 0, NULL), DEWIKURA_TRUNCATED);
-    CHECK(dewikura_read_pipe_mappings(NULL, 0, NULL, 0, NULL), DEWIKURA_TRUNCATED);
-    CHECK(dewikura_read_pipe_tasks(NULL, 0, NULL, 0, NULL), DEWIKURA_TRUNCATED);
+    CHECK(dewikura_read_file_mappings(NONE, 0, FIRST, NONE, 0, IGNORED(0)), DEWIKURA_TRUNCATED);
+    CHECK(dewikura_read_pipe_mappings(NONE, 0, NONE, 0, IGNORED(0)), DEWIKURA_TRUNCATED);
+    CHECK(dewikura_read_pipe_tasks(NONE, 0, NONE, 0, IGNORED(0)), DEWIKURA_TRUNCATED);
 }
 
 static void check_counter(const struct dewikura_counter *counter, uint64_t first, uint64_t offset)
@@ -561,8 +562,8 @@ static void check_counters(void)
     check_counter(counters, 0xc01, 88);
     CHECK(dewikura_read_file_counters(input, size, &cursor, counters, 4, &count), DEWIKURA_OK);
     CHECK(count, 0);
-    CHECK(dewikura_read_file_counters(NULL, 0, NULL, NULL, 0, NULL), DEWIKURA_TRUNCATED);
-    CHECK(dewikura_read_pipe_counters(NULL, 0, NULL, 0, NULL), DEWIKURA_TRUNCATED);
+    CHECK(dewikura_read_file_counters(NONE, 0, FIRST, NONE, 0, IGNORED(0)), DEWIKURA_TRUNCATED);
+    CHECK(dewikura_read_pipe_counters(NONE, 0, NONE, 0, IGNORED(0)), DEWIKURA_TRUNCATED);
 }
 
 // The body of a sample with all parts.
@@ -628,7 +629,7 @@ static void check_details(void)
     attr.sample_type |= UINT64_C(1) << 63;
     CHECK(dewikura_read_sample_details(input, size, 0, &attr, &details), DEWIKURA_OTHER);
     attr.sample_type = 0;
-    CHECK(dewikura_read_sample_details(NULL, 0, 0, &attr, &details), DEWIKURA_OK);
+    CHECK(dewikura_read_sample_details(NONE, 0, 0, &attr, &details), DEWIKURA_OK);
     for (i = 0; i < sizeof details; i++)
         CHECK(((const uint8_t *)&details)[i], 0);
 }
@@ -666,7 +667,7 @@ static void check_string(void)
     CHECK(string.text_size, 6);
     CHECK(string.next_offset, 16);
     CHECK(dewikura_read_string(input, size - 1, 0, 4, &string), DEWIKURA_TRUNCATED);
-    CHECK(dewikura_read_string(NULL, 0, 0, 0, &string), DEWIKURA_TRUNCATED);
+    CHECK(dewikura_read_string(NONE, 0, 0, 0, &string), DEWIKURA_TRUNCATED);
 }
 
 static void check_meta_info(void)
@@ -717,12 +718,12 @@ static void check_files(uint32_t feature)
     uint64_t offsets[3] = {0, 0, 3};
     memset(files, 0xab, sizeof files);
     memset(symbols, 0xab, sizeof symbols);
-    CHECK(dewikura_read_symbol_tables(input, size, feature, 0, NULL, 0, NULL, 0, NULL, 0, NULL, 0, &totals), DEWIKURA_OK);
+    CHECK(dewikura_read_symbol_tables(input, size, feature, 0, NONE, 0, NONE, 0, NONE, 0, NONE, 0, &totals), DEWIKURA_OK);
     CHECK(totals.file_count, 3);
     CHECK(totals.symbol_count, 3);
     CHECK(totals.names_size, 33);
     CHECK(totals.dex_offset_count, 2);
-    CHECK(dewikura_read_symbol_tables(input, size, feature, 0, files, 4, symbols, 4, names, sizeof names, offsets, 3, NULL), DEWIKURA_OK);
+    CHECK(dewikura_read_symbol_tables(input, size, feature, 0, files, 4, symbols, 4, names, sizeof names, offsets, 3, IGNORED(0)), DEWIKURA_OK);
     CHECK(strcmp(names, "/a.vdexfirstsecond/lib/c.somain/d"), 0);
     CHECK(offsets[0], 0x301);
     CHECK(offsets[1], 0x302);
@@ -807,7 +808,7 @@ static void check_file_section(void)
     put(0x304, 8);
     check_files(DEWIKURA_FEATURE_SIMPLEPERF_FILE);
     input[start + 8] = 6; // a type that no file has
-    CHECK(dewikura_read_symbol_tables(input, size, DEWIKURA_FEATURE_SIMPLEPERF_FILE, 0, NULL, 0, NULL, 0, NULL, 0, NULL, 0, NULL), DEWIKURA_BAD_SYMBOL_TABLE);
+    CHECK(dewikura_read_symbol_tables(input, size, DEWIKURA_FEATURE_SIMPLEPERF_FILE, 0, NONE, 0, NONE, 0, NONE, 0, NONE, 0, IGNORED(0)), DEWIKURA_BAD_SYMBOL_TABLE);
 }
 
 // The fields of a protobuf message: a number, and bytes.
@@ -867,7 +868,7 @@ static void check_file2_section(void)
     put_chunk_size(start);
     check_files(DEWIKURA_FEATURE_SIMPLEPERF_FILE2);
     input[4] = 8; // the path as a number
-    CHECK(dewikura_read_symbol_tables(input, size, DEWIKURA_FEATURE_SIMPLEPERF_FILE2, 0, NULL, 0, NULL, 0, NULL, 0, NULL, 0, NULL), DEWIKURA_BAD_SYMBOL_TABLE);
+    CHECK(dewikura_read_symbol_tables(input, size, DEWIKURA_FEATURE_SIMPLEPERF_FILE2, 0, NONE, 0, NONE, 0, NONE, 0, NONE, 0, IGNORED(0)), DEWIKURA_BAD_SYMBOL_TABLE);
 }
 
 static void check_jitdump(void)
@@ -992,11 +993,11 @@ static void check_jitdump(void)
     CHECK(entries[1].line, 0xc06);
     CHECK(entries[1].column, 0);
     CHECK(entries[2].line, 0xabababab);
-    CHECK(dewikura_read_jit_debug_info(input, size, next_offset, NULL, NULL, 0, NULL), DEWIKURA_OK);
+    CHECK(dewikura_read_jit_debug_info(input, size, next_offset, IGNORED(0), NONE, 0, IGNORED(1)), DEWIKURA_OK);
     CHECK(dewikura_read_jit_debug_info(input, size, 64, &code_address, entries, 3, &count), DEWIKURA_JIT_WRONG_TYPE);
     CHECK(code_address | count, 0);
     input[next_offset + 24] = 3; // one entry more than the record contains
-    CHECK(dewikura_read_jit_debug_info(input, size, next_offset, NULL, NULL, 0, NULL), DEWIKURA_JIT_BAD_BODY);
+    CHECK(dewikura_read_jit_debug_info(input, size, next_offset, IGNORED(0), NONE, 0, IGNORED(1)), DEWIKURA_JIT_BAD_BODY);
 }
 
 // An input with the magic of perf and a header of this size, in both byte orders.
@@ -1048,9 +1049,9 @@ static void check_names(void)
     CHECK(text_size, 30);
     CHECK(memcmp(text, wanted, 24), 0);
     CHECK(text[24], 'x');
-    CHECK(dewikura_demangle(name, strlen(name), DEWIKURA_STYLE_SIGNATURE, NULL, 0, &text_size), DEWIKURA_OK);
+    CHECK(dewikura_demangle(name, strlen(name), DEWIKURA_STYLE_SIGNATURE, NONE, 0, &text_size), DEWIKURA_OK);
     CHECK(text_size, 30);
-    CHECK(dewikura_demangle(name, strlen(name), DEWIKURA_STYLE_NAME, text, sizeof text, NULL), DEWIKURA_OK);
+    CHECK(dewikura_demangle(name, strlen(name), DEWIKURA_STYLE_NAME, text, sizeof text, IGNORED(0)), DEWIKURA_OK);
     // Rust, of today and of before
     CHECK(dewikura_demangle("_RNvC3foo3bar", 13, DEWIKURA_STYLE_NAME, text, sizeof text, &text_size), DEWIKURA_OK);
     CHECK(text_size, 8);
@@ -1077,29 +1078,29 @@ static void check_empty(void)
     struct dewikura_build_id entry;
     struct dewikura_jit_header header;
     struct dewikura_jit_load load;
-    CHECK(dewikura_status_text(DEWIKURA_OK, NULL, 0), 8);
-    CHECK(dewikura_input_kind(NULL, 0), DEWIKURA_KIND_NONE);
-    CHECK(dewikura_is_big_endian(NULL, 0), 0);
-    CHECK(dewikura_read_file_records(NULL, 0, NULL, NULL, 0, NULL), DEWIKURA_TRUNCATED);
-    CHECK(dewikura_read_pipe_records(NULL, 0, 0, NULL, 0, NULL), DEWIKURA_TRUNCATED);
-    CHECK(dewikura_read_file_samples(NULL, 0, NULL, NULL, 0, NULL, NULL, 0, NULL), DEWIKURA_TRUNCATED);
-    CHECK(dewikura_read_pipe_samples(NULL, 0, NULL, 0, NULL, NULL, 0, NULL), DEWIKURA_TRUNCATED);
-    CHECK(dewikura_read_file_attrs(NULL, 0, NULL, 0, NULL, 0, NULL, 0, NULL), DEWIKURA_TRUNCATED);
-    CHECK(dewikura_read_pipe_attrs(NULL, 0, NULL, 0, NULL, 0, NULL, 0, NULL), DEWIKURA_TRUNCATED);
-    CHECK(dewikura_read_file_feature_set(NULL, 0, &set), DEWIKURA_TRUNCATED);
+    CHECK(dewikura_status_text(DEWIKURA_OK, NONE, 0), 8);
+    CHECK(dewikura_input_kind(NONE, 0), DEWIKURA_KIND_NONE);
+    CHECK(dewikura_is_big_endian(NONE, 0), 0);
+    CHECK(dewikura_read_file_records(NONE, 0, FIRST, NONE, 0, IGNORED(0)), DEWIKURA_TRUNCATED);
+    CHECK(dewikura_read_pipe_records(NONE, 0, 0, NONE, 0, IGNORED(0)), DEWIKURA_TRUNCATED);
+    CHECK(dewikura_read_file_samples(NONE, 0, FIRST, NONE, 0, IGNORED(0), NONE, 0, IGNORED(1)), DEWIKURA_TRUNCATED);
+    CHECK(dewikura_read_pipe_samples(NONE, 0, NONE, 0, IGNORED(0), NONE, 0, IGNORED(1)), DEWIKURA_TRUNCATED);
+    CHECK(dewikura_read_file_attrs(NONE, 0, NONE, 0, NONE, 0, NONE, 0, IGNORED(0)), DEWIKURA_TRUNCATED);
+    CHECK(dewikura_read_pipe_attrs(NONE, 0, NONE, 0, NONE, 0, NONE, 0, IGNORED(0)), DEWIKURA_TRUNCATED);
+    CHECK(dewikura_read_file_feature_set(NONE, 0, &set), DEWIKURA_TRUNCATED);
     CHECK(set.bits0 | set.bits1 | set.bits2 | set.bits3, 0);
-    CHECK(dewikura_read_pipe_feature_set(NULL, 0, &set), DEWIKURA_TRUNCATED);
-    CHECK(dewikura_read_file_feature(NULL, 0, 1, NULL, 0, NULL, NULL), DEWIKURA_TRUNCATED);
-    CHECK(dewikura_read_pipe_feature(NULL, 0, 1, NULL, 0, NULL, NULL), DEWIKURA_TRUNCATED);
-    CHECK(dewikura_read_build_id(NULL, 0, 0, 0, &entry), DEWIKURA_TRUNCATED);
-    CHECK(dewikura_read_meta_info(NULL, 0, NULL, 0, NULL), DEWIKURA_OK);
-    CHECK(dewikura_read_symbol_tables(NULL, 0, DEWIKURA_FEATURE_SIMPLEPERF_FILE, 0, NULL, 0, NULL, 0, NULL, 0, NULL, 0, NULL), DEWIKURA_OK);
-    CHECK(dewikura_read_symbol_tables(NULL, 0, DEWIKURA_FEATURE_SIMPLEPERF_FILE2, 0, NULL, 0, NULL, 0, NULL, 0, NULL, 0, NULL), DEWIKURA_OK);
-    CHECK(dewikura_read_jit_header(NULL, 0, &header), DEWIKURA_JIT_TRUNCATED_HEADER);
-    CHECK(dewikura_read_jit_records(NULL, 0, 0, NULL, 0, NULL, NULL), DEWIKURA_JIT_TRUNCATED_HEADER);
-    CHECK(dewikura_read_jit_load(NULL, 0, 0, &load), DEWIKURA_JIT_TRUNCATED_HEADER);
-    CHECK(dewikura_read_jit_debug_info(NULL, 0, 0, NULL, NULL, 0, NULL), DEWIKURA_JIT_TRUNCATED_HEADER);
-    CHECK(dewikura_demangle(NULL, 0, DEWIKURA_STYLE_NAME, NULL, 0, NULL), DEWIKURA_OK);
+    CHECK(dewikura_read_pipe_feature_set(NONE, 0, &set), DEWIKURA_TRUNCATED);
+    CHECK(dewikura_read_file_feature(NONE, 0, 1, NONE, 0, IGNORED(0), IGNORED(1)), DEWIKURA_TRUNCATED);
+    CHECK(dewikura_read_pipe_feature(NONE, 0, 1, NONE, 0, IGNORED(0), IGNORED(1)), DEWIKURA_TRUNCATED);
+    CHECK(dewikura_read_build_id(NONE, 0, 0, 0, &entry), DEWIKURA_TRUNCATED);
+    CHECK(dewikura_read_meta_info(NONE, 0, NONE, 0, IGNORED(0)), DEWIKURA_OK);
+    CHECK(dewikura_read_symbol_tables(NONE, 0, DEWIKURA_FEATURE_SIMPLEPERF_FILE, 0, NONE, 0, NONE, 0, NONE, 0, NONE, 0, IGNORED(0)), DEWIKURA_OK);
+    CHECK(dewikura_read_symbol_tables(NONE, 0, DEWIKURA_FEATURE_SIMPLEPERF_FILE2, 0, NONE, 0, NONE, 0, NONE, 0, NONE, 0, IGNORED(0)), DEWIKURA_OK);
+    CHECK(dewikura_read_jit_header(NONE, 0, &header), DEWIKURA_JIT_TRUNCATED_HEADER);
+    CHECK(dewikura_read_jit_records(NONE, 0, 0, NONE, 0, IGNORED(0), IGNORED(1)), DEWIKURA_JIT_TRUNCATED_HEADER);
+    CHECK(dewikura_read_jit_load(NONE, 0, 0, &load), DEWIKURA_JIT_TRUNCATED_HEADER);
+    CHECK(dewikura_read_jit_debug_info(NONE, 0, 0, IGNORED(0), NONE, 0, IGNORED(1)), DEWIKURA_JIT_TRUNCATED_HEADER);
+    CHECK(dewikura_demangle(NONE, 0, DEWIKURA_STYLE_NAME, NONE, 0, IGNORED(0)), DEWIKURA_OK);
 }
 
 // Sorts records with random times, of which some are none: all are there once, ascending, and those with one time in their old order.
@@ -1146,7 +1147,7 @@ static void check_sort(void)
         CHECK(records[i].offset, order[i]);
         CHECK(records[i].timestamp, times[order[i]]);
     }
-    CHECK(dewikura_sort_records(NULL, 0), DEWIKURA_OK);
+    CHECK(dewikura_sort_records(NONE, 0), DEWIKURA_OK);
     check_sort_of(20);
     check_sort_of(21);
     check_sort_of(65536);

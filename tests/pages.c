@@ -39,11 +39,12 @@ static void check(const uint8_t *data, size_t size)
     static const uint64_t numbers[] = {1, 8, 37, UINT64_C(1) << 62, UINT64_MAX - 8, UINT64_MAX};
     size_t capacity = size / 8 + 1, i;
     struct dewikura_record *all = calloc(capacity, sizeof *all), page[7];
+    struct dewikura_cursor first = {0, 0};
     uint64_t total;
     dewikura_status status;
     if (!all)
         exit(2);
-    status = dewikura_read_file_records(data, size, NULL, all, capacity, &total);
+    status = dewikura_read_file_records(data, size, &first, all, capacity, &total);
     check_chain(data, size, 1, all, total, status);
     check_chain(data, size, 2, all, total, status);
     check_chain(data, size, 7, all, total, status);

@@ -1,4 +1,6 @@
 """The members of perfjson's lines, and damaged copies of recordings, for the scripts that compare both."""
+import struct
+
 CONTEXTS = {"unknown": 0, "kernel": 1, "user": 2, "hypervisor": 3, "guest_kernel": 4, "guest_user": 5, "guest": 6}
 
 
@@ -11,6 +13,18 @@ def value(line, name):
 def hexadecimal(text):
     """The bytes of a text in a line."""
     return text["hex"] if isinstance(text, dict) else text.encode("utf-8").hex()
+
+
+def is_unfinished(data):
+    """Whether perfjson reads a file as one that perf didn't finish: the header's data size is 0, or the data, the table of sections after it or a
+    section reaches past the end of the file. The library reads what finish_recording makes of such a file."""
+    if data[:8] != b"PERFILE2" or len(data) < 104:
+        return False
+    offset, size = struct.unpack_from("<QQ", data, 40)
+    table, count = offset + size, sum(bin(byte).count("1") for byte in data[72:104])
+    if size == 0 or table + 16 * count > len(data):
+        return True
+    return any(sum(struct.unpack_from("<QQ", data, table + 16 * index)) > len(data) for index in range(count))
 
 
 def changed(chance, data):

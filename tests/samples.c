@@ -2,6 +2,7 @@
 // 4,096 bytes), with those that a decoder of its own finds in the bodies of its records: the fields of PERF_RECORD_SAMPLE in the order of
 // the kernel's perf_event.h. The samples of a file are also read in chains of calls with small arrays. `samples print PATH` prints a
 // line for each sample instead: its fields and its frames.
+#include "arguments.h"
 #include "contexts.h"
 #include "dewikura.h"
 #include <inttypes.h>
@@ -169,10 +170,10 @@ static struct samples decode_all(const uint8_t *data, size_t size, int is_pipe)
     is_big_endian = (int)dewikura_is_big_endian(data, size);
     if (is_pipe) {
         all.status = dewikura_read_pipe_records(data, size, 0, records, capacity, &count);
-        ignored = dewikura_read_pipe_attrs(data, size, attrs, capacity, NULL, 0, NULL, 0, &totals);
+        ignored = dewikura_read_pipe_attrs(data, size, attrs, capacity, NONE, 0, NONE, 0, &totals);
     } else {
-        all.status = dewikura_read_file_records(data, size, NULL, records, capacity, &count);
-        ignored = dewikura_read_file_attrs(data, size, attrs, capacity, NULL, 0, NULL, 0, &totals);
+        all.status = dewikura_read_file_records(data, size, FIRST, records, capacity, &count);
+        ignored = dewikura_read_file_attrs(data, size, attrs, capacity, NONE, 0, NONE, 0, &totals);
     }
     (void)ignored;
     for (i = 0; i < count; i++) {
@@ -205,7 +206,7 @@ static struct samples read_all(const uint8_t *data, size_t size, int is_pipe)
     if (is_pipe)
         all.status = dewikura_read_pipe_samples(data, size, all.samples, capacity, &all.count, all.frames, capacity, &all.frames_count);
     else
-        all.status = dewikura_read_file_samples(data, size, NULL, all.samples, capacity, &all.count, all.frames, capacity, &all.frames_count);
+        all.status = dewikura_read_file_samples(data, size, FIRST, all.samples, capacity, &all.count, all.frames, capacity, &all.frames_count);
     return all;
 }
 
@@ -281,7 +282,7 @@ static void check(const uint8_t *data, size_t size, int is_pipe)
         struct dewikura_frame frames[3];
         uint64_t count, frames_count;
         size_t few = wanted.count < 2 ? (size_t)wanted.count : 2, few_frames = wanted.frames_count < 3 ? (size_t)wanted.frames_count : 3;
-        if (dewikura_read_pipe_samples(data, size, NULL, 0, &count, NULL, 0, &frames_count) != wanted.status || count != wanted.count
+        if (dewikura_read_pipe_samples(data, size, NONE, 0, &count, NONE, 0, &frames_count) != wanted.status || count != wanted.count
             || frames_count != wanted.frames_count)
             fail("other counts without arrays", size, count);
         if (dewikura_read_pipe_samples(data, size, samples, 2, &count, frames, 3, &frames_count) != wanted.status || count != wanted.count

@@ -2,6 +2,7 @@
 // 4,096 bytes): the totals are those of a call with arrays of capacity 0, an array contains the first elements up to its capacity, and the
 // elements after them are unchanged. `stacks print PATH` prints a line for each stack: its fields, the name of its thread and its frames; then
 // one for each mapping, and the status. Texts are printed in hexadecimal.
+#include "arguments.h"
 #include "dewikura.h"
 #include <inttypes.h>
 #include <stdio.h>
@@ -205,7 +206,7 @@ int main(int argc, char **argv)
             free(copy);
         }
         check(data, size);
-        if (size == 0 && dewikura_read_file_stacks(NULL, 0, NULL, 0, NULL, 0, NULL, 0, NULL, 0, NULL) == DEWIKURA_OK)
+        if (size == 0 && dewikura_read_file_stacks(NONE, 0, NONE, 0, NONE, 0, NONE, 0, NONE, 0, IGNORED(0)) == DEWIKURA_OK)
             fail("an empty file opens", size);
     }
     free(data);

@@ -10,7 +10,8 @@ use Rattle.code_cfi.specs.Pointers.{PointerAt, EncodedAt}
 use Rattle.code_cfi.specs.Entries.{LengthAt, id_size, cie_id, cie_offset, EntryAt, AfterZero, ZeroAt, PieceAt, NoPiece}
 use Rattle.code_cfi.specs.Cies.{VersionAt, CieAt}
 use Rattle.code_cfi.specs.Fdes.{DataAt, FdeAt, IsFde}
-use Rattle.code_cfi.specs.Tables.{Pieces, IsCieIn, CiesOf, CiesOfSection, IsFdeIn, FdesOf, AreRising, IsNearest, SortedFdesOf}
+use Rattle.code_cfi.specs.Tables.{Pieces, IsCieIn, CiesOf, CiesOfSection, IsFdeIn, FdesOf, IsNearest, SortedFdesOf}
+use Rattle.code_cfi.specs.steps.Tables.{AreRising}
 use Rattle.code_cfi.specs.Sections.{AreFew, FindsFdeOfSection, HasOneListOfCies, HasOneListOfFdes, HasOneFdeAt, FindsEachThatCovers}
 use Rattle.code_cfi.specs.declared.entry.FrameSection.{FrameSection}
 use Rattle.code_cfi.specs.declared.entry.FrameSection.TheVariants as sections

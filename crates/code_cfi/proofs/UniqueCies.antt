@@ -6,10 +6,12 @@ use Rattle.std.specs.Option.{MatchOption}
 use Rattle.std.proofs.lemmas.Bool.{cases_eq, true≢false}
 use Rattle.std.proofs.lemmas.List.{append_cancel_left, take_all}
 use Rattle.std.proofs.lemmas.List.Elements.{All-tail}
-use Rattle.code_cfi.specs.Numbers.{Uleb128At, Sleb128At, BlockAt, NoUleb128, NoSleb128, NoBlock}
-use Rattle.code_cfi.specs.Pointers.{EncodedAt, NoEncoded}
+use Rattle.code_cfi.specs.Numbers.{Uleb128At, Sleb128At, BlockAt, NoUleb128, NoSleb128}
+use Rattle.code_cfi.specs.steps.Numbers.{NoBlock}
+use Rattle.code_cfi.specs.Pointers.{EncodedAt}
+use Rattle.code_cfi.specs.steps.Pointers.{NoEncoded}
 use Rattle.code_cfi.specs.Cies.{StringAt, SizesAt, ReturnAddressAt, PersonalityAt, letter_code, is_letter, LetterAt, KnownLetter, LettersAt, some_augmentation, AugmentationAt, VersionAt, CieAt}
-use Rattle.code_cfi.specs.Cies.{NoString, NoSizes, NoReturnAddress, NoPersonality, NoLetter, NoLetters, NoAugmentation, NoVersion, NoCie}
+use Rattle.code_cfi.specs.steps.Cies.{NoString, NoSizes, NoReturnAddress, NoPersonality, NoLetter, NoLetters, NoAugmentation, NoVersion, NoCie}
 use Rattle.code_cfi.specs.declared.entry.CfiEntry.{CfiEntry}
 use Rattle.code_cfi.specs.declared.cie.Cie.{Cie}
 use Rattle.code_cfi.specs.declared.cie.Augmentation.{Augmentation}

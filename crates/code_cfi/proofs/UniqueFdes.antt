@@ -11,10 +11,13 @@ use Rattle.std.specs.List.Sorted.{IsPartitionPoint, IsNonDecreasingBy}
 use Rattle.std.proofs.lemmas.Bool.{cases_lt, true≢false, lt-ltb, ltb-true}
 use Rattle.std.proofs.lemmas.List.{get_or_default, get_or_append_left}
 use Rattle.std.proofs.Common.{ltb}
-use Rattle.code_cfi.specs.Numbers.{NoBlock}
-use Rattle.code_cfi.specs.Pointers.{EncodedAt, PointerAt, NoEncoded}
-use Rattle.code_cfi.specs.Fdes.{DataAt, FdeAt, IsFde, NoData, NoFde}
-use Rattle.code_cfi.specs.Tables.{AreRising, IsCieIn}
+use Rattle.code_cfi.specs.steps.Numbers.{NoBlock}
+use Rattle.code_cfi.specs.Pointers.{EncodedAt, PointerAt}
+use Rattle.code_cfi.specs.steps.Pointers.{NoEncoded}
+use Rattle.code_cfi.specs.Fdes.{DataAt, FdeAt, IsFde}
+use Rattle.code_cfi.specs.steps.Fdes.{NoData, NoFde}
+use Rattle.code_cfi.specs.Tables.{IsCieIn}
+use Rattle.code_cfi.specs.steps.Tables.{AreRising}
 use Rattle.code_cfi.specs.declared.entry.CfiEntry.{CfiEntry}
 use Rattle.code_cfi.specs.declared.cie.Cie.{Cie}
 use Rattle.code_cfi.specs.declared.fde.Fde.{Fde}

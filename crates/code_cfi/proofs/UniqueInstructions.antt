@@ -3,8 +3,10 @@ use Rattle.std.proofs.Common.{◌≡◌, ℕ, ℤ, ◌+◌, ◌-◌, ◌/◌, �
 use Rattle.std.proofs.lemmas.Bool.{cases_lt}
 use Rattle.std.specs.Prelude.{if◌then◌else◌, ◌==◌, get_or}
 use Rattle.code_cfi.specs.Numbers.{FixedAt, Uleb128At, Sleb128At, NoUleb128, NoSleb128}
-use Rattle.code_cfi.specs.Pointers.{PointerAt, NoPointer}
-use Rattle.code_cfi.specs.Instructions.{PairAt, SignedPairAt, ExpressionAt, RegisterExpressionAt, OperandsAt, ShortAt, InstructionAt, NoPair, NoSignedPair, NoExpression, NoRegisterExpression, NoOperands, NoInstruction}
+use Rattle.code_cfi.specs.Pointers.{PointerAt}
+use Rattle.code_cfi.specs.steps.Pointers.{NoPointer}
+use Rattle.code_cfi.specs.Instructions.{PairAt, SignedPairAt, ExpressionAt, RegisterExpressionAt, OperandsAt, ShortAt, InstructionAt}
+use Rattle.code_cfi.specs.steps.Instructions.{NoPair, NoSignedPair, NoExpression, NoRegisterExpression, NoOperands, NoInstruction}
 use Rattle.code_cfi.specs.declared.byte_range.ByteRange.{ByteRange}
 use Rattle.code_cfi.specs.declared.instruction.Machine.{Machine}
 use Rattle.code_cfi.specs.declared.instruction.Machine.TheVariants as machines

@@ -3,7 +3,8 @@ use Rattle.std.proofs.Common.{◌≡◌, ℕ, ℤ, ◌+◌, ◌-◌, ◌/◌, �
 use Rattle.std.proofs.lemmas.Bool.{cases_lt}
 use Rattle.std.specs.Prelude.{if◌then◌else◌, ◌==◌}
 use Rattle.code_cfi.specs.Numbers.{IsLeb128, FixedAt, Uleb128At, Sleb128At, BlockAt, NoSleb128, uleb128_value, sleb128_value}
-use Rattle.code_cfi.specs.Pointers.{format_code, FormatAt, EncodedAt, PointerAt, sign_extended, NoFormat}
+use Rattle.code_cfi.specs.Pointers.{format_code, FormatAt, EncodedAt, PointerAt, sign_extended}
+use Rattle.code_cfi.specs.steps.Pointers.{NoFormat}
 use Rattle.code_cfi.specs.declared.pointers.Format.{Format}
 use Rattle.code_cfi.specs.declared.pointers.Format.TheVariants as formats
 

@@ -2,7 +2,8 @@
 use Rattle.std.proofs.Common.{◌≡◌, ℕ, ◌-◌, ◌^◌, ◌<◌, ◌≤◌, [], length, get_or, subst, sym, ap, ◌∙◌, arith, Some, None}
 use Rattle.std.proofs.Math.Logic.{∥∥₁_elim}
 use Rattle.std.proofs.lemmas.List.{get_or_default}
-use Rattle.code_cfi.specs.Rows.{Moment, IsMoment, Runs, NoRun, empty_row}
+use Rattle.code_cfi.specs.Rows.{Moment, IsMoment, Runs, empty_row}
+use Rattle.code_cfi.specs.steps.Rows.{NoRun}
 use Rattle.code_cfi.specs.TableRows.{RowIn, NoRowIn, IsProgram, encoding_in, program_in}
 use Rattle.code_cfi.specs.declared.cie.Cie.{Cie}
 use Rattle.code_cfi.specs.declared.fde.Fde.{Fde}

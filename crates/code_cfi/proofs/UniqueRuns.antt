@@ -1,7 +1,9 @@
 -- What instructions lead to is unique.
 use Rattle.std.proofs.Common.{◌≡◌, ℕ, ℤ, ◌<◌, ◌≤◌, List, [], ◌∷◌, ◌++◌, ◌⊎◌, length, subst, refl, sym, ap, ◌∙◌, inl, inr, arith, Option, Some, None}
-use Rattle.code_cfi.specs.Instructions.{InstructionAt, NoInstruction}
-use Rattle.code_cfi.specs.Rows.{Moment, IsMoment, Rewrites, CfaRegister, CfaOffset, DefinesCfa, rule_of, SetsRule, StepsInFde, StepsAfter, Steps, RunsTo, Runs, NoStep, NoRun, with_cfa, with_rule}
+use Rattle.code_cfi.specs.Instructions.{InstructionAt}
+use Rattle.code_cfi.specs.steps.Instructions.{NoInstruction}
+use Rattle.code_cfi.specs.Rows.{Moment, IsMoment, Rewrites, CfaRegister, CfaOffset, DefinesCfa, rule_of, SetsRule, StepsInFde, StepsAfter, Steps, RunsTo, Runs, with_cfa, with_rule}
+use Rattle.code_cfi.specs.steps.Rows.{NoStep, NoRun}
 use Rattle.code_cfi.specs.declared.instruction.Encoding.{Encoding}
 use Rattle.code_cfi.specs.declared.instruction.Instruction.{Instruction}
 use Rattle.code_cfi.specs.declared.instruction.Instruction.TheVariants as instructions

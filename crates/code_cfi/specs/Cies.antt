@@ -47,7 +47,8 @@ is_letter b = (b == 76) || ((b == 80) || ((b == 82) || ((b == 83) || (b == 66)))
 abbrev pub LetterAt : Letter → List ℕ → Augmentation → Augmentation → List ℕ → Type 0
 LetterAt letters.Language bytes before after rest = (after ≡ before) × (bytes ≡ take 1 bytes ++ rest) × (1 ≤ length bytes)
 LetterAt letters.Personality bytes before after rest = (after ≡ before) × PersonalityAt bytes rest
-LetterAt letters.PointerEncoding bytes before after rest = (bytes ≡ after.pointer_encoding ∷ rest) × (after ≡ record before { pointer_encoding = after.pointer_encoding })
+LetterAt letters.PointerEncoding bytes before after rest =
+    (bytes ≡ after.pointer_encoding ∷ rest) × (after ≡ record before { pointer_encoding = after.pointer_encoding })
 LetterAt letters.SignalFrame bytes before after rest = (rest ≡ bytes) × (after ≡ record before { is_signal = true })
 LetterAt letters.PointerKey bytes before after rest = (rest ≡ bytes) × (after ≡ before)
 
@@ -101,31 +102,3 @@ pub record CieAt (e : CfiEntry) (c : Cie) : Type 0 where
   pub offset_is : c.offset ≡ e.offset
   pub starts : c.instructions.start + length rest ≡ e.end
   pub ends : c.instructions.end ≡ e.end
-
--- the bytes start with none of these, and the entry is no CIE: they end in it, or something in it is unknown or not supported
-abbrev pub NoString : List ℕ → Type 0
-NoString bytes = (string rest : List ℕ) → StringAt bytes string rest → ⊥
-
-abbrev pub NoSizes : ℕ → List ℕ → Type 0
-NoSizes version bytes = (rest : List ℕ) → SizesAt version bytes rest → ⊥
-
-abbrev pub NoReturnAddress : ℕ → List ℕ → Type 0
-NoReturnAddress version bytes = (n : ℕ) (rest : List ℕ) → ReturnAddressAt version bytes n rest → ⊥
-
-abbrev pub NoPersonality : List ℕ → Type 0
-NoPersonality bytes = (rest : List ℕ) → PersonalityAt bytes rest → ⊥
-
-abbrev pub NoLetter : Letter → List ℕ → Augmentation → Type 0
-NoLetter letter bytes before = (after : Augmentation) (rest : List ℕ) → LetterAt letter bytes before after rest → ⊥
-
-abbrev pub NoLetters : List ℕ → List ℕ → Augmentation → Type 0
-NoLetters letters bytes before = (after : Augmentation) → LettersAt letters bytes before after → ⊥
-
-abbrev pub NoAugmentation : List ℕ → List ℕ → Type 0
-NoAugmentation string bytes = (a : Augmentation) (rest : List ℕ) → AugmentationAt string bytes a rest → ⊥
-
-abbrev pub NoVersion : List ℕ → Type 0
-NoVersion body = (version : ℕ) (string rest : List ℕ) → VersionAt body version string rest → ⊥
-
-abbrev pub NoCie : CfiEntry → Type 0
-NoCie e = (c : Cie) → CieAt e c → ⊥

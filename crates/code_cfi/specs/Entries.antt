@@ -10,10 +10,6 @@ abbrev pub LengthAt : List ℕ → Bool → ℕ → List ℕ → Type 0
 LengthAt bytes false n rest = FixedAt 4 bytes n rest × (n ≢ 2 ^ 32 - 1)
 LengthAt bytes true n rest = (mid : List ℕ) × FixedAt 4 bytes (2 ^ 32 - 1) mid × FixedAt 8 mid n rest
 
--- the bytes start with no initial length
-abbrev pub NoLength : List ℕ → Type 0
-NoLength bytes = (is_64 : Bool) (n : ℕ) (rest : List ℕ) → LengthAt bytes is_64 n rest → ⊥
-
 -- the size of an identifier
 abbrev pub id_size : FrameSection → Bool → ℕ
 id_size sections.EhFrame is_64 = 4
@@ -47,9 +43,6 @@ pub record EntryAt (section : FrameSection) (size : ℕ) (bytes : List ℕ) (e :
   pub ends : e.end + length rest ≡ size
   pub kind : e.is_cie ≡ (id == cie_id section is_64)
   pub cie : e.cie_offset ≡ (if id == cie_id section is_64 then None else cie_offset section (size - length mid) id)
-
-abbrev pub NoEntry : FrameSection → ℕ → List ℕ → Type 0
-NoEntry section size bytes = (e : CfiEntry) (rest : List ℕ) → EntryAt section size bytes e rest → ⊥
 
 -- a length of 0 ends `.eh_frame`, and is skipped in `.debug_frame`
 abbrev pub AfterZero : FrameSection → List ℕ → List ℕ → Type 0

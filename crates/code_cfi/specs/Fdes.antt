@@ -30,10 +30,3 @@ pub record IsFde (address : ℕ) (cies : List Cie) (e : CfiEntry) (f : Fde) : Ty
   pub offset_is : e.cie_offset ≡ Some cie.offset
   pub fde_at : FdeAt address e cie f
   pub positive : 0 < f.size
-
--- the augmentation data aren't complete, and the entry with this CIE is no FDE
-abbrev pub NoData : Bool → List ℕ → Type 0
-NoData has_data bytes = (rest : List ℕ) → DataAt has_data bytes rest → ⊥
-
-abbrev pub NoFde : ℕ → CfiEntry → Cie → Type 0
-NoFde address e c = (f : Fde) → FdeAt address e c f → ⊥

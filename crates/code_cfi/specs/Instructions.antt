@@ -1,5 +1,5 @@
 -- Call frame instructions (DWARF 5, section 6.4.2 and figure 40; the GNU extensions of the Linux Standard Base).
-use Rattle.std.specs.Prelude.{◌≡◌, ◌⊎◌, ◌==◌, ◌||◌, Bool, ℕ, ◌+◌, ◌-◌, ◌%◌, ◌/◌, ◌^◌, ◌<◌, ◌≤◌, List, ◌∷◌, length, ℤ}
+use Rattle.std.specs.Prelude.{◌≡◌, ◌⊎◌, ℕ, ◌+◌, ◌-◌, ◌%◌, ◌/◌, ◌^◌, ◌<◌, ◌≤◌, List, ◌∷◌, length, ℤ}
 use Rattle.code_cfi.specs.Numbers.{FixedAt, Uleb128At, Sleb128At, BlockAt}
 use Rattle.code_cfi.specs.Pointers.{PointerAt}
 use Rattle.code_cfi.specs.declared.byte_range.ByteRange.{ByteRange}
@@ -74,35 +74,3 @@ pub record InstructionAt (e : Encoding) (bytes : List ℕ) (i : Instruction) (re
   pub split : bytes ≡ opcode ∷ operands
   pub whole : opcode < 64 → OperandsAt e opcode operands i rest
   pub short : 64 ≤ opcode → ShortAt (opcode / 64) (opcode % 64) operands i rest
-
--- the bytes start with no such operands, or with no instruction: they end in it, a number doesn't fit, or the opcode is unknown
-abbrev pub NoPair : List ℕ → Type 0
-NoPair bytes = (m n : ℕ) (rest : List ℕ) → PairAt bytes m n rest → ⊥
-
-abbrev pub NoSignedPair : List ℕ → Type 0
-NoSignedPair bytes = (m : ℕ) (n : ℤ) (rest : List ℕ) → SignedPairAt bytes m n rest → ⊥
-
-abbrev pub NoExpression : ℕ → List ℕ → Type 0
-NoExpression end bytes = (span : ByteRange) (rest : List ℕ) → ExpressionAt end bytes span rest → ⊥
-
-abbrev pub NoRegisterExpression : ℕ → List ℕ → Type 0
-NoRegisterExpression end bytes = (n : ℕ) (span : ByteRange) (rest : List ℕ) → RegisterExpressionAt end bytes n span rest → ⊥
-
-abbrev pub NoOperands : Encoding → ℕ → List ℕ → Type 0
-NoOperands e op bytes = (i : Instruction) (rest : List ℕ) → OperandsAt e op bytes i rest → ⊥
-
-abbrev pub NoInstruction : Encoding → List ℕ → Type 0
-NoInstruction e bytes = (i : Instruction) (rest : List ℕ) → InstructionAt e bytes i rest → ⊥
-
--- the opcodes of instructions that change the location, define the CFA, say where the value of a register is, and how it is computed
-abbrev pub is_location : ℕ → Bool
-is_location op = (op == 1) || ((op == 2) || ((op == 3) || (op == 4)))
-
-abbrev pub is_cfa : ℕ → Bool
-is_cfa op = (op == 12) || ((op == 13) || ((op == 14) || ((op == 15) || ((op == 18) || (op == 19)))))
-
-abbrev pub is_rule : ℕ → Bool
-is_rule op = (op == 5) || ((op == 7) || ((op == 8) || ((op == 9) || ((op == 16) || ((op == 17) || (op == 47))))))
-
-abbrev pub is_value_rule : ℕ → Bool
-is_value_rule op = (op == 20) || ((op == 21) || (op == 22))

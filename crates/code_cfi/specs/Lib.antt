@@ -10,3 +10,4 @@ pub mod Rows
 pub mod Sections
 pub mod TableRows
 pub mod Tables
+pub mod steps

@@ -49,10 +49,6 @@ pub record Sleb128At (bytes : List ℕ) (n : ℤ) (rest : List ℕ) : Type 0 whe
   pub value : n ≡ sleb128_value (take size bytes)
   pub after : rest ≡ drop size bytes
 
--- the bytes start with no LEB128 number: they end in it, it has more than 10 bytes, or it doesn't fit 64 bits
-abbrev pub NoLeb128 : List ℕ → Type 0
-NoLeb128 bytes = (size : ℕ) → IsLeb128 size bytes → ⊥
-
 abbrev pub NoUleb128 : List ℕ → Type 0
 NoUleb128 bytes = (n : ℕ) (rest : List ℕ) → Uleb128At bytes n rest → ⊥
 
@@ -82,7 +78,3 @@ pub record BlockAt (bytes block rest : List ℕ) : Type 0 where
   pub within : size ≤ length mid
   pub block_is : block ≡ take size mid
   pub after : rest ≡ drop size mid
-
--- the bytes start with no block: they start with no number, or with one of more bytes than follow
-abbrev pub NoBlock : List ℕ → Type 0
-NoBlock bytes = (block rest : List ℕ) → BlockAt bytes block rest → ⊥

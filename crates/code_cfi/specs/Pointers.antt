@@ -58,13 +58,3 @@ pub record PointerAt (encoding address : ℕ) (bytes : List ℕ) (n : ℕ) (rest
   pub number : EncodedAt encoding bytes stored rest
   pub known : encoding / 16 ≤ 1
   pub value : n ≡ (if encoding / 16 == 0 then stored else (stored + address) % 2 ^ 64)
-
--- the bytes start with no such number or address: the encoding is unknown, or they are no number in its format
-abbrev pub NoFormat : Format → List ℕ → Type 0
-NoFormat format bytes = (n : ℕ) (rest : List ℕ) → FormatAt format bytes n rest → ⊥
-
-abbrev pub NoEncoded : ℕ → List ℕ → Type 0
-NoEncoded encoding bytes = (n : ℕ) (rest : List ℕ) → EncodedAt encoding bytes n rest → ⊥
-
-abbrev pub NoPointer : ℕ → ℕ → List ℕ → Type 0
-NoPointer encoding address bytes = (n : ℕ) (rest : List ℕ) → PointerAt encoding address bytes n rest → ⊥

@@ -11,7 +11,6 @@ use Rattle.code_cfi.specs.declared.row.Cfa.TheVariants as cfas
 use Rattle.code_cfi.specs.declared.row.Rule.{Rule}
 use Rattle.code_cfi.specs.declared.row.Rule.TheVariants as rules
 use Rattle.code_cfi.specs.declared.cie.Cie.{Cie}
-use Rattle.code_cfi.specs.declared.row_program.RowState.{RowState}
 
 -- the row without rules
 abbrev pub empty_row : Row
@@ -34,9 +33,6 @@ pub record Moment : Type 0 where
   pub location : ℕ
   pub row : Row
   pub remembered : List Row
-
-abbrev pub moment_of : RowState → Moment
-moment_of s = record { location = s.location; row = s.row; remembered = s.remembered.items }
 
 abbrev pub IsMoment : Moment → ℕ → Row → List Row → Type 0
 IsMoment m location row remembered = (m.location ≡ location) × (m.row ≡ row) × (m.remembered ≡ remembered)
@@ -113,11 +109,16 @@ Steps f initial (instructions.Restore r) m n = StepsAfter initial (instructions.
 Steps f initial instructions.RememberState m n = StepsAfter initial instructions.RememberState m n
 Steps f initial instructions.RestoreState m n = StepsAfter initial instructions.RestoreState m n
 Steps f initial (instructions.DefineCfa r k) m n = (cfa : Cfa) × DefinesCfa f (instructions.DefineCfa r k) m.row.cfa cfa × Rewrites m (with_cfa m.row cfa) n
-Steps f initial (instructions.DefineCfaSigned r k) m n = (cfa : Cfa) × DefinesCfa f (instructions.DefineCfaSigned r k) m.row.cfa cfa × Rewrites m (with_cfa m.row cfa) n
-Steps f initial (instructions.DefineCfaRegister r) m n = (cfa : Cfa) × DefinesCfa f (instructions.DefineCfaRegister r) m.row.cfa cfa × Rewrites m (with_cfa m.row cfa) n
-Steps f initial (instructions.DefineCfaOffset k) m n = (cfa : Cfa) × DefinesCfa f (instructions.DefineCfaOffset k) m.row.cfa cfa × Rewrites m (with_cfa m.row cfa) n
-Steps f initial (instructions.DefineCfaOffsetSigned k) m n = (cfa : Cfa) × DefinesCfa f (instructions.DefineCfaOffsetSigned k) m.row.cfa cfa × Rewrites m (with_cfa m.row cfa) n
-Steps f initial (instructions.DefineCfaExpression s) m n = (cfa : Cfa) × DefinesCfa f (instructions.DefineCfaExpression s) m.row.cfa cfa × Rewrites m (with_cfa m.row cfa) n
+Steps f initial (instructions.DefineCfaSigned r k) m n =
+    (cfa : Cfa) × DefinesCfa f (instructions.DefineCfaSigned r k) m.row.cfa cfa × Rewrites m (with_cfa m.row cfa) n
+Steps f initial (instructions.DefineCfaRegister r) m n =
+    (cfa : Cfa) × DefinesCfa f (instructions.DefineCfaRegister r) m.row.cfa cfa × Rewrites m (with_cfa m.row cfa) n
+Steps f initial (instructions.DefineCfaOffset k) m n =
+    (cfa : Cfa) × DefinesCfa f (instructions.DefineCfaOffset k) m.row.cfa cfa × Rewrites m (with_cfa m.row cfa) n
+Steps f initial (instructions.DefineCfaOffsetSigned k) m n =
+    (cfa : Cfa) × DefinesCfa f (instructions.DefineCfaOffsetSigned k) m.row.cfa cfa × Rewrites m (with_cfa m.row cfa) n
+Steps f initial (instructions.DefineCfaExpression s) m n =
+    (cfa : Cfa) × DefinesCfa f (instructions.DefineCfaExpression s) m.row.cfa cfa × Rewrites m (with_cfa m.row cfa) n
 Steps f initial i m n = SetsRule (rule_of f i) m n
 
 -- the instructions that the bytes start with lead from one moment to another: each is carried out at a location up to the
@@ -129,10 +130,3 @@ RunsTo e f initial address bytes m (i ∷ is) n =
 
 abbrev pub Runs : Encoding → Cie → Option Row → ℕ → List ℕ → Moment → Moment → Type 0
 Runs e f initial address bytes m n = (is : List Instruction) × RunsTo e f initial address bytes m is n
-
--- there is nothing that the instruction does, and there are no such instructions
-abbrev pub NoStep : Cie → Option Row → Instruction → Moment → Type 0
-NoStep f initial i m = (n : Moment) → Steps f initial i m n → ⊥
-
-abbrev pub NoRun : Encoding → Cie → Option Row → ℕ → List ℕ → Moment → Type 0
-NoRun e f initial address bytes m = (n : Moment) → Runs e f initial address bytes m n → ⊥

@@ -22,23 +22,28 @@ pub record FdeOfSectionAt (section : FrameSection) (address : ℕ) (bytes : List
 
 -- an index in the order of the first addresses is that of this FDE, and there is none where the section has no such FDE
 abbrev pub IsFoundIn : FrameSection → ℕ → List ℕ → ℕ → List Fde → Option ℕ → Type 0
-IsFoundIn section address bytes at fdes (Some index) = (f : Fde) × (index < length fdes) × (f ≡ slice_index_or fdes index f) × FdeOfSectionAt section address bytes at f
+IsFoundIn section address bytes at fdes (Some index) =
+    (f : Fde) × (index < length fdes) × (f ≡ slice_index_or fdes index f) × FdeOfSectionAt section address bytes at f
 IsFoundIn section address bytes at fdes None = (f : Fde) → FdeOfSectionAt section address bytes at f → ⊥
 
 -- a table of all entries of a section finds the FDE of the section at an address, both ways
 abbrev pub FindsFdeOfSection : Type 0
-FindsFdeOfSection = (section : FrameSection) (address : ℕ) (bytes : List ℕ) (cies : List Cie) (fdes : List Fde) (at : ℕ) (found : Option ℕ) → CiesOfSection section bytes cies → SortedFdesOf section address bytes cies fdes
+FindsFdeOfSection = (section : FrameSection) (address : ℕ) (bytes : List ℕ) (cies : List Cie) (fdes : List Fde) (at : ℕ) (found : Option ℕ)
+    → CiesOfSection section bytes cies → SortedFdesOf section address bytes cies fdes
     → IsFdeAt fdes at found → IsFoundIn section address bytes at fdes found
 
 -- a section has one list of CIEs and one of FDEs, and one FDE at an address
 abbrev pub HasOneListOfCies : Type 0
-HasOneListOfCies = (section : FrameSection) (bytes : List ℕ) (cies others : List Cie) → CiesOfSection section bytes cies → CiesOfSection section bytes others → cies ≡ others
+HasOneListOfCies =
+    (section : FrameSection) (bytes : List ℕ) (cies others : List Cie) → CiesOfSection section bytes cies → CiesOfSection section bytes others → cies ≡ others
 
 abbrev pub HasOneListOfFdes : Type 0
-HasOneListOfFdes = (section : FrameSection) (address : ℕ) (bytes : List ℕ) (cies others : List Cie) (fs gs : List Fde) → HasEntries section address bytes cies fs → HasEntries section address bytes others gs → fs ≡ gs
+HasOneListOfFdes = (section : FrameSection) (address : ℕ) (bytes : List ℕ) (cies others : List Cie) (fs gs : List Fde)
+    → HasEntries section address bytes cies fs → HasEntries section address bytes others gs → fs ≡ gs
 
 abbrev pub HasOneFdeAt : Type 0
-HasOneFdeAt = (section : FrameSection) (address : ℕ) (bytes : List ℕ) (at : ℕ) (f g : Fde) → FdeOfSectionAt section address bytes at f → FdeOfSectionAt section address bytes at g → f ≡ g
+HasOneFdeAt = (section : FrameSection) (address : ℕ) (bytes : List ℕ) (at : ℕ) (f g : Fde) → FdeOfSectionAt section address bytes at f
+    → FdeOfSectionAt section address bytes at g → f ≡ g
 
 -- each CIE and each FDE has at least 8 bytes of the section
 abbrev pub AreFew : List ℕ → List Cie → List Fde → Type 0
@@ -54,5 +59,6 @@ AreApart fdes = (i j : ℕ) (d : Fde) → i < length fdes → j < length fdes �
 
 -- where the FDEs are apart, the FDE at an address is each one that describes it
 abbrev pub FindsEachThatCovers : Type 0
-FindsEachThatCovers = (section : FrameSection) (address : ℕ) (bytes : List ℕ) (cies : List Cie) (fdes : List Fde) → HasEntries section address bytes cies fdes → AreApart fdes
+FindsEachThatCovers =
+    (section : FrameSection) (address : ℕ) (bytes : List ℕ) (cies : List Cie) (fdes : List Fde) → HasEntries section address bytes cies fdes → AreApart fdes
     → (at : ℕ) → All (λ f. Covers f at → FdeOfSectionAt section address bytes at f) fdes

@@ -63,10 +63,6 @@ pub record CiesOfSection (section : FrameSection) (bytes : List ℕ) (cies : Lis
   pub ends : (rest ≡ []) ⊎ NoPiece section (length bytes) rest
   pub cies_are : CiesOf pieces cies
 
--- the offset of each CIE is below those of the later ones
-abbrev pub AreRising : List Cie → Type 0
-AreRising cies = (i j : ℕ) (d : Cie) → i < j → j < length cies → (slice_index_or cies i d).offset < (slice_index_or cies j d).offset
-
 -- an FDE of the section that can be used, with a CIE of these
 pub record IsFdeOf (section : FrameSection) (address : ℕ) (bytes : List ℕ) (cies : List Cie) (f : Fde) : Type 0 where
   pub entry : CfiEntry
@@ -76,7 +72,8 @@ pub record IsFdeOf (section : FrameSection) (address : ℕ) (bytes : List ℕ) (
 -- the FDEs of pieces, in their order: the pieces that are left out are no FDEs that can be used
 abbrev pub FdesOf : ℕ → List Cie → List (Option CfiEntry) → List Fde → Type 0
 FdesOf address cies [] fdes = fdes ≡ []
-FdesOf address cies (p ∷ ps) fdes = (NoFdeIn address cies p × FdesOf address cies ps fdes) ⊎ ((f : Fde) × (fs : List Fde) × (fdes ≡ f ∷ fs) × IsFdeIn address cies p f × FdesOf address cies ps fs)
+FdesOf address cies (p ∷ ps) fdes = (NoFdeIn address cies p × FdesOf address cies ps fdes)
+    ⊎ ((f : Fde) × (fs : List Fde) × (fdes ≡ f ∷ fs) × IsFdeIn address cies p f × FdesOf address cies ps fs)
 
 -- the FDEs of a section, in its order: those of all its pieces, after which the section ends or there is no piece
 pub record FdesOfSection (section : FrameSection) (address : ℕ) (bytes : List ℕ) (cies : List Cie) (fdes : List Fde) : Type 0 where
@@ -88,7 +85,8 @@ pub record FdesOfSection (section : FrameSection) (address : ℕ) (bytes : List 
 
 -- the same, sorted by their first addresses; those with one first address keep their order
 abbrev pub SortedFdesOf : FrameSection → ℕ → List ℕ → List Cie → List Fde → Type 0
-SortedFdesOf section address bytes cies fdes = (fs : List Fde) × FdesOfSection section address bytes cies fs × IsNonDecreasingBy (λ (f : Fde). f.start) fdes × IsStableByKey (λ (f : Fde). f.start) nat_cmp fs fdes × IsPermutation fs fdes
+SortedFdesOf section address bytes cies fdes = (fs : List Fde) × FdesOfSection section address bytes cies fs × IsNonDecreasingBy (λ (f : Fde). f.start) fdes
+    × IsStableByKey (λ (f : Fde). f.start) nat_cmp fs fdes × IsPermutation fs fdes
 
 -- the FDE at the index is the first of those with the greatest first address up to the address
 pub record IsNearest (fdes : List Fde) (address index : ℕ) (f : Fde) : Type 0 where

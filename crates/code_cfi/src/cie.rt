@@ -2,9 +2,10 @@
 ghost use Rattle.std.specs.Prelude.{◌≡◌, ◌≤◌, ◌<◌, length, true, false, IfOk, IfSome, OnErr, is_some};
 ghost use Rattle.code_cfi.specs.Cies.{StringAt, SizesAt, ReturnAddressAt, PersonalityAt, letter_code};
 ghost use Rattle.code_cfi.specs.Cies.{is_letter, LettersAt, LetterAt, AugmentationAt, VersionAt};
-ghost use Rattle.code_cfi.specs.Cies.{CieAt, some_augmentation, NoString, NoSizes, NoReturnAddress};
-ghost use Rattle.code_cfi.specs.Cies.{NoPersonality, NoLetter, NoLetters, NoAugmentation};
-ghost use Rattle.code_cfi.specs.Cies.{NoVersion, NoCie};
+ghost use Rattle.code_cfi.specs.Cies.{CieAt, some_augmentation};
+ghost use Rattle.code_cfi.specs.steps.Cies.{NoString, NoSizes, NoReturnAddress};
+ghost use Rattle.code_cfi.specs.steps.Cies.{NoPersonality, NoLetter, NoLetters, NoAugmentation};
+ghost use Rattle.code_cfi.specs.steps.Cies.{NoVersion, NoCie};
 
 use crate::byte_range::ByteRange;
 use crate::entry::CfiEntry;

@@ -1,7 +1,8 @@
 //! The entries of a section: their lengths, and the identifiers that tell CIEs and FDEs apart.
 ghost use Rattle.std.specs.Prelude.{◌≡◌, ◌≤◌, ◌<◌, ◌+◌, ◌==◌, length, IfOk, IfSome, OnErr};
 ghost use Rattle.code_cfi.specs.Entries.{LengthAt, id_size as id_size_of, cie_id, EntryAt, PieceAt};
-ghost use Rattle.code_cfi.specs.Entries.{cie_offset as cie_offset_of, NoLength, NoEntry, NoPiece};
+ghost use Rattle.code_cfi.specs.Entries.{cie_offset as cie_offset_of, NoPiece};
+ghost use Rattle.code_cfi.specs.steps.Entries.{NoLength, NoEntry};
 
 use crate::error::CfiError;
 use crate::leb128::read_fixed;

@@ -1,6 +1,7 @@
 //! Frame description entries (FDE): the call frame information of a range of addresses.
 ghost use Rattle.std.specs.Prelude.{◌≡◌, ◌≤◌, ◌<◌, length, IfOk, OnErr};
-ghost use Rattle.code_cfi.specs.Fdes.{DataAt, FdeAt, NoData, NoFde};
+ghost use Rattle.code_cfi.specs.Fdes.{DataAt, FdeAt};
+ghost use Rattle.code_cfi.specs.steps.Fdes.{NoData, NoFde};
 
 use crate::byte_range::ByteRange;
 use crate::cie::Cie;

@@ -2,9 +2,9 @@
 ghost use Rattle.std.specs.Prelude.{◌≡◌, ◌≤◌, ◌<◌, length, true, false, IfOk, OnErr};
 ghost use Rattle.code_cfi.specs.Instructions.{PairAt, SignedPairAt, ExpressionAt, RegisterExpressionAt};
 ghost use Rattle.code_cfi.specs.Instructions.{OperandsAt, InstructionAt};
-ghost use Rattle.code_cfi.specs.Instructions.{NoPair, NoSignedPair, NoExpression, NoRegisterExpression};
-ghost use Rattle.code_cfi.specs.Instructions.{NoOperands, NoInstruction, is_location};
-ghost use Rattle.code_cfi.specs.Instructions.{is_cfa, is_rule, is_value_rule};
+ghost use Rattle.code_cfi.specs.steps.Instructions.{NoPair, NoSignedPair, NoExpression, NoRegisterExpression};
+ghost use Rattle.code_cfi.specs.steps.Instructions.{NoOperands, NoInstruction, is_location};
+ghost use Rattle.code_cfi.specs.steps.Instructions.{is_cfa, is_rule, is_value_rule};
 
 use crate::byte_range::ByteRange;
 use crate::error::CfiError;

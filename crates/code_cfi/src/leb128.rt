@@ -4,7 +4,8 @@ ghost use Rattle.std.specs.Prelude.{pos, ◌+ℤ◌, ◌*ℤ◌, ◌⊎◌, IfOk
 ghost use Rattle.std.specs.Prelude.{FitsSigned};
 ghost use Rattle.std.specs.Int.{w64};
 ghost use Rattle.code_cfi.specs.Numbers.{fixed_value, FixedAt, IsLeb128, Uleb128At, Sleb128At, BlockAt};
-ghost use Rattle.code_cfi.specs.Numbers.{NoLeb128, NoUleb128, NoSleb128, NoBlock, EndsInLeb128};
+ghost use Rattle.code_cfi.specs.Numbers.{NoUleb128, NoSleb128, EndsInLeb128};
+ghost use Rattle.code_cfi.specs.steps.Numbers.{NoLeb128, NoBlock};
 ghost use Rattle.code_cfi.specs.Numbers.{IsLongLeb128, IsLargeUleb128, IsLargeSleb128};
 ghost use Rattle.code_cfi.specs.declared.error.CfiError.TheVariants as errors;
 ghost use Rattle.code_cfi.specs.Numbers.{uleb128_value as uleb128, sleb128_value as sleb128};

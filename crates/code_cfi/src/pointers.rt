@@ -2,7 +2,7 @@
 ghost use Rattle.std.specs.Prelude.{◌≡◌, ◌≤◌, ◌<◌, ◌%◌, ◌^◌, length, IfOk, IfSome, IfNone, OnErr};
 ghost use Rattle.code_cfi.specs.Pointers.{format_code, sign_extended as extended, FormatAt, EncodedAt};
 ghost use Rattle.code_cfi.specs.Pointers.{PointerAt, SignedAt, Sleb128BitsAt};
-ghost use Rattle.code_cfi.specs.Pointers.{NoFormat, NoEncoded, NoPointer};
+ghost use Rattle.code_cfi.specs.steps.Pointers.{NoFormat, NoEncoded, NoPointer};
 ghost use Rattle.code_cfi.specs.Numbers.{NoSleb128};
 ghost use Rattle.code_cfi.specs.declared.pointers.Format.{Format};
 

@@ -1,9 +1,11 @@
 //! Programs of call frame instructions: what each instruction does to a row, and the row at an address.
 ghost use Rattle.std.specs.Prelude.{◌≡◌, ◌≢◌, ◌≤◌, ◌<◌, ◌++◌, ◌∷◌};
 ghost use Rattle.std.specs.Prelude.{[], None, length, IfOk, IfErr, OnOk, OnErr};
-ghost use Rattle.code_cfi.specs.Rows.{moment_of, factored, signed_factored, DefinesCfa};
+ghost use Rattle.code_cfi.specs.Rows.{factored, signed_factored, DefinesCfa};
+ghost use Rattle.code_cfi.specs.steps.Rows.{moment_of};
 ghost use Rattle.code_cfi.specs.Rows.{rule_of as rule_set, Rewrites, SetsRule, with_cfa, Runs, Steps};
-ghost use Rattle.code_cfi.specs.Rows.{Moment, StepsInFde, NoStep, NoRun};
+ghost use Rattle.code_cfi.specs.Rows.{Moment, StepsInFde};
+ghost use Rattle.code_cfi.specs.steps.Rows.{NoStep, NoRun};
 ghost use Rattle.code_cfi.specs.declared.row.Cfa.{Cfa};
 ghost use Rattle.code_cfi.specs.declared.error.CfiError.TheVariants as errors;
 

@@ -5,7 +5,8 @@ ghost use Rattle.std.specs.Prelude.{IfSome, OnOk, All, Some, false, nat_le, nat_
 ghost use Rattle.std.specs.List.Sorted.{IsNonDecreasingBy, IsPartitionPoint, IsPermutation, IsStableByKey};
 ghost use Rattle.std.specs.Ordering.{nat_cmp};
 ghost use Rattle.code_cfi.specs.Tables.{IsCieIn, IsCieOf, IsFdeIn, IsFdeOf, IsFdeAt, FdesOfSection};
-ghost use Rattle.code_cfi.specs.Tables.{SortedFdesOf, AreRising, NoFdeIn, NoCieIn, CiesOfSection};
+ghost use Rattle.code_cfi.specs.Tables.{SortedFdesOf, NoFdeIn, NoCieIn, CiesOfSection};
+ghost use Rattle.code_cfi.specs.steps.Tables.{AreRising};
 ghost use Rattle.code_cfi.specs.Fdes.{IsFde};
 
 use crate::byte_range::ByteRange;
@@ -43,7 +44,8 @@ pub struct RowAtAddress {
 impl EntryTable {
     ghost use Rattle.code_cfi.specs.TableRows.{IsRowIn, NoRowIn, IsWithin, IsProgram};
     ghost use Rattle.code_cfi.specs.TableRows.{encoding_in, program_in};
-    ghost use Rattle.code_cfi.specs.Rows.{Runs, NoRun, moment_of};
+    ghost use Rattle.code_cfi.specs.Rows.{Runs};
+    ghost use Rattle.code_cfi.specs.steps.Rows.{NoRun, moment_of};
     ghost use Rattle.code_cfi.specs.declared.error.CfiError.TheVariants as errors;
 
     // Reads the entries of a section, whose first byte is at an address.

@@ -6,7 +6,8 @@ use Rattle.std.proofs.lemmas.Bool.{cases_lt, le-leb, lt-leb, lt-ltb, le-ltb, con
 use Rattle.std.proofs.lemmas.List.{take_all, get_or_default, get_or-take, length-append, length-take-le}
 use Rattle.std.proofs.Math.Seq.{get_or-append_seam}
 use Rattle.std.proofs.lemmas.List.Sorted.{IsNonDecreasingBy-push, IsNonDecreasingBy-take}
-use Rattle.code_symbols.specs.Boundaries.{covers, later_of, symbol_from, IsAppendPoint}
+use Rattle.code_symbols.specs.Boundaries.{covers, later_of, symbol_from}
+use Rattle.code_symbols.specs.steps.Boundaries.{IsAppendPoint}
 use Rattle.code_symbols.specs.declared.boundary.Boundary.{Boundary}
 use Rattle.code_symbols.proofs.BoundaryLemmas.{symbol_from-push}
 use Rattle.code_symbols.proofs.MergeLemmas.{symbol-more}

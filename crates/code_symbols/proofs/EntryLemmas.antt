@@ -5,7 +5,7 @@ use Rattle.std.proofs.lemmas.List.Elements.{All-push}
 use Rattle.code_symbols.specs.declared.elf.symbols.ElfSymbol.{ElfSymbol}
 use Rattle.code_symbols.specs.declared.elf.symbols.SymbolContext.{SymbolContext}
 use Rattle.code_symbols.specs.declared.ranked.RankedSymbol.{RankedSymbol}
-use Rattle.code_symbols.specs.Elf.{AddsEntries, IsOfEntry, IsRanked, elf_symbol_in}
+use Rattle.code_symbols.specs.steps.Elf.{AddsEntries, IsOfEntry, IsRanked, elf_symbol_in}
 
 module _ (c : SymbolContext) (entries : List ℕ) (size : ℕ) where
   -- one more symbol

@@ -7,7 +7,7 @@ use Rattle.std.proofs.lemmas.List.{take_more, get_or_default}
 use Rattle.std.proofs.lemmas.List.Elements.{All-push}
 use Rattle.std.proofs.lemmas.List.Sorted.{IsNonDecreasingBy-push}
 use Rattle.code_symbols.specs.Boundaries.{later_of, symbol_from}
-use Rattle.code_symbols.specs.Merge.{TakesLower, TakesUpper}
+use Rattle.code_symbols.specs.steps.Merge.{TakesLower, TakesUpper}
 use Rattle.code_symbols.specs.declared.boundary.Boundary.{Boundary}
 use Rattle.code_symbols.specs.declared.merge.MergeState.{MergeState}
 use Rattle.code_symbols.proofs.BoundaryLemmas.{symbol_from-push}

@@ -7,7 +7,7 @@ use Rattle.code_symbols.specs.declared.elf.plt.PltEntry.{PltEntry}
 use Rattle.code_symbols.specs.declared.elf.plt.Relocation.{Relocation}
 use Rattle.code_symbols.specs.declared.ranked.RankedSymbol.{RankedSymbol}
 use Rattle.code_symbols.specs.declared.ranked.RankedSymbols.{RankedSymbols}
-use Rattle.code_symbols.specs.Plt.{AddsPlt, IsMade, IsOfPlt}
+use Rattle.code_symbols.specs.steps.Plt.{AddsPlt, IsMade, IsOfPlt}
 
 module _ (section : Section) (entries : List PltEntry) (relocations : List Relocation) (old : RankedSymbols) where
   pub plt_none : AddsPlt section entries relocations old old

@@ -3,7 +3,8 @@ use Rattle.std.proofs.Common.{◌≡◌, ◌≢◌, ℕ, ◌-◌, ◌<◌, ◌�
 use Rattle.std.specs.List.Sorted.{IsPartitionPoint}
 use Rattle.std.proofs.lemmas.Bool.{cases_lt, ltb-true, lt-ltb, true≢false}
 use Rattle.std.proofs.lemmas.List.{get_or_past, get_or_default}
-use Rattle.code_symbols.specs.Strings.{AreNuls, IsStringEnd}
+use Rattle.code_symbols.specs.Strings.{AreNuls}
+use Rattle.code_symbols.specs.steps.Strings.{IsStringEnd}
 
 module _ (bytes nuls : List ℕ) (start p : ℕ) (o : AreNuls bytes nuls (length bytes)) (point : IsPartitionPoint (λ n. ltb n start ≡ true) (λ n. ltb n start ≡ false) nuls p) where
   below : (k d : ℕ) → k < p → get_or nuls k d < start

@@ -1,5 +1,5 @@
 -- The symbols that boundaries of the address space give to addresses. A symbol is its index in a list.
-use Rattle.std.specs.Prelude.{◌≡◌, ◌≤◌, ◌<◌, ℕ, ◌+◌, ◌-◌, Bool, ◌&&◌, List, [], ◌∷◌, length, take, slice_index_or, Option, None, Some, if◌then◌else◌, nat_le, nat_lt}
+use Rattle.std.specs.Prelude.{ℕ, ◌+◌, ◌-◌, Bool, ◌&&◌, List, [], ◌∷◌, Option, None, Some, if◌then◌else◌, nat_le, nat_lt}
 use Rattle.code_symbols.specs.declared.boundary.Boundary.{Boundary}
 
 -- the second symbol if there is one, otherwise the first
@@ -15,10 +15,3 @@ symbol_from before (c ∷ cs) x = symbol_from (if nat_le c.start x then c.symbol
 -- `size` addresses from `start` on contain the address
 abbrev pub covers : ℕ → ℕ → ℕ → Bool
 covers start size x = nat_le start x && nat_lt x (start + size)
-
--- the boundaries of a symbol over all others, from `start` up to `stop`, can replace the boundaries after the first `kept` ones
-pub record IsAppendPoint (boundaries : List Boundary) (start stop kept : ℕ) : Type 0 where
-  pub within : kept ≤ length boundaries
-  pub last : (d : Boundary) → 0 < kept → (slice_index_or boundaries (kept - 1) d).start ≤ start
-  pub before : (x : ℕ) → x < start → symbol_from None (take kept boundaries) x ≡ symbol_from None boundaries x
-  pub after : (x : ℕ) → stop ≤ x → symbol_from None boundaries x ≡ None

@@ -170,7 +170,8 @@ impl<R: PlacedSource + Drop> ElfFile<R> {
             return Ok(RankedSymbols::new(alloc));
         };
         let entries = read_contents(alloc, &mut self.source, &section, ElfTable::Symbols)?;
-        let section_indices = self.large_indices(alloc, index)?;
+        let section_indices = self.linked_table(alloc, header::SYMTAB_INDICES, index)?;
+        let versions = self.linked_table(alloc, header::VERSIONS, index)?;
         let names = self.linked_strings(alloc, &section)?;
         let text_sections = are_text(alloc, &self.sections, &self.section_names)?;
         let context = SymbolContext {
@@ -178,6 +179,7 @@ impl<R: PlacedSource + Drop> ElfFile<R> {
             sections: &self.sections,
             text_sections: &text_sections,
             section_indices: &section_indices,
+            versions: &versions,
             segments,
             names: &names,
         };
@@ -271,11 +273,17 @@ impl<R: PlacedSource + Drop> ElfFile<R> {
             .position(|section| section.section_type == section_type)
     }
 
-    // The bytes of the section indices of the symbols in the table with this index that don't fit into its
-    // entries (`SHT_SYMTAB_SHNDX`), or none.
-    fn large_indices(&mut self, alloc: Global, symbol_table: usize) -> Result<Vec<u8>, ElfError> {
+    // The bytes of the first section of a type that is linked to the symbol table with this index, or none:
+    // the section indices of the symbols that don't fit into its entries (`SHT_SYMTAB_SHNDX`), or their
+    // versions (`SHT_GNU_versym`).
+    fn linked_table(
+        &mut self,
+        alloc: Global,
+        section_type: u32,
+        symbol_table: usize,
+    ) -> Result<Vec<u8>, ElfError> {
         let Some(at) = self.sections.iter().position(|section| {
-            section.section_type == header::SYMTAB_INDICES && section.link as usize == symbol_table
+            section.section_type == section_type && section.link as usize == symbol_table
         })
         else {
             return Ok(Vec::new(alloc));

@@ -1,7 +1,8 @@
 //! Layers of symbols, as boundaries of the address space.
 ghost use Rattle.std.specs.Prelude.{◌≡◌, ◌<◌, ◌^◌, ◌&&◌, ℕ, if◌then◌else◌, IfOk, IfSome, OnErr, Some, None};
 ghost use Rattle.std.specs.List.Sorted.{IsNonDecreasingBy};
-ghost use Rattle.code_symbols.specs.Boundaries.{covers, later_of, IsAppendPoint};
+ghost use Rattle.code_symbols.specs.Boundaries.{covers, later_of};
+ghost use Rattle.code_symbols.specs.steps.Boundaries.{IsAppendPoint};
 
 use crate::boundary::Boundary;
 use crate::merge::merge;

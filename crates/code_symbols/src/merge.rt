@@ -2,7 +2,7 @@
 ghost use Rattle.std.specs.Prelude.{◌≡◌, ◌<◌, ◌+◌, ◌^◌, ◌⊎◌, ℕ, IfOk, None, length};
 ghost use Rattle.std.specs.List.Sorted.{IsNonDecreasingBy};
 ghost use Rattle.code_symbols.specs.Boundaries.{later_of, symbol_from};
-ghost use Rattle.code_symbols.specs.Merge.{TakesLower, TakesUpper};
+ghost use Rattle.code_symbols.specs.steps.Merge.{TakesLower, TakesUpper};
 
 use crate::boundary::Boundary;
 use std::alloc::{AllocError, Global};

@@ -19,6 +19,8 @@ pub struct RankedSymbol {
     /// Whether the symbol isn't one of the file's symbol table, but one made for an entry of the procedure
     /// linkage table.
     pub is_made: bool,
+    /// Whether the symbol is kept for old programs: its version isn't the default one of its name.
+    pub is_compatibility: bool,
     /// Whether the symbol is weak.
     pub is_weak: bool,
     /// Whether the symbol is global.
@@ -31,12 +33,13 @@ pub struct RankedSymbol {
 /// The symbols of one or more ELF files, and their names.
 ///
 /// A made symbol is ignored if one of the file starts with it. The symbol at an address is, of those with a
-/// size that contain it, the one with the greatest start. Of several with that start, one that isn't weak is
-/// preferred, then one that is global, then one with fewer
-/// leading underscores (255 and more are the same), then one with a longer name, then an earlier one. If none
-/// with a size contains the address, it is the symbol without a size with the greatest start at or before the
-/// address, if no symbol starts after it up to the address, no symbol with a size starts with it, and the
-/// address is in its section.
+/// size that contain it, the one with the greatest start. Of several with that start, one that isn't a
+/// compatibility symbol is preferred, then one that isn't weak, then one that is global, then one with fewer
+/// leading underscores (255 and more are the same), then one with a longer name, then an earlier one. A
+/// compatibility symbol is treated as one without a size if another one without starts with it and none
+/// with. If none with a size contains the address, it is the symbol without a size with the greatest start at
+/// or before the address, if no symbol starts after it up to the address, no symbol with a size starts with
+/// it, and the address is in its section.
 #[derive(Drop)]
 pub struct RankedSymbols {
     pub(crate) names: Vec<u8>,
@@ -48,6 +51,7 @@ pub struct RankedSymbols {
 struct Rank {
     start: u64,
     is_of_file: bool,
+    is_current: bool,
     has_size: bool,
     is_strong: bool,
     is_global: bool,
@@ -84,6 +88,7 @@ fn rank_candidate(names: &[u8], ranked: &RankedSymbol) -> Candidate {
         rank: Rank {
             start: ranked.symbol.start,
             is_of_file: !ranked.is_made,
+            is_current: !ranked.is_compatibility,
             has_size: ranked.symbol.size > 0,
             is_strong: !ranked.is_weak,
             is_global: ranked.is_global,
@@ -96,9 +101,10 @@ fn rank_candidate(names: &[u8], ranked: &RankedSymbol) -> Candidate {
 }
 
 // Extends each symbol without a size to the next greater start or the end of its section, unless another
-// symbol with its start is preferred. Made symbols get size 0 then. The symbols are sorted by their ranks.
+// symbol with its start is preferred. Made symbols get size 0 then, and compatibility symbols are treated as
+// those without a size if that one has none. The symbols are sorted by their ranks.
 fn extend_to_next(candidates: &mut [Candidate]) {
-    let mut next_start = u64::MAX;
+    let (mut next_start, mut next_has_size) = (u64::MAX, true);
     'candidates: for candidate in candidates.iter_mut().rev() {
         let start = candidate.symbol.start;
         if start < next_start {
@@ -106,8 +112,11 @@ fn extend_to_next(candidates: &mut [Candidate]) {
                 let end = next_start.min(candidate.section_end);
                 candidate.symbol.size = end.saturating_sub(start);
             }
+            next_has_size = candidate.rank.has_size;
         } else if !candidate.rank.is_of_file {
             candidate.symbol.size = 0;
+        } else if !candidate.rank.is_current && !next_has_size {
+            candidate.rank.has_size = false;
         }
         next_start = start;
     }

@@ -38,6 +38,7 @@ fn add_symbol(
             name_end: symbols.names.len(),
         },
         is_made: false,
+        is_compatibility: false,
         is_weak: false,
         is_global: true,
         section_end: u64::MAX,

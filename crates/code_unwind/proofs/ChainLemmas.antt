@@ -4,11 +4,13 @@ use Rattle.std.specs.Prelude.{All}
 use Rattle.std.proofs.lemmas.Bool.{true≢false}
 use Rattle.std.proofs.lemmas.List.Elements.{All-nil, All-cons, All-same}
 use Rattle.code_cfi.specs.declared.instruction.Machine.{Machine}
-use Rattle.code_unwind.specs.Callers.{IsCaller, EndsWith, IsEnd, MakesFoundCaller}
-use Rattle.code_unwind.specs.ChainEnds.{value_in}
+use Rattle.code_unwind.specs.Callers.{IsCaller, EndsWith, IsEnd}
+use Rattle.code_unwind.specs.steps.Callers.{MakesFoundCaller}
+use Rattle.code_unwind.specs.steps.ChainEnds.{value_in}
 use Rattle.code_unwind.specs.Chains.{IsLast, IsChain, IsMapped}
 use Rattle.code_unwind.specs.Frames.{look_up_of, user_frame_of}
-use Rattle.code_unwind.specs.Steps.{Finds, IsStep}
+use Rattle.code_unwind.specs.FrameSteps.{Finds}
+use Rattle.code_unwind.specs.steps.FrameSteps.{IsStep}
 use Rattle.code_unwind.specs.declared.registers.FrameRegisters.{FrameRegisters}
 use Rattle.code_unwind.specs.declared.stack_copy.StackCopy.{StackCopy}
 use Rattle.code_unwind.specs.declared.code.MappedCode.{MappedCode}

@@ -5,7 +5,7 @@ use Rattle.std.specs.Prelude.{IfOk, IfErr}
 use Rattle.code_cfi.specs.Numbers.{Uleb128At}
 use Rattle.code_unwind.specs.Expressions.{Context, Moment, NextAt, EndsWith, Spends}
 use Rattle.code_unwind.specs.Operations.{OperationAt}
-use Rattle.code_unwind.specs.ExpressionStack.{Leaves}
+use Rattle.code_unwind.specs.steps.ExpressionStack.{Leaves}
 use Rattle.code_unwind.specs.declared.expression.ExpressionError.{ExpressionError}
 use Rattle.code_unwind.specs.declared.expression.ExpressionError.TheVariants as errors
 use Rattle.code_unwind.specs.declared.operation.Operation.{Operation}

@@ -1,5 +1,5 @@
 -- The caller with the registers that a step found, or the end of the chain.
-use Rattle.std.specs.Prelude.{◌≡◌, ◌≢◌, ◌⊎◌, ℕ, ◌%◌, ◌^◌, Bool, true, false, Option, Some, None, Result, Ok, Err, if◌then◌else◌, nat_le, nat_lt}
+use Rattle.std.specs.Prelude.{◌≡◌, ◌≢◌, ◌⊎◌, ℕ, ◌%◌, ◌^◌, Bool, true, false, Option, Some, None, Ok, Err, if◌then◌else◌, nat_le, nat_lt}
 use Rattle.code_cfi.specs.declared.instruction.Machine.{Machine}
 use Rattle.code_cfi.specs.declared.instruction.Machine.TheVariants as machines
 use Rattle.code_unwind.specs.Machines.{stack_pointer, pc_number}
@@ -46,7 +46,8 @@ pub record MayCall (m : Machine) (f : UnwoundFrame) (found : CallerRegisters) (r
   pub rises : may_follow m f found.is_signal top ≡ true
 
 -- the caller with these registers, which lies in an executable mapping
-pub record HasCaller (executable : ℕ → Bool → Type 0) (m : Machine) (f : UnwoundFrame) (found : CallerRegisters) (r : FrameRegisters) (caller : UnwoundFrame) : Type 0 where
+pub record HasCaller (executable : ℕ → Bool → Type 0) (m : Machine) (f : UnwoundFrame) (found : CallerRegisters) (r : FrameRegisters)
+    (caller : UnwoundFrame) : Type 0 where
   pub may : MayCall m f found r caller.pc
   pub caller_is : caller ≡ caller_frame m found r caller.pc
   pub mapped : executable (look_up_of caller) true
@@ -58,11 +59,6 @@ EndsWith executable m f found r ends.Root = (top : ℕ) × Known m r 0 top
 EndsWith executable m f found r ends.Stuck = (pc top : ℕ) × Known m r pc top × (pc ≢ 0) × (may_follow m f found.is_signal top ≡ false)
 EndsWith executable m f found r ends.Outside = (pc : ℕ) × MayCall m f found r pc × executable (look_up_of (caller_frame m found r pc)) false
 EndsWith executable m f found r _ = ⊥
-
--- what is made of these registers: the caller or the end
-abbrev pub Makes : (ℕ → Bool → Type 0) → Machine → UnwoundFrame → CallerRegisters → FrameRegisters → Result UnwoundFrame ChainEnd → Type 0
-Makes executable m f found r (Ok caller) = HasCaller executable m f found r caller
-Makes executable m f found r (Err e) = EndsWith executable m f found r e
 
 -- the caller with the registers that were found
 pub record IsCaller (executable : ℕ → Bool → Type 0) (m : Machine) (f : UnwoundFrame) (found : CallerRegisters) (caller : UnwoundFrame) : Type 0 where
@@ -78,8 +74,3 @@ pub record HasEnd (executable : ℕ → Bool → Type 0) (m : Machine) (f : Unwo
 
 abbrev pub IsEnd : (ℕ → Bool → Type 0) → Machine → UnwoundFrame → CallerRegisters → ChainEnd → Type 0
 IsEnd executable m f found e = (found.registers ≡ Err e) ⊎ HasEnd executable m f found e
-
--- what a step makes of the registers that it found
-abbrev pub MakesFoundCaller : (ℕ → Bool → Type 0) → Machine → UnwoundFrame → CallerRegisters → Result UnwoundFrame ChainEnd → Type 0
-MakesFoundCaller executable m f found (Ok caller) = IsCaller executable m f found caller
-MakesFoundCaller executable m f found (Err e) = IsEnd executable m f found e

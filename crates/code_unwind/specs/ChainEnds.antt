@@ -1,5 +1,5 @@
 -- The ends of chains: their names, and what there is unless a chain ends.
-use Rattle.std.specs.Prelude.{ℕ, List, Result, Ok, Err, codes}
+use Rattle.std.specs.Prelude.{ℕ, List, codes}
 use Rattle.code_unwind.specs.declared.frame.ChainEnd.{ChainEnd}
 use Rattle.code_unwind.specs.declared.frame.ChainEnd.TheVariants as ends
 
@@ -13,8 +13,3 @@ chain_end_name ends.Stuck = codes "stuck"
 chain_end_name ends.Limit = codes "limit"
 chain_end_name ends.OtherAbi = codes "other-abi"
 chain_end_name ends.None = codes "none"
-
--- a value that there is unless the chain ends
-abbrev pub value_in : {A : Type 0} → Result (Unit {0}) ChainEnd → A → Result A ChainEnd
-value_in (Ok is) value = Ok value
-value_in (Err e) value = Err e

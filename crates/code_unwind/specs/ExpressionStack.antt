@@ -1,5 +1,5 @@
 -- The values of an expression, and what operations do to them (DWARF 5, section 2.5.1). Values are modulo 2 ^ 64.
-use Rattle.std.specs.Prelude.{◌≡◌, ℕ, ℤ, ◌+◌, ◌-◌, ◌*◌, ◌/◌, ◌%◌, ◌^◌, ◌==◌, ◌&&◌, List, [], ◌∷◌, length, reverse, Bool, true, false, Option, Some, None, Result, Ok, Err, if◌then◌else◌, nat_lt, nat_le, min, slice_get, bit_and, bit_or, bit_xor, int_lt, int_le, int_div, unsigned_abs}
+use Rattle.std.specs.Prelude.{ℕ, ℤ, ◌+◌, ◌-◌, ◌*◌, ◌/◌, ◌%◌, ◌^◌, ◌==◌, ◌&&◌, List, [], ◌∷◌, length, Bool, true, false, Option, Some, None, Result, Ok, Err, if◌then◌else◌, nat_lt, nat_le, min, slice_get, bit_and, bit_or, bit_xor, int_lt, int_le, int_div, unsigned_abs}
 use Rattle.std.specs.Option.{option_map}
 use Rattle.std.specs.Ordering.{int_eq}
 use Rattle.std.specs.Int.{cast_signed, cast_unsigned, int_shr, w64}
@@ -16,11 +16,6 @@ use Rattle.code_unwind.specs.declared.operation.BinaryOperation.{BinaryOperation
 use Rattle.code_unwind.specs.declared.operation.BinaryOperation.TheVariants as binary
 use Rattle.code_unwind.specs.declared.operation.Operation.{Operation}
 use Rattle.code_unwind.specs.declared.operation.Operation.TheVariants as operations
-use Rattle.code_unwind.specs.declared.values.ExpressionStack.{ExpressionStack}
-
--- the values, the top first
-abbrev pub stack_of : ExpressionStack → List ℕ
-stack_of v = reverse v.items.items
 
 -- the values before the first operation
 abbrev pub first_values : Option ℕ → List ℕ
@@ -129,9 +124,3 @@ abbrev pub distance_of : Operation → List ℕ → ℕ
 distance_of (operations.Branch n) s = branch_distance n s
 distance_of (operations.Skip n) s = n
 distance_of _ s = 0
-
--- what a call that changes the stack returns, and leaves
-abbrev pub Leaves : Result (List ℕ) ExpressionError → List ℕ → Result Unit ExpressionError → Type 0
-Leaves (Ok s) new (Ok u) = new ≡ s
-Leaves (Err e) new (Err f) = f ≡ e
-Leaves _ new result = ⊥

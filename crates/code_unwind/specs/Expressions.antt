@@ -1,7 +1,7 @@
 -- The run of an expression (DWARF 5, section 2.5.1).
 use Rattle.std.specs.Prelude.{◌≡◌, ◌⊎◌, ℕ, ◌+◌, ◌%◌, ◌^◌, ◌<◌, ◌≤◌, List, [], ◌∷◌, length, drop, Option, Result, Ok, Err}
 use Rattle.code_unwind.specs.Operations.{OperationAt, NoOperation}
-use Rattle.code_unwind.specs.ExpressionStack.{stack_of, first_values, effect, distance_of}
+use Rattle.code_unwind.specs.ExpressionStack.{first_values, effect, distance_of}
 use Rattle.code_unwind.specs.declared.registers.FrameRegisters.{FrameRegisters}
 use Rattle.code_unwind.specs.declared.stack_copy.StackCopy.{StackCopy}
 use Rattle.code_unwind.specs.declared.expression.ExpressionError.{ExpressionError}
@@ -24,10 +24,6 @@ pub record Moment : Type 0 where
   pub position : ℕ
   pub stack : List ℕ
   pub remaining : ℕ
-
--- what an evaluator has at an offset
-abbrev pub moment_at : Evaluator → ℕ → Moment
-moment_at e position = record { position = position; stack = stack_of e.values; remaining = e.remaining }
 
 -- the operation at a moment, which may be carried out; after its bytes the offset is `after`
 pub record NextAt (x : Context) (m : Moment) (op : Operation) (after : ℕ) : Type 0 where

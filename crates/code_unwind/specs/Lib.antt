@@ -11,6 +11,7 @@ pub mod FrameRegisters
 pub mod Rules
 pub mod Samples
 pub mod Stacks
-pub mod Steps
+pub mod FrameSteps
 pub mod Unwinders
 pub mod ExpressionStack
+pub mod steps

@@ -137,12 +137,5 @@ pub record OperationAt (bytes : List ℕ) (op : Operation) (rest : List ℕ) : T
   pub form_is : form_of opcode ≡ Some form
   pub operands_at : OperandsAt form operands op rest
 
--- the bytes start with no number, no operands, or no operation
-abbrev pub NoNumber : Number → List ℕ → Type 0
-NoNumber k bytes = (n : ℕ) (rest : List ℕ) → NumberAt k bytes n rest → ⊥
-
-abbrev pub NoOperands : Operands → List ℕ → Type 0
-NoOperands form bytes = (op : Operation) (rest : List ℕ) → OperandsAt form bytes op rest → ⊥
-
 abbrev pub NoOperation : List ℕ → Type 0
 NoOperation bytes = (op : Operation) (rest : List ℕ) → OperationAt bytes op rest → ⊥

@@ -38,7 +38,12 @@ is_span bytes span = (if nat_le span.start span.end then nat_le span.end (length
 
 pub record HasValue (f : Callee) (span : ByteRange) (first : Option ℕ) (k : ℕ) (result : Result ℕ ChainEnd) (n : ℕ) : Type 0 where
   pub value : Result ℕ ExpressionError
-  pub evaluates : Evaluates (record { bytes = slice_range (bytes_of f.table.now) span.start span.end; registers = f.registers.now; copy = f.copy }) first k value n
+  pub evaluates : Evaluates (record {
+    bytes =
+        slice_range (bytes_of f.table.now) span.start span.end;
+    registers = f.registers.now;
+    copy = f.copy;
+  }) first k value n
   pub result_is : result ≡ ended value
 
 abbrev pub ExpressionIs : Callee → ByteRange → Option ℕ → ℕ → Result ℕ ChainEnd → ℕ → Type 0

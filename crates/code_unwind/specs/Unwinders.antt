@@ -3,7 +3,7 @@ use Rattle.std.specs.Prelude.{◌≡◌, ℕ, List, [], Bool, Option, Some, None
 use Rattle.code_cfi.specs.declared.instruction.Machine.{Machine}
 use Rattle.code_unwind.specs.Machines.{pc_number}
 use Rattle.code_unwind.specs.Stacks.{register_of}
-use Rattle.code_unwind.specs.Steps.{Finds}
+use Rattle.code_unwind.specs.FrameSteps.{Finds}
 use Rattle.code_unwind.specs.Chains.{IsChain, frame_limit, first_frame}
 use Rattle.code_unwind.specs.declared.registers.FrameRegisters.{FrameRegisters}
 use Rattle.code_unwind.specs.declared.stack_copy.StackCopy.{StackCopy}

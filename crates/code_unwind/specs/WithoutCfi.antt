@@ -80,7 +80,8 @@ at_plt machines.AArch64 p r c = Ok (with_register r 32 (register_of r 30))
 -- Frame pointers: two words, the caller's frame pointer and the return address, and its stack pointer after them.
 abbrev pub framed : Machine → ℕ → Option ℕ → Option ℕ → Result FrameRegisters ChainEnd
 framed m base (Some next) (Some pc) =
-    Ok (with_register (with_register (with_register no_registers (frame_pointer m) (Some next)) (stack_pointer m) (Some (sum_of base 16))) (pc_number m) (Some pc))
+    Ok (with_register (with_register (with_register no_registers (frame_pointer m) (Some next)) (stack_pointer m) (Some (sum_of base 16))) (pc_number m)
+    (Some pc))
 framed m base _ _ = Err ends.NoCfi
 
 abbrev pub by_base : Machine → StackCopy → ℕ → Option ℕ → Result FrameRegisters ChainEnd

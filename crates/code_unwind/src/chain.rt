@@ -1,6 +1,6 @@
 //! The chain of frames of a sample.
 ghost use Rattle.std.specs.Prelude.{◌≡◌, ◌≤◌, [], length, drop, IfOk, OnOk, All};
-ghost use Rattle.code_unwind.specs.Steps.{Finds};
+ghost use Rattle.code_unwind.specs.FrameSteps.{Finds};
 ghost use Rattle.code_unwind.specs.Chains.{IsChain, IsMapped, frame_limit};
 
 use crate::code::CodeMap;

@@ -2,8 +2,8 @@
 ghost use Rattle.std.specs.Prelude.{◌≡◌, Some, None, MatchOption};
 ghost use Rattle.code_cfi.specs.Tables.{IsFdeAt};
 ghost use Rattle.code_cfi.specs.FrameTables.{fdes_of};
-ghost use Rattle.code_unwind.specs.Steps.{file_tables, HasFde, HasNoFde, IsFdeIn};
-ghost use Rattle.code_unwind.specs.Steps.{HasSameEntries, entries_of};
+ghost use Rattle.code_unwind.specs.FrameSteps.{file_tables, HasFde, HasNoFde, IsFdeIn};
+ghost use Rattle.code_unwind.specs.FrameSteps.{HasSameEntries, entries_of};
 
 use code_cfi::FrameTable;
 use std::alloc::{AllocError, Global};

@@ -30,7 +30,8 @@ pub struct Evaluator {
 }
 
 impl Evaluator {
-    ghost use Rattle.code_unwind.specs.Expressions.{remaining_of, moment_at, Evaluates, StepsTo, Stops};
+    ghost use Rattle.code_unwind.specs.Expressions.{remaining_of, Evaluates, StepsTo, Stops};
+    ghost use Rattle.code_unwind.specs.steps.Expressions.{moment_at};
     ghost use Rattle.code_unwind.specs.declared.operation.Operation.{Operation};
 
     /// Makes an evaluator, which may carry out 16,384 operations.

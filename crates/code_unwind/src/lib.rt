@@ -24,5 +24,6 @@ pub use code::{CodeMap, FileTables, MappedCode, Plt};
 pub use code_cfi::Machine;
 pub use expression::{Evaluator, ExpressionError};
 pub use frame::{ChainEnd, FrameOrigin, UserFrame};
+pub use machine::{pc_number, stack_pointer};
 pub use registers::FrameRegisters;
 pub use stack_copy::StackCopy;

@@ -30,8 +30,8 @@ pub(crate) fn frame_pointer(machine: Machine) -> u64
     }
 }
 
-// The number of the stack pointer.
-pub(crate) fn stack_pointer(machine: Machine) -> u64
+/// Returns the number of the stack pointer.
+pub fn stack_pointer(machine: Machine) -> u64
     ensures { result ≡ stack_pointer_of machine }
 {
     match machine {
@@ -40,8 +40,8 @@ pub(crate) fn stack_pointer(machine: Machine) -> u64
     }
 }
 
-// The number of the program counter.
-pub(crate) fn pc_number(machine: Machine) -> u64
+/// Returns the number of the program counter.
+pub fn pc_number(machine: Machine) -> u64
     ensures { result ≡ pc_number_of machine }
 {
     match machine {

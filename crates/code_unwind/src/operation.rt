@@ -4,7 +4,8 @@ ghost use Rattle.code_cfi.specs.Numbers.{FixedAt};
 ghost use Rattle.code_unwind.specs.Operations.{binary_opcode, comparison_opcode, unary_opcode};
 ghost use Rattle.code_unwind.specs.Operations.{other_opcode, constant_opcode};
 ghost use Rattle.code_unwind.specs.Operations.{operand_opcode, form_of, sign_extended, SignedAt};
-ghost use Rattle.code_unwind.specs.Operations.{NumberAt, NoNumber, OperandsAt, NoOperands, OperationAt};
+ghost use Rattle.code_unwind.specs.Operations.{NumberAt, OperandsAt, OperationAt};
+ghost use Rattle.code_unwind.specs.steps.Operations.{NoNumber, NoOperands};
 ghost use Rattle.code_unwind.specs.Operations.{NoOperation};
 
 use crate::expression::ExpressionError;

@@ -2,7 +2,7 @@
 ghost use Rattle.std.specs.Prelude.{◌≡◌, true, slice_range, Err, IfErr, OnOk};
 ghost use Rattle.code_cfi.specs.FrameTables.{bytes_of};
 ghost use Rattle.code_unwind.specs.Expressions.{Evaluates, remaining_of};
-ghost use Rattle.code_unwind.specs.ChainEnds.{value_in};
+ghost use Rattle.code_unwind.specs.steps.ChainEnds.{value_in};
 ghost use Rattle.code_unwind.specs.Machines.{stack_pointer as stack_pointer_of};
 ghost use Rattle.code_unwind.specs.Rules.{expression_end as end_by, ExpressionIs, CfaIs, ValueIs, ValuesAre};
 ghost use Rattle.code_unwind.specs.Rules.{ByRow, is_span};

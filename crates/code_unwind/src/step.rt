@@ -1,13 +1,16 @@
 //! From a frame to its caller.
 ghost use Rattle.std.specs.Prelude.{◌≡◌, ℕ, Bool, IfOk, MatchOption};
-ghost use Rattle.code_unwind.specs.ChainEnds.{value_in};
+ghost use Rattle.code_unwind.specs.steps.ChainEnds.{value_in};
 ghost use Rattle.code_unwind.specs.Expressions.{remaining_of};
 ghost use Rattle.code_cfi.specs.FrameTables.{IsRowAt};
-ghost use Rattle.code_unwind.specs.Steps.{Finds, FoundByFde, FoundByRow, IsStep};
-ghost use Rattle.code_unwind.specs.Steps.{by_code, by_bytes, by_mapped_code, found_in};
-ghost use Rattle.code_unwind.specs.Steps.{CodeHasFde, CodeHasNoFde, IsCallee, origin_by_row};
+ghost use Rattle.code_unwind.specs.FrameSteps.{Finds, FoundByFde, FoundByRow};
+ghost use Rattle.code_unwind.specs.steps.FrameSteps.{IsStep};
+ghost use Rattle.code_unwind.specs.FrameSteps.{by_code, by_bytes, by_mapped_code};
+ghost use Rattle.code_unwind.specs.steps.FrameSteps.{found_in};
+ghost use Rattle.code_unwind.specs.FrameSteps.{CodeHasFde, CodeHasNoFde, IsCallee, origin_by_row};
 ghost use Rattle.code_unwind.specs.declared.code.MappedCode.{MappedCode as Mapped};
-ghost use Rattle.code_unwind.specs.Callers.{Makes, MakesFoundCaller, pc_address as address_in};
+ghost use Rattle.code_unwind.specs.Callers.{pc_address as address_in};
+ghost use Rattle.code_unwind.specs.steps.Callers.{Makes, MakesFoundCaller};
 ghost use Rattle.code_unwind.specs.Callers.{may_follow};
 ghost use Rattle.code_unwind.specs.Callers.{caller_frame as frame_of_caller};
 

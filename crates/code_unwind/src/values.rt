@@ -116,7 +116,8 @@ fn unary_result(
 }
 
 impl ExpressionStack {
-    ghost use Rattle.code_unwind.specs.ExpressionStack.{stack_of, first_values, Leaves, pushed, with_unary};
+    ghost use Rattle.code_unwind.specs.ExpressionStack.{first_values, pushed, with_unary};
+    ghost use Rattle.code_unwind.specs.steps.ExpressionStack.{stack_of, Leaves};
     ghost use Rattle.code_unwind.specs.ExpressionStack.{with_binary};
     ghost use Rattle.code_unwind.specs.ExpressionStack.{dropped, swapped, rotated, effect, distance_of};
 

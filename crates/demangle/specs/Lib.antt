@@ -1,2 +1,3 @@
 pub mod Demangler
 pub mod Prefix
+pub mod steps

@@ -22,7 +22,8 @@ pub struct Demangler {
 const PLT: &[u8] = b"@plt";
 
 impl Demangler {
-    ghost use Rattle.demangle.specs.Demangler.{text_in, limit_in};
+    ghost use Rattle.demangle.specs.Demangler.{text_in};
+    ghost use Rattle.demangle.specs.steps.Demangler.{limit_in};
     ghost use Rattle.demangle_text.specs.Text.{limit_for};
 
     /// Creates a demangler.

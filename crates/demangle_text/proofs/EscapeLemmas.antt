@@ -4,7 +4,8 @@ use Rattle.std.specs.List.{All, slice_split, join_with_byte}
 use Rattle.std.specs.Option.{option_map_or}
 use Rattle.std.proofs.lemmas.List.Elements.{All-head, All-tail}
 use Rattle.std.proofs.lemmas.List.Splits.{slice_split_none, slice_split_at, length-slice_split, join_with_byte-slice_split}
-use Rattle.demangle_text.specs.Legacy.{is_dollar, with_colons, escaped, text_of_fields, text_of_escapes, IsEscape, IsNoEscape}
+use Rattle.demangle_text.specs.Legacy.{is_dollar, with_colons, escaped, text_of_fields, text_of_escapes}
+use Rattle.demangle_text.specs.steps.Legacy.{IsEscape, IsNoEscape}
 
 next_field : (plain name : List ℕ) (fields : List (List ℕ)) → 0 < length fields → text_of_fields (plain ∷ (name ∷ fields)) ≡ with_colons plain ++ option_map_or (λ c. encode_utf8 c ++ text_of_fields fields) (escaped name) (36 ∷ join_with_byte 36 (name ∷ fields))
 next_field plain name [] some = absurd (omega (arith, some))

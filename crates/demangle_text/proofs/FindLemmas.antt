@@ -8,7 +8,8 @@ use Rattle.std.proofs.Common.{eqb-true}
 use Rattle.std.proofs.lemmas.List.{drop_more, get_or-take}
 use Rattle.std.proofs.lemmas.List.Elements.{All-from_get_or}
 use Rattle.memchr.specs.Find.{Passes, Nowhere, NoneBefore, is_byte}
-use Rattle.demangle_text.specs.Legacy.{IsEscape, IsNoEscape, escaped, is_dollar, with_colons, text_of_escapes, text_of_fields}
+use Rattle.demangle_text.specs.Legacy.{escaped, is_dollar, with_colons, text_of_escapes, text_of_fields}
+use Rattle.demangle_text.specs.steps.Legacy.{IsEscape, IsNoEscape}
 use Rattle.demangle_text.specs.Text.{IsWhy, text_of, limit_of}
 use Rattle.demangle_text.specs.declared.text.Text.{Text}
 use Rattle.demangle_text.specs.declared.failure.Failure.{Failure}

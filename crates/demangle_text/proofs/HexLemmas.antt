@@ -10,7 +10,8 @@ use Rattle.std.specs.Bool.{Decides}
 use Rattle.std.proofs.lemmas.Int.Digits.{digits_value_more}
 use Rattle.std.proofs.lemmas.List.Elements.{All-get_or, All-more}
 use Rattle.std.proofs.lemmas.Str.Parse.{digits_value-take-le}
-use Rattle.demangle_text.specs.Legacy.{IsHexDigit, IsVisible, hex_character, is_hex_digit, is_visible}
+use Rattle.demangle_text.specs.Legacy.{IsHexDigit, hex_character, is_hex_digit, is_visible}
+use Rattle.demangle_text.specs.steps.Legacy.{IsVisible}
 
 pub hex_step : (ds : List ℕ) (i number next : ℕ) → i < length ds → All IsHexDigit (take i ds) → number ≡ digits_value 16 (take i ds) → IsHexDigit (get_or ds i 0) → next ≡ number * 16 + digit_value (get_or ds i 0) → All IsHexDigit (take (i + 1) ds) × (next ≡ digits_value 16 (take (i + 1) ds))
 hex_step ds i number next lt all value is next_is =

@@ -8,7 +8,8 @@ use Rattle.std.proofs.lemmas.List.Elements.{All-push, All-take}
 use Rattle.std.proofs.lemmas.Option.{get_or_from_slice_get, slice_get_within}
 use Rattle.demangle_text.specs.Cursor.{bytes_of, byte_at, unread, position_of}
 use Rattle.demangle_text.specs.declared.cursor.Cursor.{Cursor}
-use Rattle.demangle_text.specs.Legacy.{AppendsPart, AppendsParts, AreParts, IsHash, IsHexDigit, IsLegacyName, IsPart, is_part_byte, written, separator, text_of_part, text_of_parts}
+use Rattle.demangle_text.specs.Legacy.{AppendsParts, AreParts, IsHash, IsHexDigit, IsLegacyName, IsPart, is_part_byte, written, text_of_part, text_of_parts}
+use Rattle.demangle_text.specs.steps.Legacy.{AppendsPart, separator}
 use Rattle.demangle_text.specs.Text.{IsWhy, text_of, limit_of}
 use Rattle.demangle_text.specs.declared.text.Text.{Text}
 use Rattle.demangle_text.specs.declared.failure.Failure.{Failure}

@@ -8,7 +8,8 @@ use Rattle.std.proofs.lemmas.List.{append_cancel_left, get_or_append_left}
 use Rattle.std.proofs.lemmas.List.Elements.{All-head, All-tail}
 use Rattle.std.proofs.lemmas.Str.Parse.{digit_at}
 use Rattle.demangle_text.specs.Digits.{leading_digits}
-use Rattle.demangle_text.specs.Legacy.{IsPart, written, separator, text_of_part, text_of_parts}
+use Rattle.demangle_text.specs.Legacy.{IsPart, written, text_of_part, text_of_parts}
+use Rattle.demangle_text.specs.steps.Legacy.{separator}
 use Rattle.demangle_text.proofs.DigitLemmas.{leading_digits-append}
 
 part_not_digit : (part rest : List ℕ) → IsPart part → ¬ IsAsciiDigit (get_or (part ++ rest) 0 0)

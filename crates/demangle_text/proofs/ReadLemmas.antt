@@ -6,7 +6,8 @@ use Rattle.std.specs.Str.Parse.{digits_value, digits_value_after}
 use Rattle.std.proofs.lemmas.Fmt.{decimal_is_IsNumeral, first_decimal}
 use Rattle.std.proofs.lemmas.List.{drop_more, get_or_append_left, get_or-take}
 use Rattle.std.proofs.lemmas.Option.{get_or_from_slice_get, slice_get_within, slice_get-get_or}
-use Rattle.demangle_text.specs.Cursor.{bytes_of, byte_at, position_of, unread, IsDigitAt, IsNumberRead, ReadsNumber}
+use Rattle.demangle_text.specs.Cursor.{bytes_of, byte_at, position_of, unread, IsNumberRead, ReadsNumber}
+use Rattle.demangle_text.specs.steps.Cursor.{IsDigitAt}
 use Rattle.demangle_text.specs.Digits.{leading_digits}
 use Rattle.demangle_text.specs.Legacy.{IsPart, written}
 use Rattle.demangle_text.specs.declared.cursor.Cursor.{Cursor}

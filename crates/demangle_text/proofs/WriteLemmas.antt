@@ -2,7 +2,8 @@
 use Rattle.std.proofs.Common.{◌≡◌, ℕ, ◌+◌, ◌^◌, ◌<◌, List, ◌++◌, length, refl, sym, ap, ◌∙◌, arith, append_assoc, length-append, length-drop}
 use Rattle.std.specs.Fmt.{decimal}
 use Rattle.demangle_text.specs.Cursor.{bytes_of, position_of, unread}
-use Rattle.demangle_text.specs.Legacy.{AppendsPart, IsPart, written, separator, text_of_part}
+use Rattle.demangle_text.specs.Legacy.{IsPart, written, text_of_part}
+use Rattle.demangle_text.specs.steps.Legacy.{AppendsPart, separator}
 use Rattle.demangle_text.specs.Text.{IsWhy, text_of, limit_of}
 use Rattle.demangle_text.specs.declared.cursor.Cursor.{Cursor}
 use Rattle.demangle_text.specs.declared.text.Text.{Text}

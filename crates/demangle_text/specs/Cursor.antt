@@ -1,6 +1,5 @@
 -- A position in the bytes of a name.
-use Rattle.std.specs.Prelude.{◌≡◌, ◌+◌, ◌<◌, ◌≤◌, ◌^◌, ◌-◌, ℕ, List, [], Option, Some, Result, Ok, Err, drop, length, slice_get}
-use Rattle.std.specs.Char.{IsAsciiDigit}
+use Rattle.std.specs.Prelude.{◌≡◌, ◌+◌, ◌<◌, ◌≤◌, ◌^◌, ◌-◌, ℕ, List, [], Option, Result, Ok, Err, drop, length, slice_get}
 use Rattle.std.specs.Str.Parse.{digits_value}
 use Rattle.demangle_text.specs.Digits.{leading_digits}
 use Rattle.demangle_text.specs.declared.cursor.Cursor.{Cursor}
@@ -35,10 +34,3 @@ ReadsNumber old (Ok number) new = IsNumberRead old number new
 ReadsNumber old (Err Grammar) new = leading_digits (unread old) ≡ []
 ReadsNumber old (Err Limit) new = 2 ^ 64 ≤ digits_value 10 (leading_digits (unread old))
 ReadsNumber old (Err Memory) new = ⊥
-
--- the byte at the position is a digit with this value
-pub record IsDigitAt (c : Cursor) (digit : ℕ) : Type 0 where
-  pub byte : ℕ
-  pub byte_is : byte_at c ≡ Some byte
-  pub is_digit : IsAsciiDigit byte
-  pub value : digit ≡ byte - 48

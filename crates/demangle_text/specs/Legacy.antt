@@ -1,5 +1,5 @@
 -- Rust's names of before: parts with their lengths, the last of which is a hash; and their text.
-use Rattle.std.specs.Prelude.{◌≡◌, ◌+◌, ◌<◌, ◌≤◌, ◌⊎◌, ◌==◌, ◌&&◌, ◌||◌, if◌then◌else◌, ℕ, Bool, false, List, [], ◌∷◌, ◌++◌}
+use Rattle.std.specs.Prelude.{◌≡◌, ◌+◌, ◌<◌, ◌≤◌, ◌⊎◌, ◌==◌, ◌&&◌, ◌||◌, if◌then◌else◌, ℕ, Bool, List, [], ◌∷◌, ◌++◌}
 use Rattle.std.specs.Prelude.{All, Option, None, Some, drop, take, length, slice_index, nat_eq, nat_lt, nat_le, codes, encode_utf8}
 use Rattle.std.specs.Char.{IsAsciiDigit, is_ascii_alphanumeric}
 use Rattle.std.specs.Fmt.{decimal}
@@ -7,9 +7,7 @@ use Rattle.std.specs.List.{AllPass, flat_map, join_with_byte, list_all, slice_sp
 use Rattle.std.specs.Option.{option_map_or}
 use Rattle.std.specs.Str.{bytes_eq}
 use Rattle.std.specs.Str.Parse.{digits_value}
-use Rattle.demangle_text.specs.Cursor.{position_of, unread}
 use Rattle.demangle_text.specs.Text.{text_of}
-use Rattle.demangle_text.specs.declared.cursor.Cursor.{Cursor}
 use Rattle.demangle_text.specs.declared.text.Text.{Text}
 
 -- a lowercase hexadecimal digit
@@ -59,10 +57,6 @@ with_colons (b ∷ (c ∷ rest)) = if b == 46 && c == 46 then 58 ∷ 58 ∷ with
 -- whether a byte is `$`
 abbrev pub is_dollar : ℕ → Bool
 is_dollar b = b == 36
-
--- a number is a character, and none of the first 32, which are control characters; and the test of that
-abbrev pub IsVisible : ℕ → Type 0
-IsVisible c = (32 ≤ c) × ((c < 0xD800) ⊎ ((0xDFFF < c) × (c < 0x11_0000)))
 
 abbrev pub is_visible : ℕ → Bool
 is_visible c = nat_le 32 c && (nat_lt c 0xD800 || (nat_lt 0xDFFF c && nat_lt c 0x11_0000))
@@ -115,29 +109,6 @@ abbrev pub text_of_parts : List (List ℕ) → List ℕ
 text_of_parts [] = []
 text_of_parts (part ∷ []) = text_of_part part
 text_of_parts (part ∷ (next ∷ parts)) = text_of_part part ++ (58 ∷ (58 ∷ text_of_parts (next ∷ parts)))
-
--- after a `$`: the name of an escape, `$` and the rest; and the character of the escape, if it has one
-pub record IsEscape (bytes rest : List ℕ) (character : Option ℕ) : Type 0 where
-  pub name : List ℕ
-  pub split : bytes ≡ name ++ 36 ∷ rest
-  pub first : All (λ b. is_dollar b ≡ false) name
-  pub character_is : escaped name ≡ character
-
--- after a `$` that starts no escape
-abbrev pub IsNoEscape : List ℕ → Type 0
-IsNoEscape bytes = (All (λ b. is_dollar b ≡ false) bytes) ⊎ ((rest : List ℕ) × IsEscape bytes rest None)
-
--- what is between the text of a part and the parts before it
-abbrev pub separator : ℕ → List ℕ
-separator position = if position == 0 then [] else (58 ∷ (58 ∷ []))
-
--- a part is read at the position, and its text is appended, after `::` unless the position is 0
-pub record AppendsPart (cursor next : Cursor) (old new : Text) : Type 0 where
-  pub part : List ℕ
-  pub is : IsPart part
-  pub bytes : unread cursor ≡ written part ++ unread next
-  pub position : position_of next ≡ position_of cursor + length (written part)
-  pub text : text_of new ≡ text_of old ++ (separator (position_of cursor) ++ text_of_part part)
 
 -- the new text is the old one with the text of these parts after it
 pub record AppendsParts (bytes : List ℕ) (old new : Text) : Type 0 where

@@ -3,3 +3,4 @@ pub mod Digits
 pub mod Legacy
 pub mod RustNames
 pub mod Text
+pub mod steps

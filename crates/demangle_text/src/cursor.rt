@@ -14,7 +14,8 @@ pub struct Cursor<'a> {
 }
 
 impl<'a> Cursor<'a> {
-    ghost use Rattle.demangle_text.specs.Cursor.{IsDigitAt, ReadsNumber};
+    ghost use Rattle.demangle_text.specs.Cursor.{ReadsNumber};
+    ghost use Rattle.demangle_text.specs.steps.Cursor.{IsDigitAt};
     ghost use Rattle.demangle_text.specs.Cursor.{bytes_of, byte_at, position_of, unread};
     ghost use Rattle.demangle_text.specs.Digits.{leading_digits};
 

@@ -4,9 +4,12 @@ ghost use Rattle.std.specs.Prelude.{IfNone, IfOk, IfSome, IsOkUnless, IsTrue, On
 ghost use Rattle.std.specs.Prelude.{false, length};
 ghost use Rattle.std.specs.List.{AllPass};
 ghost use Rattle.demangle_text.specs.Cursor.{bytes_of, position_of, unread};
-ghost use Rattle.demangle_text.specs.Legacy.{AppendsPart, AppendsParts, AreParts, IsEscape, IsHash};
-ghost use Rattle.demangle_text.specs.Legacy.{IsHexDigit, IsLegacyName, IsNoEscape, IsPart, IsVisible};
-ghost use Rattle.demangle_text.specs.Legacy.{escaped, hex_character, is_part_byte, separator};
+ghost use Rattle.demangle_text.specs.Legacy.{AppendsParts, AreParts, IsHash};
+ghost use Rattle.demangle_text.specs.steps.Legacy.{AppendsPart, IsEscape};
+ghost use Rattle.demangle_text.specs.Legacy.{IsHexDigit, IsLegacyName, IsPart};
+ghost use Rattle.demangle_text.specs.steps.Legacy.{IsNoEscape, IsVisible};
+ghost use Rattle.demangle_text.specs.Legacy.{escaped, hex_character, is_part_byte};
+ghost use Rattle.demangle_text.specs.steps.Legacy.{separator};
 ghost use Rattle.demangle_text.specs.Legacy.{text_of_part, text_of_parts, with_colons};
 ghost use Rattle.demangle_text.specs.Legacy.{without_underscore, written};
 ghost use Rattle.demangle_text.specs.Text.{IsWhy, limit_of, text_of};

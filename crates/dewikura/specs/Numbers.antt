@@ -1,7 +1,7 @@
 -- Numbers that cross to C for a byte order, a truth value and the kind of an input.
 use Rattle.std.specs.Prelude.{◌≡◌, ℕ, zero, suc, Bool, true, false, List, Option, None, Some}
-use Rattle.perfdata_base.specs.declared.endian.Endianness.{Endianness}
-use Rattle.perfdata_base.specs.declared.endian.Endianness.TheVariants.{LittleEndian, BigEndian}
+use Rattle.perfdata_sources.specs.declared.endian.Endianness.{Endianness}
+use Rattle.perfdata_sources.specs.declared.endian.Endianness.TheVariants.{LittleEndian, BigEndian}
 use Rattle.linux_perf_data.specs.InputKind.{IsKindOfStart}
 use Rattle.linux_perf_data.specs.declared.input_kind.InputKind.{InputKind}
 use Rattle.linux_perf_data.specs.declared.input_kind.InputKind.TheVariants.{File, Pipe, JitDump}

@@ -1,14 +1,13 @@
 //! C exports of the calls of `perfdata_arrays`, `perfdata_stack_arrays` and `demangle`;
-//! `include/dewikura.h` declares them.
+//! `bindings/c/include/dewikura.h` declares them.
 //!
-//! The names end in `_raw` where a call takes pointers: no pointer may be NULL. The functions of the header
-//! that have the names without `_raw` accept NULL.
+//! No pointer may be NULL, also where an array has no elements.
 #![tactic(auto)]
 
 ghost use Rattle.std.specs.Prelude.{◌≡◌, ℕ, ◌<◌, ◌-◌, ◌++◌, ◌∷◌, [], length, take};
 ghost use Rattle.std.specs.Bool.{nat_eq};
 ghost use Rattle.std.specs.List.{starts_with};
-ghost use Rattle.perfdata_base.specs.declared.endian.Endianness.TheVariants.{BigEndian};
+ghost use Rattle.perfdata_sources.specs.declared.endian.Endianness.TheVariants.{BigEndian};
 ghost use Rattle.perfdata_base.specs.Header.{magic_of};
 ghost use Rattle.perfdata_arrays.specs.Attrs.{ReadsFileAttrs, ReadsPipeAttrs};
 ghost use Rattle.perfdata_arrays.specs.BuildIds.{ReadsBuildId};
@@ -59,8 +58,8 @@ use perfdata_arrays::strings::StringEntry;
 use perfdata_arrays::symbol_tables::{Symbol, SymbolFile, SymbolTotals};
 use perfdata_arrays::tasks::TaskEntry;
 use perfdata_arrays::{
-    attrs, build_ids, byte_order, counters, feature_set, features, jit, jit_bodies, jit_debug,
-    mappings, meta_info, records, samples, sort, status, strings, symbol_tables, tasks,
+    attrs, build_ids, byte_order, counters, feature_set, features, finishing, jit, jit_bodies,
+    jit_debug, mappings, meta_info, records, samples, sort, status, strings, symbol_tables, tasks,
 };
 use perfdata_stack_arrays::frame::StackFrame;
 use perfdata_stack_arrays::mapping::StackMapping;
@@ -103,7 +102,7 @@ pub extern "C" fn dewikura_version() -> u32
 
 /// Writes the text of a status code, as `perfdata_arrays::status::status_text` does.
 #[unsafe(no_mangle)]
-pub extern "C" fn dewikura_status_text_raw(code: u32, buf: &mut [u8]) -> usize
+pub extern "C" fn dewikura_status_text(code: u32, buf: &mut [u8]) -> usize
     ensures size { result ≡ length (code_text code) }
     ensures written { buf.new ≡ with_prefix (take (length buf.old - 1) (code_text code) ++ 0 ∷ [])
         buf.old }
@@ -114,7 +113,7 @@ pub extern "C" fn dewikura_status_text_raw(code: u32, buf: &mut [u8]) -> usize
 /// Returns 1 if the numbers of a perf.data file or pipe are big-endian, otherwise 0, as
 /// `byte_order::is_big_endian` does.
 #[unsafe(no_mangle)]
-pub extern "C" fn dewikura_is_big_endian_raw(input: &[u8]) -> u32
+pub extern "C" fn dewikura_is_big_endian(input: &[u8]) -> u32
     ensures { result ≡ number_of_bool (starts_with nat_eq input.now (magic_of BigEndian)) }
 {
     byte_order::is_big_endian(input) as u32
@@ -123,7 +122,7 @@ pub extern "C" fn dewikura_is_big_endian_raw(input: &[u8]) -> u32
 /// Returns the kind of an input by its first bytes, as `InputKind::of_start` does: 1 for a perf.data file, 2
 /// for a pipe, 3 for a jitdump, and 0 for none of them.
 #[unsafe(no_mangle)]
-pub extern "C" fn dewikura_input_kind_raw(input: &[u8]) -> u32
+pub extern "C" fn dewikura_input_kind(input: &[u8]) -> u32
     ensures { IsNumberOfKind input.now result }
 {
     match InputKind::of_start(input) {
@@ -136,7 +135,7 @@ pub extern "C" fn dewikura_input_kind_raw(input: &[u8]) -> u32
 
 /// Reads the records of a perf.data file from a cursor on, as `records::file_records` does.
 #[unsafe(no_mangle)]
-pub extern "C" fn dewikura_read_file_records_raw(
+pub extern "C" fn dewikura_read_file_records(
     alloc: Global,
     input: &[u8],
     cursor: &mut RecordPosition,
@@ -153,7 +152,7 @@ pub extern "C" fn dewikura_read_file_records_raw(
 
 /// Reads the records of a perf.data pipe, as `records::pipe_records` does.
 #[unsafe(no_mangle)]
-pub extern "C" fn dewikura_read_pipe_records_raw(
+pub extern "C" fn dewikura_read_pipe_records(
     alloc: Global,
     input: &[u8],
     start: u64,
@@ -170,7 +169,7 @@ pub extern "C" fn dewikura_read_pipe_records_raw(
 
 /// Reads the samples of a perf.data file from a cursor on, as `samples::file_samples` does.
 #[unsafe(no_mangle)]
-pub extern "C" fn dewikura_read_file_samples_raw(
+pub extern "C" fn dewikura_read_file_samples(
     alloc: Global,
     input: &[u8],
     cursor: &mut RecordPosition,
@@ -191,7 +190,7 @@ pub extern "C" fn dewikura_read_file_samples_raw(
 
 /// Reads the samples of a perf.data pipe, as `samples::pipe_samples` does.
 #[unsafe(no_mangle)]
-pub extern "C" fn dewikura_read_pipe_samples_raw(
+pub extern "C" fn dewikura_read_pipe_samples(
     alloc: Global,
     input: &[u8],
     samples: &mut [Sample],
@@ -210,7 +209,7 @@ pub extern "C" fn dewikura_read_pipe_samples_raw(
 
 /// Decodes what else a sample has, as `details::read_details` does.
 #[unsafe(no_mangle)]
-pub extern "C" fn dewikura_read_sample_details_raw(
+pub extern "C" fn dewikura_read_sample_details(
     body: &[u8],
     is_big_endian: u32,
     attr: &Attr,
@@ -224,7 +223,7 @@ pub extern "C" fn dewikura_read_sample_details_raw(
 
 /// Reads the records on tasks of a perf.data file from a cursor on, as `tasks::file_tasks` does.
 #[unsafe(no_mangle)]
-pub extern "C" fn dewikura_read_file_tasks_raw(
+pub extern "C" fn dewikura_read_file_tasks(
     alloc: Global,
     input: &[u8],
     cursor: &mut RecordPosition,
@@ -242,7 +241,7 @@ pub extern "C" fn dewikura_read_file_tasks_raw(
 
 /// Reads the records on tasks of a perf.data pipe, as `tasks::pipe_tasks` does.
 #[unsafe(no_mangle)]
-pub extern "C" fn dewikura_read_pipe_tasks_raw(
+pub extern "C" fn dewikura_read_pipe_tasks(
     alloc: Global,
     input: &[u8],
     entries: &mut [TaskEntry],
@@ -258,7 +257,7 @@ pub extern "C" fn dewikura_read_pipe_tasks_raw(
 
 /// Reads the mappings of a perf.data file from a cursor on, as `mappings::file_mappings` does.
 #[unsafe(no_mangle)]
-pub extern "C" fn dewikura_read_file_mappings_raw(
+pub extern "C" fn dewikura_read_file_mappings(
     alloc: Global,
     input: &[u8],
     cursor: &mut RecordPosition,
@@ -276,7 +275,7 @@ pub extern "C" fn dewikura_read_file_mappings_raw(
 
 /// Reads the mappings of a perf.data pipe, as `mappings::pipe_mappings` does.
 #[unsafe(no_mangle)]
-pub extern "C" fn dewikura_read_pipe_mappings_raw(
+pub extern "C" fn dewikura_read_pipe_mappings(
     alloc: Global,
     input: &[u8],
     entries: &mut [MappingEntry],
@@ -292,7 +291,7 @@ pub extern "C" fn dewikura_read_pipe_mappings_raw(
 
 /// Reads the counter values of a perf.data file from a cursor on, as `counters::file_counters` does.
 #[unsafe(no_mangle)]
-pub extern "C" fn dewikura_read_file_counters_raw(
+pub extern "C" fn dewikura_read_file_counters(
     alloc: Global,
     input: &[u8],
     cursor: &mut RecordPosition,
@@ -310,7 +309,7 @@ pub extern "C" fn dewikura_read_file_counters_raw(
 
 /// Reads the counter values of a perf.data pipe, as `counters::pipe_counters` does.
 #[unsafe(no_mangle)]
-pub extern "C" fn dewikura_read_pipe_counters_raw(
+pub extern "C" fn dewikura_read_pipe_counters(
     alloc: Global,
     input: &[u8],
     entries: &mut [CounterEntry],
@@ -326,7 +325,7 @@ pub extern "C" fn dewikura_read_pipe_counters_raw(
 
 /// Reads the stacks of a perf.data file, as `stacks::file_stacks` does.
 #[unsafe(no_mangle)]
-pub extern "C" fn dewikura_read_file_stacks_raw(
+pub extern "C" fn dewikura_read_file_stacks(
     alloc: Global,
     input: &[u8],
     stacks: &mut [Stack],
@@ -347,7 +346,7 @@ pub extern "C" fn dewikura_read_file_stacks_raw(
 
 /// Reads the stacks of a perf.data pipe, as `stacks::pipe_stacks` does.
 #[unsafe(no_mangle)]
-pub extern "C" fn dewikura_read_pipe_stacks_raw(
+pub extern "C" fn dewikura_read_pipe_stacks(
     alloc: Global,
     input: &[u8],
     stacks: &mut [Stack],
@@ -368,7 +367,7 @@ pub extern "C" fn dewikura_read_pipe_stacks_raw(
 
 /// Sorts records by time, as `sort::sort_records` does.
 #[unsafe(no_mangle)]
-pub extern "C" fn dewikura_sort_records_raw(alloc: Global, entries: &mut [RecordEntry]) -> u32
+pub extern "C" fn dewikura_sort_records(alloc: Global, entries: &mut [RecordEntry]) -> u32
     ensures { IsCodeOf result (λ s. SortsByTime entries.old s entries.new) }
 {
     sort::sort_records(alloc, entries).code()
@@ -376,7 +375,7 @@ pub extern "C" fn dewikura_sort_records_raw(alloc: Global, entries: &mut [Record
 
 /// Reads the attributes of a perf.data file, as `attrs::file_attrs` does.
 #[unsafe(no_mangle)]
-pub extern "C" fn dewikura_read_file_attrs_raw(
+pub extern "C" fn dewikura_read_file_attrs(
     alloc: Global,
     input: &[u8],
     entries: &mut [Attr],
@@ -394,7 +393,7 @@ pub extern "C" fn dewikura_read_file_attrs_raw(
 
 /// Reads the attributes of a perf.data pipe, as `attrs::pipe_attrs` does.
 #[unsafe(no_mangle)]
-pub extern "C" fn dewikura_read_pipe_attrs_raw(
+pub extern "C" fn dewikura_read_pipe_attrs(
     alloc: Global,
     input: &[u8],
     entries: &mut [Attr],
@@ -412,7 +411,7 @@ pub extern "C" fn dewikura_read_pipe_attrs_raw(
 
 /// Reads the set of features of a perf.data file, as `feature_set::file_features` does.
 #[unsafe(no_mangle)]
-pub extern "C" fn dewikura_read_file_feature_set_raw(
+pub extern "C" fn dewikura_read_file_feature_set(
     alloc: Global,
     input: &[u8],
     set: &mut FeatureBits,
@@ -426,7 +425,7 @@ pub extern "C" fn dewikura_read_file_feature_set_raw(
 
 /// Reads the set of features of a perf.data pipe, as `feature_set::pipe_features` does.
 #[unsafe(no_mangle)]
-pub extern "C" fn dewikura_read_pipe_feature_set_raw(
+pub extern "C" fn dewikura_read_pipe_feature_set(
     alloc: Global,
     input: &[u8],
     set: &mut FeatureBits,
@@ -440,7 +439,7 @@ pub extern "C" fn dewikura_read_pipe_feature_set_raw(
 
 /// Reads the bytes of a feature of a perf.data file, as `features::file_feature` does.
 #[unsafe(no_mangle)]
-pub extern "C" fn dewikura_read_file_feature_raw(
+pub extern "C" fn dewikura_read_file_feature(
     alloc: Global,
     input: &[u8],
     feature: u32,
@@ -459,7 +458,7 @@ pub extern "C" fn dewikura_read_file_feature_raw(
 
 /// Reads the bytes of a feature of a perf.data pipe, as `features::pipe_feature` does.
 #[unsafe(no_mangle)]
-pub extern "C" fn dewikura_read_pipe_feature_raw(
+pub extern "C" fn dewikura_read_pipe_feature(
     alloc: Global,
     input: &[u8],
     feature: u32,
@@ -476,9 +475,22 @@ pub extern "C" fn dewikura_read_pipe_feature_raw(
     outcome.status.code()
 }
 
+/// Writes the finished recording of a perf.data file, as `finishing::finish_recording` does.
+#[unsafe(no_mangle)]
+pub extern "C" fn dewikura_finish_recording(
+    alloc: Global,
+    input: &[u8],
+    buf: &mut [u8],
+    needed: &mut u64,
+) -> u32 {
+    let finished = finishing::finish_recording(alloc, input, buf);
+    *needed = finished.size;
+    finished.status.code()
+}
+
 /// Reads an entry of a BUILD_ID section, as `build_ids::read_build_id` does.
 #[unsafe(no_mangle)]
-pub extern "C" fn dewikura_read_build_id_raw(
+pub extern "C" fn dewikura_read_build_id(
     alloc: Global,
     section: &[u8],
     is_big_endian: u32,
@@ -500,7 +512,7 @@ pub extern "C" fn dewikura_read_build_id_raw(
 
 /// Reads a string of a feature section, as `strings::find_string` does.
 #[unsafe(no_mangle)]
-pub extern "C" fn dewikura_read_string_raw(
+pub extern "C" fn dewikura_read_string(
     section: &[u8],
     is_big_endian: u32,
     offset: u64,
@@ -514,7 +526,7 @@ pub extern "C" fn dewikura_read_string_raw(
 
 /// Reads the pairs of simpleperf's meta info, as `meta_info::meta_info` does.
 #[unsafe(no_mangle)]
-pub extern "C" fn dewikura_read_meta_info_raw(
+pub extern "C" fn dewikura_read_meta_info(
     section: &[u8],
     entries: &mut [MetaPair],
     count: &mut u64,
@@ -529,7 +541,7 @@ pub extern "C" fn dewikura_read_meta_info_raw(
 
 /// Reads the files of a symbol table section of simpleperf, as `symbol_tables::symbol_tables` does.
 #[unsafe(no_mangle)]
-pub extern "C" fn dewikura_read_symbol_tables_raw(
+pub extern "C" fn dewikura_read_symbol_tables(
     alloc: Global,
     section: &[u8],
     feature: u32,
@@ -555,7 +567,7 @@ pub extern "C" fn dewikura_read_symbol_tables_raw(
 
 /// Reads the header of a jitdump, as `jit::jit_header` does.
 #[unsafe(no_mangle)]
-pub extern "C" fn dewikura_read_jit_header_raw(input: &[u8], header: &mut JitHeader) -> u32
+pub extern "C" fn dewikura_read_jit_header(input: &[u8], header: &mut JitHeader) -> u32
     ensures { IsCodeOf result (λ s. ReadsJitHeader input.now header.old s header.new) }
 {
     jit::jit_header(input, header).code()
@@ -563,7 +575,7 @@ pub extern "C" fn dewikura_read_jit_header_raw(input: &[u8], header: &mut JitHea
 
 /// Reads the records of a jitdump, as `jit::jit_records` does.
 #[unsafe(no_mangle)]
-pub extern "C" fn dewikura_read_jit_records_raw(
+pub extern "C" fn dewikura_read_jit_records(
     input: &[u8],
     start_offset: u64,
     entries: &mut [JitRecord],
@@ -581,7 +593,7 @@ pub extern "C" fn dewikura_read_jit_records_raw(
 
 /// Reads a load record of a jitdump, as `jit::jit_load` does.
 #[unsafe(no_mangle)]
-pub extern "C" fn dewikura_read_jit_load_raw(input: &[u8], offset: u64, load: &mut JitLoad) -> u32
+pub extern "C" fn dewikura_read_jit_load(input: &[u8], offset: u64, load: &mut JitLoad) -> u32
     ensures { IsCodeOf result (λ s. ReadsJitLoad input.now offset load.old s load.new) }
 {
     jit::jit_load(input, offset, load).code()
@@ -589,7 +601,7 @@ pub extern "C" fn dewikura_read_jit_load_raw(input: &[u8], offset: u64, load: &m
 
 /// Reads a move record of a jitdump, as `jit_bodies::jit_move` does.
 #[unsafe(no_mangle)]
-pub extern "C" fn dewikura_read_jit_move_raw(input: &[u8], offset: u64, moved: &mut JitMove) -> u32
+pub extern "C" fn dewikura_read_jit_move(input: &[u8], offset: u64, moved: &mut JitMove) -> u32
     ensures { IsCodeOf result (λ s. ReadsJitMove input.now offset moved.old s moved.new) }
 {
     jit_bodies::jit_move(input, offset, moved).code()
@@ -597,7 +609,7 @@ pub extern "C" fn dewikura_read_jit_move_raw(input: &[u8], offset: u64, moved: &
 
 /// Reads an unwinding info record of a jitdump, as `jit_bodies::jit_unwinding` does.
 #[unsafe(no_mangle)]
-pub extern "C" fn dewikura_read_jit_unwinding_raw(
+pub extern "C" fn dewikura_read_jit_unwinding(
     input: &[u8],
     offset: u64,
     unwinding: &mut JitUnwinding,
@@ -609,7 +621,7 @@ pub extern "C" fn dewikura_read_jit_unwinding_raw(
 
 /// Reads the source locations in a debug info record of a jitdump, as `jit_debug::jit_debug_info` does.
 #[unsafe(no_mangle)]
-pub extern "C" fn dewikura_read_jit_debug_info_raw(
+pub extern "C" fn dewikura_read_jit_debug_info(
     alloc: Global,
     input: &[u8],
     offset: u64,
@@ -629,7 +641,7 @@ pub extern "C" fn dewikura_read_jit_debug_info_raw(
 /// Writes the text of a mangled name, as `Demangler::demangle` makes it: without parameters for style 0, with
 /// them for all other numbers. `size` is that of the whole text, and 0 for a name without a text.
 #[unsafe(no_mangle)]
-pub extern "C" fn dewikura_demangle_raw(
+pub extern "C" fn dewikura_demangle(
     alloc: Global,
     name: &[u8],
     style: u32,

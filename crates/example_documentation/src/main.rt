@@ -2,11 +2,13 @@
 #![tactic(auto)]
 
 mod address_spaces;
+mod mapped_files;
 mod ordered_records;
 mod reading;
 mod sample_arrays;
 mod symbol_table;
 
+use code_files::{FileOptions, MappedFiles, PathError};
 use linux_perf_data::source::Counted;
 use linux_perf_data::{PerfFileReader, PerfFileRecord};
 use std::env;
@@ -48,6 +50,28 @@ fn print_offset(rt: &HostRuntime, address: u64) -> anyhow::Result<()> {
     Ok(())
 }
 
+// Prints the names of the functions at addresses of a file in the current directory.
+fn print_functions(rt: &HostRuntime) -> anyhow::Result<()> {
+    let options = FileOptions {
+        symfs: Some("."),
+        debug_dir: None,
+        maps: None,
+        vdso: None,
+    };
+    let mut files = match MappedFiles::open(rt, Some(&options)) {
+        Ok(files) => files,
+        Err(PathError { error, .. }) => return Err(error.into()),
+    };
+    let mapping = mapped_files::mapping(rt.alloc())?;
+    for address in [0x77, 0x79, 0x7a, 0x7e] {
+        match mapped_files::function_name(&mut files, 0, &mapping, address)? {
+            Some(name) => println!(rt; "{address:#x} in {}", str::from_utf8(name)?)?,
+            None => println!(rt; "{address:#x} in no function")?,
+        }
+    }
+    Ok(())
+}
+
 // The addresses of the kernel start here, on x86-64.
 const KERNEL_START: u64 = 1 << 63;
 
@@ -76,5 +100,5 @@ fn main(rt: HostRuntime) -> anyhow::Result<()> {
     for address in [0x40_0123, 0x40_1000] {
         print_offset(&rt, address)?;
     }
-    Ok(())
+    print_functions(&rt)
 }

@@ -94,6 +94,7 @@ fn profile_of(alloc: Global, lines: &[u8]) -> anyhow::Result<Profile> {
         duration: 0,
         period_type: None,
         period: 0,
+        comment: 0,
         default_sample_type: 0,
     };
     profile.sample_types.push(sample_type)?;

@@ -2,7 +2,7 @@
 use Rattle.std.proofs.Common.{◌≡◌, ◌≢◌, ◌==◌, ℕ, ◌+◌, ◌++◌, List, [], ◌∷◌, Bool, true, false, length, drop, refl, sym, ap, ◌∙◌, arith, append_assoc, append-nil, eqb-true}
 use Rattle.std.specs.Prelude.{if◌then◌else◌, None, Some}
 use Rattle.std.proofs.lemmas.Bool.{cond-false, ne_eqb}
-use Rattle.perfdata_base.specs.declared.endian.Endianness.{Endianness}
+use Rattle.perfdata_sources.specs.declared.endian.Endianness.{Endianness}
 use Rattle.linux_perf_data.specs.Attribute.{Attribute, attribute_in}
 use Rattle.linux_perf_data.specs.Layout.{SectionSize, attributes_in_record, attributes_in_records, RecordView, record_views, record_view_in, attributes_in_views, record_type_of}
 

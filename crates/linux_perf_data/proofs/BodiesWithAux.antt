@@ -1,15 +1,15 @@
 -- Reading the body of a record and its aux data.
 use Rattle.std.proofs.Common.{◌≡◌, ℕ, ◌+◌, ◌-◌, ◌<◌, ◌≤◌, ◌++◌, List, [], length, sym, ap, ◌∙◌, subst, arith, inl, inr, length-append}
-use Rattle.perfdata_base.specs.Source.{State, Consumed, AppendedExactly, PartlyAppended}
-use Rattle.perfdata_base.proofs.ConsumedLemmas.{consumed_more, failed_later, consumed_none_later}
-use Rattle.perfdata_base.specs.Endian.{number_in}
-use Rattle.perfdata_base.proofs.Numbers.{number_prefix}
-use Rattle.perfdata_base.specs.declared.endian.Endianness.{Endianness}
-use Rattle.perfdata_base.specs.declared.event.record_header.PerfEventHeader.{PerfEventHeader}
+use Rattle.perfdata_sources.specs.Source.{State, Consumed, AppendedExactly, PartlyAppended}
+use Rattle.perfdata_sources.proofs.ConsumedLemmas.{consumed_more, failed_later, consumed_none_later}
+use Rattle.perfdata_sources.specs.Endian.{number_in}
+use Rattle.perfdata_sources.proofs.Numbers.{number_prefix}
+use Rattle.perfdata_sources.specs.declared.endian.Endianness.{Endianness}
+use Rattle.perfdata_sources.specs.declared.event.record_header.PerfEventHeader.{PerfEventHeader}
 use Rattle.perfdata_sections.specs.declared.error.Error.{Error}
 use Rattle.perfdata_sections.specs.declared.error.Error.TheVariants.{Memory}
 use Rattle.linux_perf_data.specs.Layout.{IsCompressed}
-use Rattle.linux_perf_data.specs.RecordFraming.{BytesRead, AuxDataRead, AuxDataError, BodyRead, BodyErrorCause, BodyPartlyRead, BodyExceedsCapacity}
+use Rattle.linux_perf_data.specs.steps.RecordFraming.{BytesRead, AuxDataRead, AuxDataError, BodyRead, BodyErrorCause, BodyPartlyRead, BodyExceedsCapacity}
 
 -- a buffer that was empty contains exactly the bytes read
 kept_alone : (a b : State) (buffered body : List ℕ) (count : ℕ) → buffered ≡ [] → AppendedExactly a buffered count body b → BytesRead a count body b

@@ -4,17 +4,19 @@ use Rattle.std.proofs.lemmas.List.{take-append-drop, length-take-le}
 use Rattle.std.proofs.lemmas.Bool.{cases_eq}
 use Rattle.std.specs.List.{concat}
 use Rattle.std.specs.Prelude.{◌↔◌, Bool, true, false, IsTrue, IfSome}
-use Rattle.perfdata_base.specs.Source.{State, prepend}
+use Rattle.perfdata_sources.specs.Source.{State, prepend}
 use Rattle.std.specs.Io.{StartsWith}
 use Rattle.linux_perf_data.specs.RecordInput.{HasNoPendingHeader, section_size_in, input_source_state}
 use Rattle.linux_perf_data.specs.declared.records.input.RecordInput.{RecordInput}
 use Rattle.linux_perf_data.specs.declared.records.input.RecordInput.TheVariants.{Section, Pipe}
-use Rattle.perfdata_base.specs.Buffered.{IsPrefixOfRemaining}
-use Rattle.perfdata_base.specs.declared.endian.Endianness.{Endianness}
+use Rattle.perfdata_sources.specs.Buffered.{IsPrefixOfRemaining}
+use Rattle.perfdata_sources.specs.declared.endian.Endianness.{Endianness}
 use Rattle.std.proofs.lemmas.Bool.{false≢true}
-use Rattle.perfdata_base.specs.declared.endian.Endianness.TheVariants.{LittleEndian}
-use Rattle.linux_perf_data.specs.BufferedRecord.{IsFinished, IsNextBuffered, ContainsNextRecord, TestsNextBuffered, WholeRecordLength}
-use Rattle.linux_perf_data.specs.Iter.{TestsMayStart, section_size_of}
+use Rattle.perfdata_sources.specs.declared.endian.Endianness.TheVariants.{LittleEndian}
+use Rattle.linux_perf_data.specs.BufferedRecord.{IsFinished, IsNextBuffered, ContainsNextRecord, TestsNextBuffered}
+use Rattle.linux_perf_data.specs.steps.BufferedRecord.{WholeRecordLength}
+use Rattle.linux_perf_data.specs.Iter.{section_size_of}
+use Rattle.linux_perf_data.specs.steps.Iter.{TestsMayStart}
 use Rattle.linux_perf_data.specs.declared.records.iter.PerfRecordIter.{PerfRecordIter}
 use Rattle.linux_perf_data.specs.Layout.{ConsistsOfMarkers, MayStartAt, SectionSize, IsCompressed, IsRecord, AreMarkerRecords, total_size_of, record_type_of, record_size_of, aux_size_of}
 use Rattle.linux_perf_data.proofs.RecordHeaders.{total_size_plain, total_size_auxtrace, record_type_prefix, record_least, record_length, same_prefix, size_first_part, aux_size_prefix}

@@ -1,8 +1,8 @@
 -- Consecutive build ID entries of a section.
 use Rattle.std.proofs.Common.{◌≡◌, ◌++◌, ℕ, List, [], ◌∷◌, refl, ◌∙◌}
 use Rattle.std.specs.HashMap.{HashMap}
-use Rattle.perfdata_base.specs.Endian.{number_in}
-use Rattle.perfdata_base.specs.declared.endian.Endianness.{Endianness}
+use Rattle.perfdata_sources.specs.Endian.{number_in}
+use Rattle.perfdata_sources.specs.declared.endian.Endianness.{Endianness}
 use Rattle.perfdata_records.specs.BuildIdEvent.{BuildIdEntry, IsBuildIdEntry}
 use Rattle.perfdata_records.specs.declared.dso_info.DsoInfo.{DsoInfo}
 use Rattle.perfdata_records.specs.declared.dso_key.DsoKey.{DsoKey}

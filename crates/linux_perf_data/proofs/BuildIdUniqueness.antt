@@ -6,10 +6,10 @@ use Rattle.std.proofs.lemmas.Bool.Decides.{Decides-eqb}
 use Rattle.std.proofs.lemmas.List.{append_cancel_left, append_cancel_right}
 use Rattle.std.proofs.lemmas.Slice.Eq.{ends_is}
 use Rattle.std.proofs.Math.Seq.{take-append_seam}
-use Rattle.perfdata_base.specs.Endian.{number_in}
-use Rattle.perfdata_base.specs.ParseInfo.{is_set}
-use Rattle.perfdata_base.proofs.Numbers.{number_drop_prefix}
-use Rattle.perfdata_base.specs.declared.endian.Endianness.{Endianness}
+use Rattle.perfdata_sources.specs.Endian.{number_in}
+use Rattle.perfdata_identifiers.specs.ParseInfo.{is_set}
+use Rattle.perfdata_sources.proofs.Numbers.{number_drop_prefix}
+use Rattle.perfdata_sources.specs.declared.endian.Endianness.{Endianness}
 use Rattle.perfdata_records.specs.BuildIdEvent.{BuildIdEntry, zero_group, zero_groups, IsBuildIdIn, IsBuildIdEntry, IsTruncatedBuildIdEntry, entry_size}
 use Rattle.linux_perf_data.specs.BuildIds.{BeginsWithEntries, AreBuildIdEntries}
 

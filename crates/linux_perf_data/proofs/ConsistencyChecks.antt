@@ -3,18 +3,18 @@ use Rattle.std.proofs.Common.{◌≡◌, ◌≢◌, ℕ, zero, suc, ◌+◌, ◌
 use Rattle.std.specs.Prelude.{◌&&◌, nat_eq, Result, Ok, Err}
 use Rattle.std.specs.Option.{option_eq}
 use Rattle.std.proofs.lemmas.Bool.{true≢false, false≢true}
-use Rattle.perfdata_base.specs.declared.place.parse_info.RecordIdParseInfo.{RecordIdParseInfo}
+use Rattle.perfdata_identifiers.specs.declared.place.parse_info.RecordIdParseInfo.{RecordIdParseInfo}
 use Rattle.std.proofs.lemmas.List.{take_more, map_push, map-append, length-take-le}
 use Rattle.std.proofs.lemmas.List.Elements.{All-head, All-tail, All-push, All-cons}
-use Rattle.perfdata_base.specs.declared.place.parse_info.RecordParseInfo.{RecordParseInfo}
-use Rattle.perfdata_base.specs.declared.endian.Endianness.{Endianness}
+use Rattle.perfdata_identifiers.specs.declared.place.parse_info.RecordParseInfo.{RecordParseInfo}
+use Rattle.perfdata_sources.specs.declared.endian.Endianness.{Endianness}
 use Rattle.perfdata_sections.specs.AttributeDescription.{attr_in}
-use Rattle.perfdata_base.specs.ParseInfo.{id_parse_info_of, parse_info_of}
+use Rattle.perfdata_identifiers.specs.ParseInfo.{id_parse_info_of, parse_info_of}
 use Rattle.perfdata_sections.specs.declared.feature_sections.AttributeDescription.{AttributeDescription}
 use Rattle.perfdata_sections.specs.declared.error.Error.{Error}
 use Rattle.linux_perf_data.specs.Attribute.{Attribute, AreConsistent, ConformsTo, FirstNonconformingAt}
 use Rattle.linux_perf_data.specs.Descriptions.{described_attribute, described_attributes, parse_infos_of}
-use Rattle.linux_perf_data.specs.Consistency.{SameIdOffsets, ChecksEach, ChecksConsistency}
+use Rattle.linux_perf_data.specs.steps.Consistency.{SameIdOffsets, ChecksEach, ChecksConsistency}
 use Rattle.linux_perf_data.proofs.ConsistencyLemmas.{conforming_is_consistent, agreed}
 use Rattle.linux_perf_data.proofs.LookupIds.{described_counted}
 

@@ -5,9 +5,9 @@ use Rattle.std.specs.List.{position_or_len}
 use Rattle.std.proofs.Math.Seq.{take-append_seam}
 use Rattle.std.proofs.lemmas.Bool.{cases_eq, cases_lt, cases_Bool, cond-true, cond-false, lt-ltb, le-ltb, true≢false, false≢true}
 use Rattle.std.proofs.lemmas.List.Elements.{All-nil, All-cons, All-head, All-tail, All-take, All-weaker}
-use Rattle.perfdata_base.specs.ParseInfo.{is_set, sample_words, trailing_words, offset_from_start, offset_from_end, identifier_word, id_parse_info_of}
-use Rattle.perfdata_base.specs.declared.attr.PerfEventAttr.{PerfEventAttr}
-use Rattle.perfdata_base.specs.declared.place.parse_info.RecordIdParseInfo.{RecordIdParseInfo}
+use Rattle.perfdata_identifiers.specs.ParseInfo.{is_set, sample_words, trailing_words, offset_from_start, offset_from_end, identifier_word, id_parse_info_of}
+use Rattle.perfdata_sources.specs.declared.attr.PerfEventAttr.{PerfEventAttr}
+use Rattle.perfdata_identifiers.specs.declared.place.parse_info.RecordIdParseInfo.{RecordIdParseInfo}
 use Rattle.linux_perf_data.specs.Attribute.{Attribute, AreConsistent, Inconsistency, missing_identifier, sample_id_all_differs, has_identifier, has_sample_id_all, ConformsTo, FirstNonconformingAt, FirstInconsistency, AreInconsistent}
 
 -- a prefix of consistent attributes is consistent

@@ -9,9 +9,10 @@ use Rattle.linux_perf_data.specs.declared.in_memory.entries.RecordEntry.{RecordE
 use Rattle.linux_perf_data.specs.declared.perf_file.PerfFile.{PerfFile}
 use Rattle.linux_perf_data.specs.InMemoryReading.{IsSliceOfInput, first_record_offset_of, input_of}
 use Rattle.linux_perf_data.specs.Layout.{RecordView}
-use Rattle.linux_perf_data.specs.RecordEntries.{HasBodiesAt, HasBytesAt, TakesEntry, record_entries_at, record_entry_at, with_prefix}
+use Rattle.linux_perf_data.specs.RecordEntries.{HasBodiesAt, HasBytesAt, record_entries_at, record_entry_at, with_prefix}
+use Rattle.linux_perf_data.specs.steps.RecordEntries.{TakesEntry}
 use Rattle.linux_perf_data.specs.RecordViews.{record_view_of}
-use Rattle.linux_perf_data.specs.WalkEntries.{EntriesSoFar}
+use Rattle.linux_perf_data.specs.steps.WalkEntries.{EntriesSoFar}
 use Rattle.linux_perf_data.proofs.InMemoryReadings.{one_call_more}
 use Rattle.std.proofs.lemmas.List.{length-map, map_push}
 

@@ -9,22 +9,23 @@ use Rattle.std.proofs.lemmas.List.{drop-append-le, map_push, map-append}
 use Rattle.std.proofs.lemmas.List.Elements.{All-push}
 use Rattle.std.proofs.lemmas.List.Sums.{fold_push}
 use Rattle.indexmap.specs.IndexMap.{IndexMap, get}
-use Rattle.perfdata_base.specs.Source.{State, Position, AfterSeek, ReadExactError, all_bytes_of, remaining_from, prepend, at_offset}
-use Rattle.perfdata_base.specs.Endian.{number_in}
+use Rattle.perfdata_sources.specs.Source.{State, Position, AfterSeek, ReadExactError, all_bytes_of, remaining_from, prepend, at_offset}
+use Rattle.perfdata_sources.specs.Endian.{number_in}
 use Rattle.perfdata_base.specs.Section.{section_entry_of, SectionEntryParsed}
-use Rattle.perfdata_base.specs.declared.features.Feature.{Feature}
-use Rattle.perfdata_base.specs.declared.endian.Endianness.{Endianness}
+use Rattle.perfdata_identifiers.specs.declared.features.Feature.{Feature}
+use Rattle.perfdata_sources.specs.declared.endian.Endianness.{Endianness}
 use Rattle.perfdata_base.specs.declared.section.PerfFileSection.{PerfFileSection}
-use Rattle.perfdata_base.specs.declared.source.append.AppendError.{AppendError}
-use Rattle.perfdata_base.specs.declared.source.append.AppendError.TheVariants.{Memory, Source}
-use Rattle.perfdata_base.proofs.ConsumedLemmas.{consumed_none, consumed_more, consumed_none_later, failed_later}
-use Rattle.perfdata_base.proofs.ReadErrors.{none_or_paused, all_read, consumed-after_seek, after_seek_more, failed_after_seek, paused_after_seek}
-use Rattle.perfdata_base.proofs.Numbers.{number_prefix, number_drop_prefix}
+use Rattle.perfdata_sources.specs.declared.source.append.AppendError.{AppendError}
+use Rattle.perfdata_sources.specs.declared.source.append.AppendError.TheVariants.{Memory, Source}
+use Rattle.perfdata_sources.proofs.ConsumedLemmas.{consumed_none, consumed_more, consumed_none_later, failed_later}
+use Rattle.perfdata_sources.proofs.ReadErrors.{none_or_paused, all_read, consumed-after_seek, after_seek_more, failed_after_seek, paused_after_seek}
+use Rattle.perfdata_sources.proofs.Numbers.{number_prefix, number_drop_prefix}
 use Rattle.perfdata_sections.specs.ParsedPart.{ReadsBytes, file_error_of}
 use Rattle.perfdata_sections.specs.Error.{IsUnexpectedEof}
 use Rattle.perfdata_sections.specs.declared.error.Error.{Error}
 use Rattle.perfdata_sections.specs.declared.error.Error.TheVariants.{IoError, Memory as OfMemory}
-use Rattle.linux_perf_data.specs.FeatureData.{FeatureEntry, feature_entries_in, feature_entries_of, HoldsSection, SectionTruncated, section_bytes, feature_bytes_by, feature_data_by, feature_data_of, FirstTruncatedSection, feature_table_of, HoldsFeatureTable, HoldsAllSections, SectionsTruncated, SourceErrorInBytes, TableRead, TableReadError, ReadsSectionBytes, ReadsFeatureData, ReadsFeatures}
+use Rattle.linux_perf_data.specs.FeatureData.{FeatureEntry, feature_entries_in, HoldsSection, SectionTruncated, section_bytes, feature_bytes_by, feature_data_by, feature_data_of, FirstTruncatedSection, feature_table_of, HoldsFeatureTable, HoldsAllSections, SectionsTruncated}
+use Rattle.linux_perf_data.specs.steps.FeatureData.{feature_entries_of, SourceErrorInBytes, TableRead, TableReadError, ReadsSectionBytes, ReadsFeatureData, ReadsFeatures}
 
 -- ---- one section
 

@@ -2,11 +2,11 @@
 use Rattle.std.proofs.Common.{◌≡◌, ◌≢◌, ℕ, ◌-◌, List, [], refl, sym, subst, inl, inr, Option, None, Some}
 use Rattle.std.specs.Prelude.{◌≤◌, IsTrue, Result, Ok, Err, IfSome, Vec}
 use Rattle.std.specs.declared.alloc.Global.{Global}
-use Rattle.perfdata_base.specs.Source.{State, RemainsFromPosition, AfterSeek, all_bytes_of, memory_source_at}
-use Rattle.perfdata_base.specs.Endian.{number_in}
-use Rattle.perfdata_base.proofs.Numbers.{in_reads_first}
-use Rattle.perfdata_base.proofs.ReadErrors.{after_seek_none}
-use Rattle.perfdata_base.specs.declared.endian.Endianness.{Endianness}
+use Rattle.perfdata_sources.specs.Source.{State, RemainsFromPosition, AfterSeek, all_bytes_of, memory_source_at}
+use Rattle.perfdata_sources.specs.Endian.{number_in}
+use Rattle.perfdata_sources.proofs.Numbers.{in_reads_first}
+use Rattle.perfdata_sources.proofs.ReadErrors.{after_seek_none}
+use Rattle.perfdata_sources.specs.declared.endian.Endianness.{Endianness}
 use Rattle.perfdata_base.specs.declared.header.PerfHeader.{PerfHeader}
 use Rattle.perfdata_sections.specs.AttrFrames.{IsAttributesSourceError}
 use Rattle.perfdata_sections.specs.EventDesc.{DescribesByEventDesc, IsEventDescError, ReadsEventDesc}
@@ -17,7 +17,8 @@ use Rattle.perfdata_sections.specs.declared.feature_sections.AttributeDescriptio
 use Rattle.perfdata_sections.specs.declared.error.Error.{Error}
 use Rattle.perfdata_sections.proofs.Entries.{entries_described, entries_source_error}
 use Rattle.perfdata_sections.proofs.Events.{event_desc_described, event_desc_source_error}
-use Rattle.linux_perf_data.specs.AttributeSources.{known_sections, NamesEventTypes, DescribesFrom, IsSourcesError, ReadsAttributes, ParsesEventDesc, ParsesMetaEventTypes, ReadsTypesSection, ReadsSimpleperfSection}
+use Rattle.linux_perf_data.specs.AttributeSources.{known_sections, NamesEventTypes, DescribesFrom, IsSourcesError, ReadsAttributes}
+use Rattle.linux_perf_data.specs.steps.AttributeSources.{ParsesEventDesc, ParsesMetaEventTypes, ReadsTypesSection, ReadsSimpleperfSection}
 
 -- a property of all values holds for the value of an option
 pub if_each : {T : Type 0} (o : Option T) (P : T → Type 0) → ((x : T) → P x) → IfSome o P

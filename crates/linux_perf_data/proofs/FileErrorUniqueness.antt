@@ -1,11 +1,11 @@
 -- Two errors of one file have the same cause, because the first error of an opening is unique.
 use Rattle.std.proofs.Common.{◌≡◌, ℕ, ◌+◌, ◌-◌, ◌*◌, ◌<◌, List, [], ◌∷◌, ◌++◌, length, drop, refl, sym, ap, ◌∙◌, subst, inl, inr, arith, Option, None, Some}
 use Rattle.std.proofs.lemmas.Bool.{cases_lt}
-use Rattle.perfdata_base.specs.Endian.{number_in}
+use Rattle.perfdata_sources.specs.Endian.{number_in}
 use Rattle.perfdata_base.specs.declared.section.PerfFileSection.{PerfFileSection}
-use Rattle.perfdata_base.specs.declared.endian.Endianness.{Endianness}
+use Rattle.perfdata_sources.specs.declared.endian.Endianness.{Endianness}
 use Rattle.perfdata_base.specs.declared.header.PerfHeader.{PerfHeader}
-use Rattle.perfdata_base.proofs.Numbers.{in_reads_first}
+use Rattle.perfdata_sources.proofs.Numbers.{in_reads_first}
 use Rattle.perfdata_sections.specs.AttributeDescription.{attr_in, ids_in}
 use Rattle.perfdata_sections.specs.AttrFrames.{IsFrameError, IsPlainDescription}
 use Rattle.perfdata_sections.specs.EventTypes.{type_name_at, IsEventTypeEntry, IsEventTypeEntryError, IsSectionIdsError, AreEntryDescriptions, IsEntriesError, ErrorAtEntry, ErrorAtIds}

@@ -4,11 +4,11 @@ use Rattle.std.specs.Prelude.{◌⊎◌, Result, Ok, Err, IfSome, Vec}
 use Rattle.std.specs.declared.io.Error.{Error as IoErrorValue}
 use Rattle.std.specs.declared.alloc.Global.{Global}
 use Rattle.std.proofs.Math.Seq.{take-append_seam}
-use Rattle.perfdata_base.specs.Source.{State, Position, RemainsFromPosition, AfterSeek, SourceFailed, ReadExactError, at_offset, all_bytes_of, remaining_from, prepend}
+use Rattle.perfdata_sources.specs.Source.{State, Position, RemainsFromPosition, AfterSeek, SourceFailed, ReadExactError, at_offset, all_bytes_of, remaining_from, prepend}
 use Rattle.perfdata_base.specs.Section.{EndFitsU64}
-use Rattle.perfdata_base.proofs.ReadErrors.{after_seek_more, failed_after_seek, paused_after_seek, none_or_paused, all_read}
+use Rattle.perfdata_sources.proofs.ReadErrors.{after_seek_more, failed_after_seek, paused_after_seek, none_or_paused, all_read}
 use Rattle.perfdata_base.specs.Header.{file_header_of, BeginsWithFileHeader, FileHeaderParsed, ExtraSkipError, FileHeaderParseError, magic_of}
-use Rattle.perfdata_base.specs.declared.endian.Endianness.{Endianness}
+use Rattle.perfdata_sources.specs.declared.endian.Endianness.{Endianness}
 use Rattle.perfdata_base.specs.declared.header.PerfHeader.{PerfHeader}
 use Rattle.linux_perf_data.specs.Attribute.{Inconsistency, AreInconsistent, AreConsistent}
 use Rattle.linux_perf_data.specs.Descriptions.{described_attributes}
@@ -19,12 +19,14 @@ use Rattle.perfdata_sections.specs.declared.feature_sections.AttributeDescriptio
 use Rattle.perfdata_sections.specs.declared.error.Error.{Error}
 use Rattle.perfdata_sections.specs.declared.error.Error.TheVariants.{IoError, NoAttributes, UnrecognizedMagicValue}
 use Rattle.indexmap.specs.IndexMap.{IndexMap}
-use Rattle.perfdata_base.specs.Features.{features_of}
-use Rattle.perfdata_base.specs.declared.features.Feature.{Feature}
+use Rattle.perfdata_identifiers.specs.Features.{features_of}
+use Rattle.perfdata_identifiers.specs.declared.features.Feature.{Feature}
 use Rattle.perfdata_sections.specs.Error.{IsIoError}
-use Rattle.linux_perf_data.specs.FeatureData.{ReadsFeatures, SectionsTruncated, SourceErrorInBytes, feature_data_of}
+use Rattle.linux_perf_data.specs.FeatureData.{SectionsTruncated, feature_data_of}
+use Rattle.linux_perf_data.specs.steps.FeatureData.{ReadsFeatures, SourceErrorInBytes}
 use Rattle.linux_perf_data.specs.declared.file.opening.FileOpening.{FileOpening}
-use Rattle.linux_perf_data.specs.FileOpening.{table_offset, HoldsSections, section_data, attribute_sources_of, DescribesAttributes, IsAttributesErrorWith, ReadsSections, ReadsConsistentAttributes, OpenAfterHeaderError, IsErrorAfterHeader, SourceErrorInOpening, HasHeader, IsFileError, FileOpenError, FileOpened, OpenedFileAt, OpenedAfterHeader, OpensAfterHeader, OpensPerfFile}
+use Rattle.linux_perf_data.specs.FileOpening.{table_offset, HoldsSections, section_data, attribute_sources_of, DescribesAttributes, IsAttributesErrorWith, IsErrorAfterHeader, SourceErrorInOpening, HasHeader, IsFileError}
+use Rattle.linux_perf_data.specs.steps.FileOpening.{ReadsSections, ReadsConsistentAttributes, OpenAfterHeaderError, FileOpenError, FileOpened, OpenedFileAt, OpenedAfterHeader, OpensAfterHeader, OpensPerfFile}
 use Rattle.linux_perf_data.specs.FeatureNumbers.{event_desc, simpleperf_meta_info}
 use Rattle.linux_perf_data.specs.NamedErrors.{IsFileOpeningError}
 use Rattle.linux_perf_data.proofs.NamedErrors.{file_bytes, file_inconsistency, file_io}

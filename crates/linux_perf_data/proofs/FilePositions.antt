@@ -7,7 +7,7 @@ use Rattle.std.proofs.Math.ListN.{drop_of_length-le}
 use Rattle.std.specs.Borrow.{Bor}
 use Rattle.std.specs.Io.Cursor.{cursor_inner, cursor_position}
 use Rattle.std.specs.declared.io.impls.Cursor.{Cursor}
-use Rattle.perfdata_base.specs.Source.{at_start}
+use Rattle.perfdata_sources.specs.Source.{at_start}
 use Rattle.linux_perf_data.specs.declared.in_memory.InMemoryReader.{InMemoryReader}
 use Rattle.linux_perf_data.specs.declared.in_memory.position.RecordPosition.{RecordPosition}
 use Rattle.linux_perf_data.specs.AttributeLookup.{Represents}

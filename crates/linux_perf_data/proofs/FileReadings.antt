@@ -3,12 +3,12 @@ use Rattle.std.proofs.Common.{◌≡◌, ◌≢◌, ℕ, ◌+◌, ◌^◌, ◌<�
 use Rattle.std.specs.Prelude.{◌⊎◌, IfSome, IsTrue}
 use Rattle.std.proofs.Math.Seq.{drop-append_seam}
 use Rattle.std.proofs.lemmas.List.{length-map, drop-drop}
-use Rattle.perfdata_base.specs.Endian.{number_in}
-use Rattle.perfdata_base.specs.Source.{State, Position, Consumed, SourceFailed, SourcePaused, prepend}
-use Rattle.perfdata_base.specs.declared.endian.Endianness.{Endianness}
-use Rattle.perfdata_base.proofs.ReadErrors.{failed_after_seek, paused_after_seek}
-use Rattle.perfdata_base.proofs.ConsumedLemmas.{consumed_none, consumed_more, failed_later, paused_later}
-use Rattle.perfdata_base.proofs.Numbers.{in_reads_first}
+use Rattle.perfdata_sources.specs.Endian.{number_in}
+use Rattle.perfdata_sources.specs.Source.{State, Position, Consumed, SourceFailed, SourcePaused, prepend}
+use Rattle.perfdata_sources.specs.declared.endian.Endianness.{Endianness}
+use Rattle.perfdata_sources.proofs.ReadErrors.{failed_after_seek, paused_after_seek}
+use Rattle.perfdata_sources.proofs.ConsumedLemmas.{consumed_none, consumed_more, failed_later, paused_later}
+use Rattle.perfdata_sources.proofs.Numbers.{in_reads_first}
 use Rattle.perfdata_sections.specs.declared.error.Error.{Error}
 use Rattle.perfdata_sections.specs.declared.error.Error.TheVariants.{Memory}
 use Rattle.perfdata_sections.proofs.EventPrefixes.{event_desc_or_error}
@@ -24,7 +24,8 @@ use Rattle.linux_perf_data.specs.FeatureNumbers.{event_desc}
 use Rattle.linux_perf_data.specs.Names.{IsReadableOrAbsent}
 use Rattle.linux_perf_data.specs.RecordFraming.{IsErrorFor}
 use Rattle.linux_perf_data.specs.Iter.{iter_source_state, section_size_of, HasRemainingRecords, ReturnsRecord, ReturnsEnd, ReturnsError, IsMismatchedPerfFile}
-use Rattle.linux_perf_data.specs.Reading.{ReadSoFar, AreFirstRemaining, AreFirstRecords, EndsWithError, EndsComplete, ReturnsRecords, HasMatchingFile, SourceErrorInCall, SourceErrorInSomeRecord, end_after}
+use Rattle.linux_perf_data.specs.Reading.{AreFirstRecords, ReturnsRecords, SourceErrorInCall, SourceErrorInSomeRecord, end_after}
+use Rattle.linux_perf_data.specs.steps.Reading.{ReadSoFar, AreFirstRemaining, EndsWithError, EndsComplete, HasMatchingFile}
 use Rattle.linux_perf_data.specs.OpenedFile.{FileParsed, FileOpensAt, FileRecords}
 use Rattle.linux_perf_data.specs.PerfFile.{endian_of_file, attributes_of_file, feature_data_in_file, descriptions_of_file}
 use Rattle.linux_perf_data.specs.FileReading.{ReadingFilePartly, ReadingFileToError, ReadingFileToEnd, HoldsForFile, SourceErrorInFile}

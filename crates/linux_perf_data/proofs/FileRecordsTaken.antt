@@ -3,27 +3,29 @@ use Rattle.std.proofs.Common.{◌≡◌, ◌≢◌, ℕ, ◌+◌, ◌^◌, ◌<�
 use Rattle.std.specs.Prelude.{if◌then◌else◌, ◌==◌}
 use Rattle.std.specs.List.{slice_range}
 use Rattle.std.proofs.lemmas.List.{length-take}
-use Rattle.perfdata_base.proofs.ConsumedLemmas.{consumed_none}
-use Rattle.perfdata_base.specs.Endian.{number_in}
-use Rattle.perfdata_base.specs.RecordHeader.{record_header_of}
-use Rattle.perfdata_base.specs.Source.{Consumed}
-use Rattle.perfdata_base.specs.declared.event.record_header.PerfEventHeader.{PerfEventHeader}
-use Rattle.perfdata_base.specs.declared.endian.Endianness.{Endianness}
+use Rattle.perfdata_sources.proofs.ConsumedLemmas.{consumed_none}
+use Rattle.perfdata_sources.specs.Endian.{number_in}
+use Rattle.perfdata_sources.specs.RecordHeader.{record_header_of}
+use Rattle.perfdata_sources.specs.Source.{Consumed}
+use Rattle.perfdata_sources.specs.declared.event.record_header.PerfEventHeader.{PerfEventHeader}
+use Rattle.perfdata_sources.specs.declared.endian.Endianness.{Endianness}
 use Rattle.perfdata_sections.specs.RecordTypes.{finished_round}
 use Rattle.linux_perf_data.specs.declared.perf_file.PerfFile.{PerfFile}
 use Rattle.linux_perf_data.specs.declared.records.input.RecordInput.TheVariants.{Section}
 use Rattle.linux_perf_data.specs.declared.records.iter.IdentifiedRecord.{IdentifiedRecord}
 use Rattle.linux_perf_data.specs.declared.records.iter.Stage.TheVariants.{Running}
-use Rattle.linux_perf_data.specs.AttributeLookup.{KeepsAttributes, Represents}
-use Rattle.linux_perf_data.specs.BufferedRecord.{WholeRecordLength}
+use Rattle.linux_perf_data.specs.AttributeLookup.{Represents}
+use Rattle.linux_perf_data.specs.steps.AttributeLookup.{KeepsAttributes}
+use Rattle.linux_perf_data.specs.steps.BufferedRecord.{WholeRecordLength}
 use Rattle.linux_perf_data.specs.RecordInput.{HasNoPendingHeader, section_size_in}
-use Rattle.linux_perf_data.specs.InMemory.{IsInPlace, MemoryIter, RecordTaken, memory_state, with_buffer}
+use Rattle.linux_perf_data.specs.InMemory.{IsInPlace, MemoryIter, memory_state, with_buffer}
+use Rattle.linux_perf_data.specs.steps.InMemory.{RecordTaken}
 use Rattle.linux_perf_data.specs.Iter.{iter_source_state, section_size_of}
-use Rattle.linux_perf_data.specs.IterSteps.{RawRecordRead, RecordProcessed, SameButLookup}
+use Rattle.linux_perf_data.specs.steps.IterSteps.{RawRecordRead, RecordProcessed, SameButLookup}
 use Rattle.linux_perf_data.specs.LateMetadata.{UpdatesPerfFile}
 use Rattle.linux_perf_data.specs.Layout.{MayStartAt, attributes_in_record}
 use Rattle.linux_perf_data.specs.PerfFile.{attributes_of_file}
-use Rattle.linux_perf_data.specs.RecordViews.{IdentifiesRecord}
+use Rattle.linux_perf_data.specs.steps.RecordViews.{IdentifiesRecord}
 use Rattle.linux_perf_data.proofs.InMemoryCalls.{buffer_of}
 use Rattle.linux_perf_data.proofs.InMemoryPlaces.{rest_in_place, section_view}
 use Rattle.linux_perf_data.proofs.IterCalls.{Idles, returns_record}

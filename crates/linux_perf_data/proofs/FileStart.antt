@@ -1,8 +1,8 @@
 -- An opening determines a file and an iterator over its records.
 use Rattle.std.proofs.Common.{◌≡◌, ℕ, List, drop, sym, ap, ◌∙◌, subst, Option, None, Some}
 use Rattle.std.specs.Prelude.{IfSome, Result, Ok, Err}
-use Rattle.perfdata_base.specs.Source.{State, Position, AfterSeek, RemainsFromPosition, remaining_from}
-use Rattle.perfdata_base.specs.declared.endian.Endianness.{Endianness}
+use Rattle.perfdata_sources.specs.Source.{State, Position, AfterSeek, RemainsFromPosition, remaining_from}
+use Rattle.perfdata_sources.specs.declared.endian.Endianness.{Endianness}
 use Rattle.perfdata_sections.specs.declared.error.Error.{Error}
 use Rattle.linux_perf_data.specs.declared.file.opening.FileOpening.{FileOpening}
 use Rattle.linux_perf_data.specs.declared.file_reader.PerfFileReader.{PerfFileReader}
@@ -12,7 +12,8 @@ use Rattle.linux_perf_data.specs.RecordInput.{section_size_in, input_source_stat
 use Rattle.linux_perf_data.specs.Layout.{SectionSize, RecordView, LayoutEnd, RemainingRecords}
 use Rattle.linux_perf_data.specs.Iter.{iter_source_state}
 use Rattle.linux_perf_data.specs.PerfFile.{endian_of_file, attributes_of_file}
-use Rattle.linux_perf_data.specs.FileOpening.{IsFileHeader, HoldsSections, section_data, DescribesAttributes, OpenedFileAt, FileOpened}
+use Rattle.linux_perf_data.specs.FileOpening.{IsFileHeader, HoldsSections, section_data, DescribesAttributes}
+use Rattle.linux_perf_data.specs.steps.FileOpening.{OpenedFileAt, FileOpened}
 use Rattle.linux_perf_data.specs.OpenedFile.{DescribesFile, StartsReader, BuildsReader, FileOpensAt, FileParsed, ParsesFile}
 
 module _ (attrs : List Attribute) (records : List RecordView) (end : LayoutEnd) where

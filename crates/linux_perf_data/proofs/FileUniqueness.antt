@@ -2,11 +2,11 @@
 use Rattle.std.proofs.Common.{◌≡◌, ℕ, ◌+◌, ◌-◌, List, [], ◌∷◌, map, refl, sym, ap, ◌∙◌, subst, inl, inr, Option, None, Some}
 use Rattle.std.specs.Prelude.{slice_get, string_bytes}
 use Rattle.std.proofs.lemmas.Option.{slice_get-map}
-use Rattle.perfdata_base.specs.Endian.{number_in}
+use Rattle.perfdata_sources.specs.Endian.{number_in}
 use Rattle.perfdata_base.specs.declared.section.PerfFileSection.{PerfFileSection}
-use Rattle.perfdata_base.specs.declared.endian.Endianness.{Endianness}
+use Rattle.perfdata_sources.specs.declared.endian.Endianness.{Endianness}
 use Rattle.perfdata_base.specs.declared.header.PerfHeader.{PerfHeader}
-use Rattle.perfdata_base.proofs.Numbers.{in_reads_first}
+use Rattle.perfdata_sources.proofs.Numbers.{in_reads_first}
 use Rattle.perfdata_sections.specs.AttributeDescription.{DescribedEvent, attr_in, name_in, ids_in, event_in, events_in}
 use Rattle.perfdata_sections.specs.AttrFrames.{IsPlainDescription}
 use Rattle.perfdata_sections.specs.EventTypes.{type_name_at, AreEntryDescriptions, DescribesByEntries}

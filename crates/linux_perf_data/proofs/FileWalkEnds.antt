@@ -5,9 +5,9 @@ use Rattle.std.specs.Io.Cursor.{cursor_inner, cursor_position}
 use Rattle.std.proofs.lemmas.List.{length-take-le, take-append-drop}
 use Rattle.perfdata_sections.specs.RecordTypes.{finished_round}
 use Rattle.linux_perf_data.specs.declared.in_memory.file_walk.FileWalk.{FileWalk}
-use Rattle.linux_perf_data.specs.BufferedRecord.{WholeRecordLength}
+use Rattle.linux_perf_data.specs.steps.BufferedRecord.{WholeRecordLength}
 use Rattle.linux_perf_data.specs.declared.in_memory.InMemoryRecords.{InMemoryRecords}
-use Rattle.linux_perf_data.specs.FileWalk.{IsWalkOf, WalkStartsWithMarkerAtMost}
+use Rattle.linux_perf_data.specs.steps.FileWalk.{IsWalkOf, WalkStartsWithMarkerAtMost}
 use Rattle.linux_perf_data.specs.RecordInput.{section_size_in}
 use Rattle.linux_perf_data.specs.Layout.{StartsWithRecord, record_type_of}
 use Rattle.linux_perf_data.specs.RecordEntries.{StartsWithMarkerAtMost}

@@ -14,7 +14,8 @@ use Rattle.perfdata_sections.specs.AttributeDescription.{ids_in}
 use Rattle.perfdata_sections.specs.declared.feature_sections.AttributeDescription.{AttributeDescription}
 use Rattle.linux_perf_data.specs.Descriptions.{described_attributes}
 use Rattle.linux_perf_data.specs.Attribute.{Attribute, lists_id, last_index_listing}
-use Rattle.linux_perf_data.specs.IdPairs.{index_of_id, last_index_of_id, id_pairs_of, rank_of_id, AreOrdered, AreAscending, key_at, IsInsertionPoint}
+use Rattle.linux_perf_data.specs.IdPairs.{index_of_id, AreAscending}
+use Rattle.linux_perf_data.specs.steps.IdPairs.{last_index_of_id, id_pairs_of, rank_of_id, AreOrdered, key_at, IsInsertionPoint}
 
 abbrev pub Pairs : Type 0
 Pairs = List (ℕ × ℕ)

@@ -7,7 +7,8 @@ use Rattle.std.specs.Option.{option_or}
 use Rattle.std.specs.Ordering.{nat_cmp}
 use Rattle.linux_perf_data.specs.declared.attributes.id_table.IdTable.{IdTable}
 use Rattle.linux_perf_data.specs.Attribute.{lists_id}
-use Rattle.linux_perf_data.specs.IdTable.{id_lookup, MapsId, MapsIds}
+use Rattle.linux_perf_data.specs.IdTable.{id_lookup}
+use Rattle.linux_perf_data.specs.steps.IdTable.{MapsId, MapsIds}
 use Rattle.linux_perf_data.specs.IdPairs.{index_of_id}
 use Rattle.linux_perf_data.proofs.IdPairLemmas.{Pairs}
 use Rattle.linux_perf_data.proofs.NameTables.{at_is}

@@ -2,10 +2,10 @@
 use Rattle.std.proofs.Common.{◌≡◌, ◌≢◌, ℕ, ◌^◌, ◌<◌, List, [], length, refl, sym, ap, ◌∙◌, subst, arith, None}
 use Rattle.std.specs.Prelude.{Result, Ok, Err, Vec, Option}
 use Rattle.std.specs.declared.alloc.Global.{Global}
-use Rattle.perfdata_base.specs.Source.{State}
+use Rattle.perfdata_sources.specs.Source.{State}
 use Rattle.std.specs.Borrow.{Bor}
-use Rattle.perfdata_base.specs.declared.endian.Endianness.{Endianness}
-use Rattle.perfdata_base.specs.declared.event.record_header.PerfEventHeader.{PerfEventHeader}
+use Rattle.perfdata_sources.specs.declared.endian.Endianness.{Endianness}
+use Rattle.perfdata_sources.specs.declared.event.record_header.PerfEventHeader.{PerfEventHeader}
 use Rattle.perfdata_sections.specs.declared.error.Error.{Error}
 use Rattle.perfdata_sections.specs.declared.error.Error.TheVariants.{Memory}
 use Rattle.perfdata_sections.specs.Error.{IsUnexpectedEof}
@@ -14,15 +14,16 @@ use Rattle.linux_perf_data.specs.declared.in_memory.raw_record.RawRecord.TheVari
 use Rattle.linux_perf_data.specs.declared.perf_file.PerfFile.{PerfFile}
 use Rattle.linux_perf_data.specs.declared.attributes.lookup.AttributeLookup.{AttributeLookup}
 use Rattle.linux_perf_data.specs.declared.records.iter.IdentifiedRecord.{IdentifiedRecord}
-use Rattle.linux_perf_data.specs.AttributeLookup.{KeepsAttributes}
+use Rattle.linux_perf_data.specs.steps.AttributeLookup.{KeepsAttributes}
 use Rattle.linux_perf_data.specs.RecordInput.{HasNoPendingHeader}
 use Rattle.linux_perf_data.specs.Layout.{MayStartAt}
 use Rattle.linux_perf_data.specs.LateMetadata.{IsMetadataType, MetadataApplied, MetadataRejected}
-use Rattle.linux_perf_data.specs.RecordFraming.{RecordTruncatedAt, RecordErrorAt}
-use Rattle.linux_perf_data.specs.RecordViews.{IdentifiesRecord}
+use Rattle.linux_perf_data.specs.steps.RecordFraming.{RecordTruncatedAt, RecordErrorAt}
+use Rattle.linux_perf_data.specs.steps.RecordViews.{IdentifiesRecord}
 use Rattle.linux_perf_data.specs.Iter.{iter_source_state, section_size_of, SameInput, StopsAtError, ConsumesMetadata}
-use Rattle.linux_perf_data.specs.IterSteps.{RawRecordRead, SameButLookup, RecordProcessed, RecordRejected}
-use Rattle.linux_perf_data.specs.InMemory.{memory_state, MemoryIter, with_buffer, EndsOrFails, TakesRawRecord, TakesRecordBody}
+use Rattle.linux_perf_data.specs.steps.IterSteps.{RawRecordRead, SameButLookup, RecordProcessed, RecordRejected}
+use Rattle.linux_perf_data.specs.InMemory.{memory_state, MemoryIter, with_buffer}
+use Rattle.linux_perf_data.specs.steps.InMemory.{EndsOrFails, TakesRawRecord, TakesRecordBody}
 use Rattle.linux_perf_data.proofs.IterCalls.{Idles, late_stops, consumes_metadata}
 use Rattle.linux_perf_data.proofs.ProcessedRecords.{record_processed, record_rejected}
 use Rattle.linux_perf_data.proofs.TruncatedRecords.{record_truncated}

@@ -2,15 +2,15 @@
 use Rattle.std.proofs.Common.{◌≡◌, ◌≢◌, inl, inr, ℕ, ◌+◌, ◌-◌, ◌^◌, ◌<◌, ◌≤◌, ◌++◌, List, [], length, take, drop, refl, sym, ap, ◌∙◌, subst, arith, length-append, Option, None, Some}
 use Rattle.std.proofs.lemmas.List.{drop-drop, length-take-le}
 use Rattle.std.proofs.Math.Seq.{drop-length, take-append_seam}
-use Rattle.perfdata_base.specs.Source.{State, memory_source_at, prepend, Consumed, SkippedExactly, AppendedExactly}
-use Rattle.perfdata_base.proofs.Seeks.{buffered_from_cursor}
-use Rattle.perfdata_base.specs.declared.endian.Endianness.{Endianness}
-use Rattle.perfdata_base.specs.declared.event.record_header.PerfEventHeader.{PerfEventHeader}
+use Rattle.perfdata_sources.specs.Source.{State, memory_source_at, prepend, Consumed, SkippedExactly, AppendedExactly}
+use Rattle.perfdata_sources.proofs.Seeks.{buffered_from_cursor}
+use Rattle.perfdata_sources.specs.declared.endian.Endianness.{Endianness}
+use Rattle.perfdata_sources.specs.declared.event.record_header.PerfEventHeader.{PerfEventHeader}
 use Rattle.perfdata_sections.specs.Error.{IsUnsupported}
 use Rattle.perfdata_sections.specs.declared.error.Error.{Error}
 use Rattle.perfdata_sections.specs.declared.error.Error.TheVariants.{Memory}
 use Rattle.linux_perf_data.specs.Layout.{IsCompressed}
-use Rattle.linux_perf_data.specs.RecordFraming.{BytesRead, EndedWithin, AuxDataRead, AuxDataError, BodyRead, BodyEnded, BodyPartlyRead, BodyErrorCause}
+use Rattle.linux_perf_data.specs.steps.RecordFraming.{BytesRead, EndedWithin, AuxDataRead, AuxDataError, BodyRead, BodyEnded, BodyPartlyRead, BodyErrorCause}
 use Rattle.linux_perf_data.proofs.BodiesWithAux.{content_auxtrace, content_not_auxtrace}
 use Rattle.linux_perf_data.proofs.RecordReads.{not_unsupported_memory}
 

@@ -7,7 +7,7 @@ use Rattle.std.specs.Borrow.{Bor}
 use Rattle.std.specs.List.{concat}
 use Rattle.perfdata_sections.specs.declared.error.Error.{Error}
 use Rattle.std.specs.Io.Cursor.{cursor_inner, cursor_position}
-use Rattle.perfdata_base.specs.Source.{State, Position, memory_source_at, prepend, all_bytes_of, Consumed}
+use Rattle.perfdata_sources.specs.Source.{State, Position, memory_source_at, prepend, all_bytes_of, Consumed}
 use Rattle.linux_perf_data.specs.declared.records.input.RecordInput.{RecordInput}
 use Rattle.linux_perf_data.specs.declared.records.input.RecordInput.TheVariants.{Section, Pipe}
 use Rattle.linux_perf_data.specs.declared.records.iter.IdentifiedRecord.{IdentifiedRecord}
@@ -17,7 +17,8 @@ use Rattle.linux_perf_data.specs.Layout.{RecordView}
 use Rattle.linux_perf_data.specs.OpenedFile.{FileParsed}
 use Rattle.linux_perf_data.specs.OpenedPipe.{PipeParsed}
 use Rattle.linux_perf_data.specs.Iter.{iter_source_state, ReturnsRecord}
-use Rattle.linux_perf_data.specs.InMemory.{memory_state, MemoryIter, with_buffer, IsInPlace, TakesRecord}
+use Rattle.linux_perf_data.specs.InMemory.{memory_state, MemoryIter, with_buffer, IsInPlace}
+use Rattle.linux_perf_data.specs.steps.InMemory.{TakesRecord}
 
 rest_is : (bytes x : List ℕ) (o : Option (List ℕ)) → Some bytes ≡ prepend x o → o ≡ Some (drop (length x) bytes)
 rest_is bytes x None is = absurd cc

@@ -5,11 +5,11 @@ use Rattle.std.specs.List.{concat}
 use Rattle.std.proofs.lemmas.Bool.{cases_eq, ne_eqb}
 use Rattle.std.proofs.lemmas.List.{append-nil, take-append-drop, length-take-le, length-drop}
 use Rattle.std.proofs.lemmas.List.Folds.{concat-append}
-use Rattle.perfdata_base.specs.Source.{State, prepend, Consumed, SourcePaused}
-use Rattle.perfdata_base.proofs.ConsumedLemmas.{consumed_none, consumed_more, failed_later, paused_later}
-use Rattle.perfdata_base.proofs.ReadErrors.{none_or_paused, all_read}
-use Rattle.perfdata_base.specs.declared.endian.Endianness.{Endianness}
-use Rattle.perfdata_base.specs.declared.event.record_header.PerfEventHeader.{PerfEventHeader}
+use Rattle.perfdata_sources.specs.Source.{State, prepend, Consumed, SourcePaused}
+use Rattle.perfdata_sources.proofs.ConsumedLemmas.{consumed_none, consumed_more, failed_later, paused_later}
+use Rattle.perfdata_sources.proofs.ReadErrors.{none_or_paused, all_read}
+use Rattle.perfdata_sources.specs.declared.endian.Endianness.{Endianness}
+use Rattle.perfdata_sources.specs.declared.event.record_header.PerfEventHeader.{PerfEventHeader}
 use Rattle.perfdata_sections.specs.declared.error.Error.{Error}
 use Rattle.perfdata_sections.specs.declared.error.Error.TheVariants as error
 use Rattle.linux_perf_data.specs.declared.records.input.RecordInput.{RecordInput}
@@ -27,10 +27,12 @@ use Rattle.linux_perf_data.specs.LateMetadata.{IsMetadataType, UpdatesPerfFile, 
 use Rattle.linux_perf_data.specs.PerfFile.{endian_of_file, descriptions_of_file, features_of_file, feature_data_in_file}
 use Rattle.linux_perf_data.specs.Layout.{SectionSize, MayStartAt, IsEnd, IsTruncated, IsRecord, AreMarkerRecords, ConsistsOfMarkers, IsValidRecord, record_type_of, misc_of, RecordView, LayoutEnd, ends_complete, ends_with_error, LayoutError, ConcernsMetadata, ErrorAt, RemainingRecords, record_view, record_view_in, attributes_in_record, attributes_in_views}
 use Rattle.linux_perf_data.specs.RecordFraming.{ExceedsCapacity, IsErrorFor, ShownBy, StaysWithinRecord, IsTruncatedAfterHeader, SourceErrorInRecord, MayNeedMemory}
-use Rattle.linux_perf_data.specs.RecordViews.{IdentifiesRecord, record_view_with}
-use Rattle.linux_perf_data.specs.Iter.{iter_source_state, section_size_of, TestsMayStart, SameInput, HasRemainingRecords, ReturnsRecord, ReachesEnd, ReturnsEnd, IsMismatchedPerfFile, IsErrorCause, StopsAtError, ReturnsError, NeedsLargerBuffer, BuffersMetadata, ConsumesMetadata}
-use Rattle.linux_perf_data.specs.IterSteps.{RawRecordExceedsBuffer, RawRecordRead, RawRecordTruncated, RawRecordError, SameButLookup, RecordProcessed, RecordRejected}
-use Rattle.linux_perf_data.specs.Reading.{ReadSoFar}
+use Rattle.linux_perf_data.specs.RecordViews.{record_view_with}
+use Rattle.linux_perf_data.specs.steps.RecordViews.{IdentifiesRecord}
+use Rattle.linux_perf_data.specs.Iter.{iter_source_state, section_size_of, SameInput, HasRemainingRecords, ReturnsRecord, ReachesEnd, ReturnsEnd, IsMismatchedPerfFile, IsErrorCause, StopsAtError, ReturnsError, NeedsLargerBuffer, BuffersMetadata, ConsumesMetadata}
+use Rattle.linux_perf_data.specs.steps.Iter.{TestsMayStart}
+use Rattle.linux_perf_data.specs.steps.IterSteps.{RawRecordExceedsBuffer, RawRecordRead, RawRecordTruncated, RawRecordError, SameButLookup, RecordProcessed, RecordRejected}
+use Rattle.linux_perf_data.specs.steps.Reading.{ReadSoFar}
 use Rattle.linux_perf_data.proofs.AddedAttributes.{adds_none, added_one}
 use Rattle.linux_perf_data.proofs.RecordHeaders.{record_least, total_size_plain}
 use Rattle.linux_perf_data.proofs.ProcessedRecords.{LateFault, Foreign, consumed_record, marker_record, late_cause, needs_memory}

@@ -9,8 +9,8 @@ use Rattle.std.proofs.lemmas.Bool.{false≢true, false_from_ne_true, and_parts}
 use Rattle.std.proofs.lemmas.List.Elements.{filter_map-append}
 use Rattle.std.proofs.lemmas.List.Sums.{fold_push}
 use Rattle.std.proofs.lemmas.Slice.Eq.{bytes_eq-Decides}
-use Rattle.perfdata_base.specs.CpuMode.{cpu_mode_of}
-use Rattle.perfdata_base.specs.declared.event.cpu_mode.CpuMode.{CpuMode}
+use Rattle.perfdata_sources.specs.CpuMode.{cpu_mode_of}
+use Rattle.perfdata_sources.specs.declared.event.cpu_mode.CpuMode.{CpuMode}
 use Rattle.perfdata_records.specs.BuildIdEvent.{BuildIdEntry}
 use Rattle.perfdata_records.specs.DsoKey.{Key, kernel, guest_kernel, vdso_32, vdso_x32, vdso_64, vsyscall, kernel_module, user, key_in, key_of, keys_equal}
 use Rattle.perfdata_records.specs.declared.dso_info.DsoInfo.{DsoInfo}

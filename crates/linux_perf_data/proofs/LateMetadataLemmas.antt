@@ -2,13 +2,13 @@
 use Rattle.std.proofs.Common.{◌≡◌, ◌≢◌, ℕ, List, [], ◌∷◌, ◌++◌, length, drop, refl, sym, ap, ◌∙◌, subst, arith, inl, inr, append-nil, Some}
 use Rattle.std.specs.Prelude.{◌⊎◌, cond, nat_eq, Result, Ok, Err, Vec, vec_len}
 use Rattle.std.proofs.lemmas.List.{length-map}
-use Rattle.perfdata_base.specs.ParseInfo.{parse_info_of}
-use Rattle.perfdata_base.specs.Features.{HasFeature, InsertsFeature}
-use Rattle.perfdata_base.specs.declared.attr.PerfEventAttr.{PerfEventAttr}
-use Rattle.perfdata_base.specs.declared.features.FeatureSet.{FeatureSet}
+use Rattle.perfdata_identifiers.specs.ParseInfo.{parse_info_of}
+use Rattle.perfdata_identifiers.specs.Features.{HasFeature, InsertsFeature}
+use Rattle.perfdata_sources.specs.declared.attr.PerfEventAttr.{PerfEventAttr}
+use Rattle.perfdata_identifiers.specs.declared.features.FeatureSet.{FeatureSet}
 use Rattle.perfdata_sections.specs.Error.{IsInvalidInput}
-use Rattle.perfdata_base.specs.Endian.{number_in}
-use Rattle.perfdata_base.specs.declared.endian.Endianness.{Endianness}
+use Rattle.perfdata_sources.specs.Endian.{number_in}
+use Rattle.perfdata_sources.specs.declared.endian.Endianness.{Endianness}
 use Rattle.perfdata_sections.specs.EventDesc.{IsEventDescError}
 use Rattle.perfdata_sections.specs.declared.feature_sections.AttributeDescription.{AttributeDescription}
 use Rattle.perfdata_sections.specs.declared.error.Error.{Error}
@@ -19,11 +19,11 @@ use Rattle.linux_perf_data.specs.Attribute.{Attribute, HoldsAttribute, attribute
 use Rattle.linux_perf_data.specs.Descriptions.{described_attribute, described_attributes}
 use Rattle.linux_perf_data.specs.AttributeLookup.{Represents}
 use Rattle.linux_perf_data.specs.LateMetadata.{SamePerfFile, IsMetadataType, SameAttributeCount, IsMetadataError, AppliesMetadata}
-use Rattle.linux_perf_data.specs.LateSteps.{FeatureReplaced, FindsFileRenames, FindsLateNames, AreLateNamesFor, IsAttributeError, PushesAttribute, AttributeApplied, AppliesAttribute, AppliesFeature, name_table_after}
-use Rattle.linux_perf_data.specs.NameTable.{HasTableWithEndian, IsTableOf, name_from_table, names_from_table}
+use Rattle.linux_perf_data.specs.steps.LateSteps.{FeatureReplaced, FindsFileRenames, FindsLateNames, AreLateNamesFor, IsAttributeError, PushesAttribute, AttributeApplied, AppliesAttribute, AppliesFeature, name_table_after}
+use Rattle.linux_perf_data.specs.steps.NameTable.{HasTableWithEndian, IsTableOf, name_from_table, names_from_table}
 use Rattle.linux_perf_data.specs.FeatureNumbers.{event_desc}
 use Rattle.linux_perf_data.specs.Names.{IsReadableOrAbsent, NamedBy, NamedByEventDesc}
-use Rattle.linux_perf_data.specs.Renames.{AreRenamesFor, FindsRenames, KeepsName, Rename}
+use Rattle.linux_perf_data.specs.steps.Renames.{AreRenamesFor, FindsRenames, KeepsName, Rename}
 use Rattle.linux_perf_data.specs.declared.attributes.names.NameTable.{NameTable}
 use Rattle.std.specs.declared.alloc.Global.{Global}
 use Rattle.linux_perf_data.specs.PerfFile.{descriptions_of_file, features_of_file, feature_data_in_file, attributes_of_file}

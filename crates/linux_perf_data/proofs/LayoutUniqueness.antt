@@ -4,7 +4,7 @@ use Rattle.std.specs.Prelude.{None, Some}
 use Rattle.std.specs.List.{concat}
 use Rattle.std.proofs.lemmas.List.{append-nil}
 use Rattle.std.proofs.lemmas.List.Elements.{All-head, All-tail}
-use Rattle.perfdata_base.specs.declared.endian.Endianness.{Endianness}
+use Rattle.perfdata_sources.specs.declared.endian.Endianness.{Endianness}
 use Rattle.linux_perf_data.specs.Attribute.{Attribute, AreConsistent}
 use Rattle.linux_perf_data.specs.Layout.{SectionSize, MayStartAt, IsValidRecord, attributes_in_record, attributes_in_records, all_but_last, LayoutEnd, ends_complete, EndsWith, Layout, RecordView, record_views, RemainingRecords, record_type_of}
 use Rattle.linux_perf_data.proofs.RecordHeaders.{record_least, same_prefix}

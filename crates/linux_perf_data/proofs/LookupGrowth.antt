@@ -3,12 +3,13 @@ use Rattle.std.proofs.Common.{◌≡◌, ◌≢◌, ℕ, ◌+◌, ◌++◌, List
 use Rattle.std.specs.Prelude.{if◌then◌else◌, Option, None, Some}
 use Rattle.std.specs.Option.{option_or, unwrap_or}
 use Rattle.std.proofs.lemmas.List.{map-append}
-use Rattle.perfdata_base.specs.IdCache.{cached_index}
-use Rattle.perfdata_base.specs.ParseInfo.{id_parse_info_of, parse_info_of}
-use Rattle.perfdata_base.specs.declared.endian.Endianness.{Endianness}
+use Rattle.perfdata_identifiers.specs.IdCache.{cached_index}
+use Rattle.perfdata_identifiers.specs.ParseInfo.{id_parse_info_of, parse_info_of}
+use Rattle.perfdata_sources.specs.declared.endian.Endianness.{Endianness}
 use Rattle.linux_perf_data.specs.declared.attributes.lookup.AttributeLookup.{AttributeLookup}
 use Rattle.linux_perf_data.specs.Attribute.{Attribute, AreConsistent, missing_identifier, sample_id_all_differs, has_identifier, AreInconsistent, lists_id, last_index_listing}
-use Rattle.linux_perf_data.specs.IdTable.{id_lookup, MapsIds}
+use Rattle.linux_perf_data.specs.IdTable.{id_lookup}
+use Rattle.linux_perf_data.specs.steps.IdTable.{MapsIds}
 use Rattle.linux_perf_data.specs.AttributeLookup.{Represents}
 use Rattle.linux_perf_data.specs.Consistency.{first_without_identifier}
 use Rattle.linux_perf_data.proofs.LookupIds.{all_counted}

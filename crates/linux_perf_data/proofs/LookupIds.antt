@@ -3,12 +3,12 @@ use Rattle.std.proofs.Common.{◌≡◌, ◌≢◌, ℕ, zero, suc, ◌%◌, ◌
 use Rattle.std.specs.Prelude.{if◌then◌else◌, slice_get, Option, None, Some}
 use Rattle.std.specs.Option.{unwrap_or, option_map}
 use Rattle.std.proofs.lemmas.Bool.{cases_eq, cond-true, lt-ltb}
-use Rattle.perfdata_base.specs.ParseInfo.{id_parse_info_of, parse_info_of}
-use Rattle.perfdata_base.specs.RecordFields.{read_identifier, read_time}
-use Rattle.perfdata_base.specs.IdCache.{cached_index}
-use Rattle.perfdata_base.specs.declared.place.id_cache.IdCache.{IdCache}
-use Rattle.perfdata_base.specs.declared.place.parse_info.RecordParseInfo.{RecordParseInfo}
-use Rattle.perfdata_base.specs.declared.endian.Endianness.{Endianness}
+use Rattle.perfdata_identifiers.specs.ParseInfo.{id_parse_info_of, parse_info_of}
+use Rattle.perfdata_identifiers.specs.RecordFields.{read_identifier, read_time}
+use Rattle.perfdata_identifiers.specs.IdCache.{cached_index}
+use Rattle.perfdata_identifiers.specs.declared.place.id_cache.IdCache.{IdCache}
+use Rattle.perfdata_identifiers.specs.declared.place.parse_info.RecordParseInfo.{RecordParseInfo}
+use Rattle.perfdata_sources.specs.declared.endian.Endianness.{Endianness}
 use Rattle.linux_perf_data.specs.declared.attributes.lookup.AttributeLookup.{AttributeLookup}
 use Rattle.linux_perf_data.specs.declared.attributes.id_table.IdTable.{IdTable}
 use Rattle.linux_perf_data.specs.Attribute.{Attribute, EventRef, last_index_listing, lists_id, attr_index_of_id, attr_index_of, event_of, event_time}
@@ -16,9 +16,11 @@ use Rattle.linux_perf_data.specs.Layout.{RecordView, record_view}
 use Rattle.perfdata_sections.specs.declared.feature_sections.AttributeDescription.{AttributeDescription}
 use Rattle.linux_perf_data.specs.Descriptions.{described_attribute, described_attributes, parse_infos_of}
 use Rattle.linux_perf_data.specs.IdTable.{id_lookup}
-use Rattle.linux_perf_data.specs.IdPairs.{last_index_of_id}
-use Rattle.linux_perf_data.specs.IdBounds.{ResolvesIds, TableIndicesBelow}
-use Rattle.linux_perf_data.specs.AttributeLookup.{Represents, event_at}
+use Rattle.linux_perf_data.specs.steps.IdPairs.{last_index_of_id}
+use Rattle.linux_perf_data.specs.IdBounds.{TableIndicesBelow}
+use Rattle.linux_perf_data.specs.steps.IdBounds.{ResolvesIds}
+use Rattle.linux_perf_data.specs.AttributeLookup.{Represents}
+use Rattle.linux_perf_data.specs.steps.AttributeLookup.{event_at}
 use Rattle.linux_perf_data.proofs.IdPairLemmas.{greatest_listed, listed_within}
 
 -- after one identifier's index is cached, the property holds for each cached index

@@ -5,7 +5,7 @@ use Rattle.std.specs.Map.{update, update_all}
 use Rattle.std.proofs.lemmas.Bool.{cases_eq, cond-true, cond-false, eq-eqb, ne_eqb}
 use Rattle.perfdata_sections.specs.AttributeDescription.{events_in}
 use Rattle.perfdata_sections.specs.declared.feature_sections.AttributeDescription.{AttributeDescription}
-use Rattle.perfdata_base.specs.declared.endian.Endianness.{Endianness}
+use Rattle.perfdata_sources.specs.declared.endian.Endianness.{Endianness}
 use Rattle.linux_perf_data.specs.Layout.{SectionSize, RecordView, attributes_in_record, attributes_in_views}
 use Rattle.linux_perf_data.specs.LateMetadata.{features_in_record, features_in_views, ProvidesFeature, SomeProvideFeature, RenamesEvents, AccumulatesNone, AccumulatesOneMore, EventDescStaysValid}
 use Rattle.linux_perf_data.specs.FeatureNumbers.{event_desc}

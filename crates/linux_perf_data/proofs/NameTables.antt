@@ -11,18 +11,20 @@ use Rattle.std.proofs.lemmas.List.Elements.{All-push}
 use Rattle.std.proofs.lemmas.List.{take_more, take_all, map_push, nil_from_length}
 use Rattle.std.specs.declared.alloc.Global.{Global}
 use Rattle.indexmap.specs.IndexMap.{IndexMap, get as index_get}
-use Rattle.perfdata_base.specs.Endian.{number_in}
-use Rattle.perfdata_base.proofs.Numbers.{in_reads_first}
-use Rattle.perfdata_base.specs.declared.features.Feature.{Feature}
-use Rattle.perfdata_base.specs.declared.endian.Endianness.{Endianness}
+use Rattle.perfdata_sources.specs.Endian.{number_in}
+use Rattle.perfdata_sources.proofs.Numbers.{in_reads_first}
+use Rattle.perfdata_identifiers.specs.declared.features.Feature.{Feature}
+use Rattle.perfdata_sources.specs.declared.endian.Endianness.{Endianness}
 use Rattle.perfdata_sections.specs.AttributeDescription.{events_in, ids_in, name_in}
 use Rattle.perfdata_sections.specs.EventDesc.{DescribesByEventDesc, BeginsWithEventDesc}
 use Rattle.perfdata_sections.specs.declared.feature_sections.AttributeDescription.{AttributeDescription}
 use Rattle.perfdata_sections.proofs.EventPrefixes.{event_desc_is_unique, event_desc_or_not}
 use Rattle.linux_perf_data.specs.FirstIds.{IndexesFirstIds, first_index_with_id}
 use Rattle.linux_perf_data.specs.FeatureNumbers.{event_desc}
-use Rattle.linux_perf_data.specs.NameTable.{name_from_table, names_from_table, HasTableWithEndian, IsTableOf, TableHasEvents, TableNamesAll, TableEmptyWithoutEventDesc, TableIsReadable}
-use Rattle.linux_perf_data.specs.Names.{name_bytes_of, IsReadableOrAbsent, NamedByEventDesc, NamedBy, name_by_first_id, same_first_id}
+use Rattle.linux_perf_data.specs.NameTable.{TableHasEvents, TableNamesAll, TableEmptyWithoutEventDesc, TableIsReadable}
+use Rattle.linux_perf_data.specs.steps.NameTable.{name_from_table, names_from_table, HasTableWithEndian, IsTableOf}
+use Rattle.linux_perf_data.specs.Names.{IsReadableOrAbsent, NamedByEventDesc, NamedBy, name_by_first_id, same_first_id}
+use Rattle.linux_perf_data.specs.steps.Names.{name_bytes_of}
 use Rattle.linux_perf_data.specs.FeatureData.{feature_data_of}
 use Rattle.linux_perf_data.specs.declared.attributes.names.NameTable.{NameTable}
 use Rattle.linux_perf_data.proofs.EventDescNames.{described_is_readable}

@@ -3,9 +3,9 @@ use Rattle.std.proofs.Common.{◌≡◌, ◌≢◌, ℕ, ◌-◌, List, [], sym,
 use Rattle.std.specs.Prelude.{◌⊎◌, Result, Ok, Err, IfErr, Option, Vec}
 use Rattle.std.specs.declared.alloc.Global.{Global}
 use Rattle.std.specs.declared.io.Error.{Error as IoErrorValue}
-use Rattle.perfdata_base.specs.Source.{State}
-use Rattle.perfdata_base.specs.Endian.{number_in}
-use Rattle.perfdata_base.specs.declared.endian.Endianness.{Endianness}
+use Rattle.perfdata_sources.specs.Source.{State}
+use Rattle.perfdata_sources.specs.Endian.{number_in}
+use Rattle.perfdata_sources.specs.declared.endian.Endianness.{Endianness}
 use Rattle.perfdata_base.specs.declared.section.PerfFileSection.{PerfFileSection}
 use Rattle.perfdata_sections.specs.AttrFrames.{IsFrameError, ConsumesFrameError, IsFrameReadError}
 use Rattle.perfdata_sections.specs.EventDesc.{IsEventError, IsEventDescError}
@@ -24,9 +24,10 @@ use Rattle.linux_perf_data.specs.declared.records.iter.Stage.{Stage}
 use Rattle.linux_perf_data.specs.declared.records.iter.Stage.TheVariants.{Running, Failed, Ended}
 use Rattle.linux_perf_data.specs.declared.perf_file.PerfFile.{PerfFile}
 use Rattle.linux_perf_data.specs.Attribute.{Inconsistency, missing_identifier, sample_id_all_differs}
-use Rattle.linux_perf_data.specs.AttributeSources.{IsMetaInfoError, ParsesMetaEventTypes, ParsesEventDesc, ReadsTypesSection, ReadsAttrsSection, ReadsSimpleperfSection}
+use Rattle.linux_perf_data.specs.AttributeSources.{IsMetaInfoError}
+use Rattle.linux_perf_data.specs.steps.AttributeSources.{ParsesMetaEventTypes, ParsesEventDesc, ReadsTypesSection, ReadsAttrsSection, ReadsSimpleperfSection}
 use Rattle.linux_perf_data.specs.Consistency.{error_of_inconsistency}
-use Rattle.linux_perf_data.specs.FeatureData.{SourceErrorInBytes}
+use Rattle.linux_perf_data.specs.steps.FeatureData.{SourceErrorInBytes}
 use Rattle.linux_perf_data.specs.LateMetadata.{IsMetadataError}
 use Rattle.linux_perf_data.specs.Layout.{SectionSize, LayoutError, truncated_header, size_below_header, end_overflows, truncated_body, compressed_record, aux_body_too_short, aux_end_overflows, truncated_aux_data, invalid_metadata, truncated_metadata, attr_size_too_small, invalid_event_desc, inconsistent_attributes}
 use Rattle.linux_perf_data.specs.Iter.{iter_source_state, section_size_of, IsMismatchedPerfFile, IsErrorCause, ReturnsError}

@@ -9,7 +9,7 @@ use Rattle.perfdata_sections.specs.AttributeDescription.{attr_in, name_in, ids_i
 use Rattle.perfdata_sections.specs.declared.feature_sections.AttributeDescription.{AttributeDescription}
 use Rattle.linux_perf_data.specs.Attribute.{Attribute}
 use Rattle.linux_perf_data.specs.Descriptions.{described_attribute, described_attributes}
-use Rattle.linux_perf_data.specs.Names.{names_in, name_bytes_of}
+use Rattle.linux_perf_data.specs.steps.Names.{names_in, name_bytes_of}
 
 -- ---- one more renamed attribute
 

@@ -4,8 +4,8 @@ use Rattle.std.specs.Prelude.{if◌then◌else◌, Option, None, Some}
 use Rattle.std.specs.Option.{option_or}
 use Rattle.std.proofs.lemmas.Bool.{cases_Bool}
 use Rattle.std.proofs.lemmas.List.Elements.{All-nil, All-cons, All-head, All-tail, All-append}
-use Rattle.perfdata_base.specs.ParseInfo.{id_parse_info_of}
-use Rattle.perfdata_base.specs.declared.place.parse_info.RecordIdParseInfo.{RecordIdParseInfo}
+use Rattle.perfdata_identifiers.specs.ParseInfo.{id_parse_info_of}
+use Rattle.perfdata_identifiers.specs.declared.place.parse_info.RecordIdParseInfo.{RecordIdParseInfo}
 use Rattle.perfdata_sections.specs.declared.feature_sections.AttributeDescription.{AttributeDescription}
 use Rattle.linux_perf_data.specs.Attribute.{Attribute, AreConsistent, missing_identifier, sample_id_all_differs, has_identifier, has_sample_id_all, ConformsTo, AreInconsistent, lists_id, last_index_listing}
 use Rattle.linux_perf_data.specs.Descriptions.{described_attribute, described_attributes}

@@ -1,16 +1,16 @@
 -- The errors of a pipe's opening, relative to the state in which a read started.
 use Rattle.std.proofs.Common.{◌≡◌, ◌≢◌, ℕ, ◌+◌, ◌-◌, ◌^◌, ◌<◌, ◌≤◌, ◌++◌, List, [], length, refl, sym, subst, arith, inl, inr, ◌∙◌, append_assoc}
 use Rattle.std.specs.Prelude.{◌⊎◌, Ok, Err}
-use Rattle.perfdata_base.specs.Source.{State, Consumed}
-use Rattle.perfdata_base.proofs.ConsumedLemmas.{consumed_none, consumed_more, consumed_none_later, failed_later}
-use Rattle.perfdata_base.specs.declared.endian.Endianness.{Endianness}
-use Rattle.perfdata_base.specs.declared.event.record_header.PerfEventHeader.{PerfEventHeader}
+use Rattle.perfdata_sources.specs.Source.{State, Consumed}
+use Rattle.perfdata_sources.proofs.ConsumedLemmas.{consumed_none, consumed_more, consumed_none_later, failed_later}
+use Rattle.perfdata_sources.specs.declared.endian.Endianness.{Endianness}
+use Rattle.perfdata_sources.specs.declared.event.record_header.PerfEventHeader.{PerfEventHeader}
 use Rattle.perfdata_sections.specs.Error.{IsUnexpectedEof}
 use Rattle.perfdata_sections.specs.declared.error.Error.{Error}
 use Rattle.perfdata_sections.specs.declared.error.Error.TheVariants.{Memory, Read}
 use Rattle.perfdata_sections.specs.declared.error.ReadError.TheVariants.{PerfEventData}
 use Rattle.linux_perf_data.specs.LateMetadata.{IsMetadataError}
-use Rattle.linux_perf_data.specs.RecordFraming.{ChecksRecordEnd, BytesRead}
+use Rattle.linux_perf_data.specs.steps.RecordFraming.{ChecksRecordEnd, BytesRead}
 use Rattle.linux_perf_data.specs.PipeOpening.{FailsBy}
 
 -- an error after consumed bytes is an error of all bytes

@@ -4,16 +4,16 @@ use Rattle.std.specs.Prelude.{◌==◌, Bool, true, false, Result, Ok, Err}
 use Rattle.std.specs.List.{concat}
 use Rattle.std.proofs.lemmas.Bool.{false≢true}
 use Rattle.std.proofs.lemmas.List.{take-append-le}
-use Rattle.perfdata_base.specs.Source.{State}
-use Rattle.perfdata_base.proofs.ConsumedLemmas.{consumed_more}
-use Rattle.perfdata_base.specs.Features.{HasFeature}
+use Rattle.perfdata_sources.specs.Source.{State}
+use Rattle.perfdata_sources.proofs.ConsumedLemmas.{consumed_more}
+use Rattle.perfdata_identifiers.specs.Features.{HasFeature}
 use Rattle.perfdata_base.specs.Header.{endian_by_first_byte, magic_of}
-use Rattle.perfdata_base.specs.Endian.{number_in}
+use Rattle.perfdata_sources.specs.Endian.{number_in}
 use Rattle.perfdata_base.specs.PipeHeader.{PipeHeaderWithExtraParsed, pipe_header_of}
 use Rattle.perfdata_base.specs.declared.header.pipe.PerfPipeHeader.{PerfPipeHeader}
-use Rattle.perfdata_base.specs.declared.endian.Endianness.{Endianness}
-use Rattle.perfdata_base.specs.declared.endian.Endianness.TheVariants.{LittleEndian, BigEndian}
-use Rattle.perfdata_base.proofs.Numbers.{number_drop_prefix}
+use Rattle.perfdata_sources.specs.declared.endian.Endianness.{Endianness}
+use Rattle.perfdata_sources.specs.declared.endian.Endianness.TheVariants.{LittleEndian, BigEndian}
+use Rattle.perfdata_sources.proofs.Numbers.{number_drop_prefix}
 use Rattle.perfdata_sections.specs.declared.error.Error.{Error}
 use Rattle.perfdata_sections.specs.declared.error.Error.TheVariants.{Memory, NoAttributes, UnrecognizedMagicValue}
 use Rattle.perfdata_sections.specs.declared.feature_sections.AttributeDescription.{AttributeDescription}
@@ -23,9 +23,10 @@ use Rattle.linux_perf_data.specs.LateMetadata.{IsMetadataType}
 use Rattle.linux_perf_data.specs.Layout.{record_type_of, record_size_of}
 use Rattle.linux_perf_data.specs.FeatureNumbers.{event_desc}
 use Rattle.linux_perf_data.specs.Names.{IsReadableOrAbsent, NamedByEventDesc}
-use Rattle.linux_perf_data.specs.FileOpening.{RecognizesMagic}
-use Rattle.linux_perf_data.specs.PipeOpening.{MetadataEnded, HoldsPipeMetadata, IsPipeHeader, PipeOpened, OpensPerfPipe, FailsBy, IsMetadataReadError, IsPipeError, IsMetadataListError, OpeningRead, IsErrorCauseFor}
-use Rattle.linux_perf_data.specs.PipeSteps.{NamesConsistentAttributes, OpeningFinished, FinishesOpening, OpensAfterPipeHeader, IsFinishError, CollectsMetadata, MetadataRead}
+use Rattle.linux_perf_data.specs.steps.FileOpening.{RecognizesMagic}
+use Rattle.linux_perf_data.specs.PipeOpening.{MetadataEnded, IsPipeHeader, FailsBy, IsMetadataReadError, IsPipeError, IsMetadataListError, OpeningRead, IsErrorCauseFor}
+use Rattle.linux_perf_data.specs.steps.PipeOpening.{HoldsPipeMetadata, PipeOpened, OpensPerfPipe}
+use Rattle.linux_perf_data.specs.steps.PipeSteps.{NamesConsistentAttributes, OpeningFinished, FinishesOpening, OpensAfterPipeHeader, IsFinishError, CollectsMetadata, MetadataRead}
 use Rattle.linux_perf_data.specs.FeatureData.{feature_data_of}
 use Rattle.linux_perf_data.specs.declared.metadata_records.PipeMetadata.{PipeMetadata}
 use Rattle.linux_perf_data.specs.declared.pipe.opening.PipeOpening.{PipeOpening}

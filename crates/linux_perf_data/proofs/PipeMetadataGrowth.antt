@@ -4,9 +4,9 @@ use Rattle.std.specs.Prelude.{◌⊎◌, IsSome, cond, nat_eq, if◌then◌else�
 use Rattle.std.specs.Map.{update_all, update}
 use Rattle.std.proofs.lemmas.Bool.{eq-eqb, eqb-true}
 use Rattle.std.proofs.lemmas.List.Sums.{fold-append}
-use Rattle.perfdata_base.specs.Features.{InsertsFeature}
-use Rattle.perfdata_base.specs.Endian.{number_in}
-use Rattle.perfdata_base.specs.declared.endian.Endianness.{Endianness}
+use Rattle.perfdata_identifiers.specs.Features.{InsertsFeature}
+use Rattle.perfdata_sources.specs.Endian.{number_in}
+use Rattle.perfdata_sources.specs.declared.endian.Endianness.{Endianness}
 use Rattle.perfdata_records.specs.HeaderFeature.{IsHeaderFeature}
 use Rattle.perfdata_records.specs.declared.user_record.HeaderFeature.{HeaderFeature}
 use Rattle.linux_perf_data.specs.Descriptions.{described_attributes}
@@ -14,7 +14,7 @@ use Rattle.linux_perf_data.specs.LateMetadata.{features_in_record}
 use Rattle.linux_perf_data.specs.Layout.{attributes_in_records, attributes_in_record, record_type_of}
 use Rattle.linux_perf_data.specs.Names.{feature_in_body}
 use Rattle.linux_perf_data.specs.PipeOpening.{features_in_records, feature_data_in}
-use Rattle.linux_perf_data.specs.PipeSteps.{RecordAdded, CollectsMetadata}
+use Rattle.linux_perf_data.specs.steps.PipeSteps.{RecordAdded, CollectsMetadata}
 use Rattle.linux_perf_data.specs.FeatureData.{feature_data_of}
 use Rattle.linux_perf_data.specs.declared.metadata_records.PipeMetadata.{PipeMetadata}
 

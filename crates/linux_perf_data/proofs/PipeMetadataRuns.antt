@@ -4,12 +4,12 @@ use Rattle.std.specs.Prelude.{All}
 use Rattle.std.specs.List.{concat}
 use Rattle.std.proofs.lemmas.List.Elements.{All-nil, All-push}
 use Rattle.std.proofs.lemmas.List.Folds.{concat-append}
-use Rattle.perfdata_base.specs.Source.{State, Consumed}
-use Rattle.perfdata_base.proofs.ConsumedLemmas.{consumed_none, consumed_more, consumed_none_later}
-use Rattle.perfdata_base.specs.declared.endian.Endianness.{Endianness}
+use Rattle.perfdata_sources.specs.Source.{State, Consumed}
+use Rattle.perfdata_sources.proofs.ConsumedLemmas.{consumed_none, consumed_more, consumed_none_later}
+use Rattle.perfdata_sources.specs.declared.endian.Endianness.{Endianness}
 use Rattle.perfdata_sections.specs.declared.error.Error.{Error}
 use Rattle.linux_perf_data.specs.PipeOpening.{AreMetadata, MetadataEnded, IsMetadataRecord, FailsBy, IsMetadataReadError, IsMetadataRecordError}
-use Rattle.linux_perf_data.specs.PipeSteps.{CollectsMetadata, MetadataEndRead, MetadataRead, NextRecordRead}
+use Rattle.linux_perf_data.specs.steps.PipeSteps.{CollectsMetadata, MetadataEndRead, MetadataRead, NextRecordRead}
 use Rattle.linux_perf_data.specs.declared.metadata_records.PipeMetadata.{PipeMetadata}
 use Rattle.linux_perf_data.proofs.PipeMetadataGrowth.{metadata_more}
 use Rattle.linux_perf_data.proofs.PipeErrors.{error_later}

@@ -4,10 +4,10 @@ use Rattle.std.specs.Prelude.{IfSome}
 use Rattle.std.specs.List.{concat}
 use Rattle.std.specs.Map.{update_all}
 use Rattle.std.proofs.Math.Seq.{drop-append_seam}
-use Rattle.perfdata_base.specs.Source.{State, prepend, Consumed, SourcePaused}
-use Rattle.perfdata_base.specs.declared.endian.Endianness.{Endianness}
-use Rattle.perfdata_base.proofs.ReadErrors.{none_or_paused}
-use Rattle.perfdata_base.proofs.ConsumedLemmas.{failed_later, paused_later}
+use Rattle.perfdata_sources.specs.Source.{State, prepend, Consumed, SourcePaused}
+use Rattle.perfdata_sources.specs.declared.endian.Endianness.{Endianness}
+use Rattle.perfdata_sources.proofs.ReadErrors.{none_or_paused}
+use Rattle.perfdata_sources.proofs.ConsumedLemmas.{failed_later, paused_later}
 use Rattle.perfdata_sections.specs.declared.error.Error.{Error}
 use Rattle.linux_perf_data.specs.declared.records.input.RecordInput.{RecordInput}
 use Rattle.linux_perf_data.specs.declared.records.input.RecordInput.TheVariants.{Section, Pipe}
@@ -27,7 +27,8 @@ use Rattle.linux_perf_data.specs.PerfFile.{attributes_of_file, feature_data_in_f
 use Rattle.linux_perf_data.specs.RecordFraming.{IsErrorFor}
 use Rattle.linux_perf_data.specs.PipeOpening.{AreMetadata, CanOpenPipe, EndsMetadata, IsPipeError, feature_data_in}
 use Rattle.linux_perf_data.specs.PipeReading.{HoldsForPipeRest, BeginsPipe, HoldsAllMetadata, IsCompletePipe, HoldsForPipe, OpensWith, ReadingPipeToEnd, ReadingPipeToError, ReadingPipePartly}
-use Rattle.linux_perf_data.specs.Reading.{AreFirstRemaining, AreFirstRecords, EndsWithError, ReturnsRecords, HasMatchingFile, HasNotFailed, SourceErrorInSomeRecord, end_after}
+use Rattle.linux_perf_data.specs.Reading.{AreFirstRecords, ReturnsRecords, SourceErrorInSomeRecord, end_after}
+use Rattle.linux_perf_data.specs.steps.Reading.{AreFirstRemaining, EndsWithError, HasMatchingFile, HasNotFailed}
 use Rattle.linux_perf_data.proofs.RecordHeaders.{record_type_prefix, size_first_part}
 use Rattle.linux_perf_data.proofs.IterCalls.{none_left, read_so_far_whole}
 use Rattle.linux_perf_data.proofs.LayoutSteps.{nothing_more}

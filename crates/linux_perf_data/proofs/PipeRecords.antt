@@ -1,19 +1,19 @@
 -- A record header and the bytes after it are a metadata record, or determine the error.
 use Rattle.std.specs.Prelude.{Ok, Err}
 use Rattle.std.proofs.Common.{◌≡◌, ◌≢◌, ℕ, ◌-◌, ◌≤◌, ◌++◌, List, length, drop, sym, ap, ◌∙◌, subst, arith, inl, inr, append_assoc, length-append}
-use Rattle.perfdata_base.specs.Source.{State, Consumed}
-use Rattle.perfdata_base.proofs.ConsumedLemmas.{consumed_more}
-use Rattle.perfdata_base.specs.RecordHeader.{record_header_of}
-use Rattle.perfdata_base.specs.Endian.{number_in}
-use Rattle.perfdata_base.specs.declared.endian.Endianness.{Endianness}
-use Rattle.perfdata_base.specs.declared.event.record_header.PerfEventHeader.{PerfEventHeader}
+use Rattle.perfdata_sources.specs.Source.{State, Consumed}
+use Rattle.perfdata_sources.proofs.ConsumedLemmas.{consumed_more}
+use Rattle.perfdata_sources.specs.RecordHeader.{record_header_of}
+use Rattle.perfdata_sources.specs.Endian.{number_in}
+use Rattle.perfdata_sources.specs.declared.endian.Endianness.{Endianness}
+use Rattle.perfdata_sources.specs.declared.event.record_header.PerfEventHeader.{PerfEventHeader}
 use Rattle.perfdata_sections.specs.declared.error.Error.{Error}
 use Rattle.linux_perf_data.specs.Attribute.{HoldsAttribute}
 use Rattle.linux_perf_data.specs.LateMetadata.{IsMetadataType, IsMetadataError}
 use Rattle.linux_perf_data.specs.Layout.{IsCompressed, IsRecord, record_type_of, record_size_of}
 use Rattle.linux_perf_data.specs.PipeOpening.{FailsBy, IsMetadataRecordError}
-use Rattle.linux_perf_data.specs.PipeSteps.{RecordAdded, NextRecordRead}
-use Rattle.linux_perf_data.specs.RecordFraming.{BytesRead, ChecksBodySize, ChecksRecordEnd}
+use Rattle.linux_perf_data.specs.steps.PipeSteps.{RecordAdded, NextRecordRead}
+use Rattle.linux_perf_data.specs.steps.RecordFraming.{BytesRead, ChecksBodySize, ChecksRecordEnd}
 use Rattle.linux_perf_data.specs.declared.metadata_records.PipeMetadata.{PipeMetadata}
 use Rattle.linux_perf_data.proofs.RecordHeaders.{record_type_prefix, size_first_part, total_size_plain}
 use Rattle.linux_perf_data.proofs.RecordReads.{after_header}

@@ -1,10 +1,11 @@
 -- The opening of a pipe determines a file and an iterator over its records.
 use Rattle.std.proofs.Common.{◌≡◌, ℕ, ◌<◌, ◌≤◌, ◌++◌, List, refl, sym, ap, ◌∙◌, subst, inl, inr, append_assoc, Option, None, Some, arith}
 use Rattle.std.specs.Prelude.{◌⊎◌, ◌↔◌, ◌+◌, IsSome, IfOk, Result, Ok, Err}
-use Rattle.linux_perf_data.specs.Pauses.{PausesOnlyAtEnd, PausesOnlyInEndedOpening}
+use Rattle.linux_perf_data.specs.Pauses.{PausesOnlyAtEnd}
+use Rattle.linux_perf_data.specs.steps.Pauses.{PausesOnlyInEndedOpening}
 use Rattle.std.specs.List.{concat}
-use Rattle.perfdata_base.specs.Source.{State, prepend, Consumed, EndedOrPaused}
-use Rattle.perfdata_base.specs.Features.{HasFeature}
+use Rattle.perfdata_sources.specs.Source.{State, prepend, Consumed, EndedOrPaused}
+use Rattle.perfdata_identifiers.specs.Features.{HasFeature}
 use Rattle.perfdata_sections.specs.declared.error.Error.{Error}
 use Rattle.linux_perf_data.specs.declared.file_reader.PerfFileReader.{PerfFileReader}
 use Rattle.linux_perf_data.specs.declared.pipe.opening.PipeOpening.{PipeOpening}
@@ -17,8 +18,10 @@ use Rattle.linux_perf_data.specs.LateMetadata.{IsMetadataType}
 use Rattle.linux_perf_data.specs.FeatureNumbers.{event_desc}
 use Rattle.linux_perf_data.specs.Names.{NamedByEventDesc}
 use Rattle.linux_perf_data.specs.PerfFile.{descriptions_of_file}
-use Rattle.linux_perf_data.specs.PipeOpening.{IsPipeHeader, AreMetadata, MetadataEnded, HoldsPipeMetadata, PipeOpened, feature_data_in}
-use Rattle.linux_perf_data.specs.OpenedPipe.{EndsInOpening, HoldsMetadata, KeepsPendingHeader, PipeParsed, ParsesPipe, StageAfterOpening, PipeReaderBuilt, BuildsPipeReader, without_position}
+use Rattle.linux_perf_data.specs.PipeOpening.{IsPipeHeader, AreMetadata, MetadataEnded, feature_data_in}
+use Rattle.linux_perf_data.specs.steps.PipeOpening.{HoldsPipeMetadata, PipeOpened}
+use Rattle.linux_perf_data.specs.OpenedPipe.{EndsInOpening, HoldsMetadata, KeepsPendingHeader, PipeParsed, ParsesPipe, without_position}
+use Rattle.linux_perf_data.specs.steps.OpenedPipe.{StageAfterOpening, PipeReaderBuilt, BuildsPipeReader}
 
 prepend_append : (a b : List ℕ) (o : Option (List ℕ)) → prepend (a ++ b) o ≡ prepend a (prepend b o)
 prepend_append a b None = refl

@@ -4,11 +4,11 @@ use Rattle.std.specs.Prelude.{◌⊎◌, nat_eq}
 use Rattle.std.specs.Map.{update_all}
 use Rattle.std.proofs.lemmas.Bool.{cond-true}
 use Rattle.std.proofs.lemmas.List.{drop-drop, length-drop}
-use Rattle.perfdata_base.specs.Source.{State}
-use Rattle.perfdata_base.specs.Endian.{number_in}
-use Rattle.perfdata_base.proofs.Numbers.{in_reads_first}
-use Rattle.perfdata_base.specs.declared.endian.Endianness.{Endianness}
-use Rattle.perfdata_base.specs.declared.event.record_header.PerfEventHeader.{PerfEventHeader}
+use Rattle.perfdata_sources.specs.Source.{State}
+use Rattle.perfdata_sources.specs.Endian.{number_in}
+use Rattle.perfdata_sources.proofs.Numbers.{in_reads_first}
+use Rattle.perfdata_sources.specs.declared.endian.Endianness.{Endianness}
+use Rattle.perfdata_sources.specs.declared.event.record_header.PerfEventHeader.{PerfEventHeader}
 use Rattle.perfdata_sections.specs.declared.error.Error.{Error}
 use Rattle.perfdata_sections.specs.Error.{IsInvalidInput}
 use Rattle.perfdata_sections.specs.AttributeDescription.{events_in}
@@ -21,16 +21,18 @@ use Rattle.linux_perf_data.specs.declared.records.iter.RecordOrigin.TheVariants.
 use Rattle.linux_perf_data.specs.declared.attributes.lookup.AttributeLookup.{AttributeLookup}
 use Rattle.linux_perf_data.specs.declared.perf_file.PerfFile.{PerfFile}
 use Rattle.linux_perf_data.specs.Attribute.{Attribute, EventRef, HoldsAttribute}
-use Rattle.linux_perf_data.specs.AttributeLookup.{Represents, KeepsAttributes, parse_info_at}
+use Rattle.linux_perf_data.specs.AttributeLookup.{Represents, parse_info_at}
+use Rattle.linux_perf_data.specs.steps.AttributeLookup.{KeepsAttributes}
 use Rattle.linux_perf_data.specs.Layout.{SectionSize, RecordView, IsRecord, IsValidRecord, StartsWithRecord, LayoutError, invalid_metadata, truncated_metadata, attr_size_too_small, invalid_event_desc, inconsistent_attributes, ErrorAt, record_type_of, attributes_in_record}
 use Rattle.linux_perf_data.specs.FeatureNumbers.{event_desc}
 use Rattle.linux_perf_data.specs.Names.{IsReadableEventDesc, NamedByEventDesc, feature_in_body}
 use Rattle.linux_perf_data.specs.PerfFile.{descriptions_of_file, feature_data_in_file}
 use Rattle.linux_perf_data.specs.LateMetadata.{IsMetadataType, UpdatesPerfFile, HasValidMetadata, SameAttributeCount, MetadataApplied, MetadataRejected, RejectsMetadata, PassesEarlierChecks}
 use Rattle.linux_perf_data.specs.RecordFraming.{IsErrorFor, MayNeedMemory}
-use Rattle.linux_perf_data.specs.RecordViews.{event_by_origin, attr_index_by_origin, record_type_by_origin, endian_by_origin, IdentifiesRecord}
+use Rattle.linux_perf_data.specs.RecordViews.{event_by_origin, attr_index_by_origin, record_type_by_origin, endian_by_origin}
+use Rattle.linux_perf_data.specs.steps.RecordViews.{IdentifiesRecord}
 use Rattle.linux_perf_data.specs.Iter.{section_size_of}
-use Rattle.linux_perf_data.specs.IterSteps.{SameButLookup, RecordProcessed, RecordRejected}
+use Rattle.linux_perf_data.specs.steps.IterSteps.{SameButLookup, RecordProcessed, RecordRejected}
 use Rattle.linux_perf_data.proofs.RecordHeaders.{total_size_plain}
 
 -- an EVENT_DESC that is applied is readable

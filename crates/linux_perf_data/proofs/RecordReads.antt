@@ -3,21 +3,22 @@ use Rattle.std.proofs.Common.{◌≡◌, ◌≢◌, ℕ, ◌+◌, ◌-◌, ◌^�
 use Rattle.std.proofs.lemmas.Bool.{cases_eq, cases_lt}
 use Rattle.std.specs.Prelude.{◌⊎◌, None, Ok, Err}
 use Rattle.std.proofs.Math.Seq.{drop-append_seam}
-use Rattle.perfdata_base.specs.Source.{State, Consumed, EndedOrPaused, SkippedExactly}
-use Rattle.perfdata_base.proofs.ConsumedLemmas.{consumed_more, consumed_none_later, failed_later, paused_later}
-use Rattle.perfdata_base.proofs.ReadErrors.{none_or_paused}
-use Rattle.perfdata_base.specs.Endian.{number_in}
-use Rattle.perfdata_base.specs.RecordHeader.{record_header_of, RecordHeaderParsed}
-use Rattle.perfdata_base.proofs.Numbers.{number_prefix}
-use Rattle.perfdata_base.specs.declared.endian.Endianness.{Endianness}
-use Rattle.perfdata_base.specs.declared.event.record_header.PerfEventHeader.{PerfEventHeader}
+use Rattle.perfdata_sources.specs.Source.{State, Consumed, EndedOrPaused, SkippedExactly}
+use Rattle.perfdata_sources.proofs.ConsumedLemmas.{consumed_more, consumed_none_later, failed_later, paused_later}
+use Rattle.perfdata_sources.proofs.ReadErrors.{none_or_paused}
+use Rattle.perfdata_sources.specs.Endian.{number_in}
+use Rattle.perfdata_sources.specs.RecordHeader.{record_header_of, RecordHeaderParsed}
+use Rattle.perfdata_sources.proofs.Numbers.{number_prefix}
+use Rattle.perfdata_sources.specs.declared.endian.Endianness.{Endianness}
+use Rattle.perfdata_sources.specs.declared.event.record_header.PerfEventHeader.{PerfEventHeader}
 use Rattle.perfdata_sections.specs.declared.error.Error.{Error}
 use Rattle.perfdata_sections.specs.declared.error.Error.TheVariants.{Read, Memory, Failed}
 use Rattle.perfdata_sections.specs.declared.error.ReadError.TheVariants.{PerfEventData}
 use Rattle.perfdata_sections.specs.Error.{IsUnexpectedEof, IsUnsupported, IsIoError}
 use Rattle.linux_perf_data.specs.Attribute.{Attribute}
 use Rattle.linux_perf_data.specs.Layout.{SectionSize, LayoutError, truncated_header, size_below_header, end_overflows, truncated_body, compressed_record, aux_body_too_short, aux_end_overflows, truncated_aux_data, ConcernsMetadata, ErrorAt, IsCompressed, IsTruncated, IsRecord, HasRecordHeader, HasCompleteBody, HasAuxSize, record_type_of, misc_of, record_size_of, aux_size_of, total_size_of}
-use Rattle.linux_perf_data.specs.RecordFraming.{BytesRead, IsHeaderError, ShownBy, IsErrorFor, EndedWithin, FailedWithin, ChecksBodySize, ChecksRecordEnd, BodyRead, BodyEnded, BodyPartlyRead, IsTruncatedBody, BodyErrorCause, IsTruncatedAfterHeader, StaysWithinRecord, SourceErrorInRecord, RecordErrorAt, RecordTruncatedAt, BodyExceedsCapacity, ExceedsCapacity}
+use Rattle.linux_perf_data.specs.RecordFraming.{ShownBy, IsErrorFor, IsTruncatedAfterHeader, StaysWithinRecord, SourceErrorInRecord, ExceedsCapacity}
+use Rattle.linux_perf_data.specs.steps.RecordFraming.{BytesRead, IsHeaderError, EndedWithin, FailedWithin, ChecksBodySize, ChecksRecordEnd, BodyRead, BodyEnded, BodyPartlyRead, IsTruncatedBody, BodyErrorCause, RecordErrorAt, RecordTruncatedAt, BodyExceedsCapacity}
 use Rattle.linux_perf_data.proofs.RecordHeaders.{record_type_prefix, misc_prefix, size_first_part, total_size_auxtrace, total_size_plain}
 
 -- the size in a record header is valid, and its record ends below 2^64

@@ -3,10 +3,10 @@ use Rattle.std.proofs.Common.{◌≡◌, ◌≢◌, ℕ, ◌+◌, ◌-◌, ◌%�
 use Rattle.std.specs.Prelude.{◌⊎◌, None, Some}
 use Rattle.std.proofs.lemmas.Bool.{cases_eq, cases_lt}
 use Rattle.std.proofs.lemmas.List.{append-nil, length-take-le, take-append-drop}
-use Rattle.perfdata_base.specs.Endian.{number_in}
-use Rattle.perfdata_base.specs.Attr.{own_size, IsTooSmall}
-use Rattle.perfdata_base.proofs.Numbers.{in_reads_first}
-use Rattle.perfdata_base.specs.declared.endian.Endianness.{Endianness}
+use Rattle.perfdata_sources.specs.Endian.{number_in}
+use Rattle.perfdata_sources.specs.Attr.{own_size, IsTooSmall}
+use Rattle.perfdata_sources.proofs.Numbers.{in_reads_first}
+use Rattle.perfdata_sources.specs.declared.endian.Endianness.{Endianness}
 use Rattle.linux_perf_data.specs.Attribute.{Attribute, AreConsistent, Inconsistency, AreInconsistent, HoldsAttribute}
 use Rattle.perfdata_sections.proofs.EventPrefixes.{event_desc_or_not}
 use Rattle.linux_perf_data.specs.FeatureNumbers.{event_desc}

@@ -12,10 +12,12 @@ use Rattle.std.proofs.lemmas.List.Elements.{All-head, All-nil, All-push, All-tai
 use Rattle.std.proofs.lemmas.List.Quantifiers.{Any-push}
 use Rattle.perfdata_sections.specs.AttributeDescription.{ids_in, name_in}
 use Rattle.perfdata_sections.specs.declared.feature_sections.AttributeDescription.{AttributeDescription}
-use Rattle.linux_perf_data.specs.FirstIdIndex.{IndexesAll, has_first_id, id_lists_of, last_with_first_id}
-use Rattle.linux_perf_data.specs.NameTable.{name_from_table}
-use Rattle.linux_perf_data.specs.Names.{NamedBy, name_by_first_id, names_in, same_first_id}
-use Rattle.linux_perf_data.specs.Renames.{AddsRenames, AreRenamesFor, HasOtherFirstId, IsRename, IsRenamed, IsUnlistedOrKept, KeepsName, Rename, ids_at, name_at}
+use Rattle.linux_perf_data.specs.FirstIdIndex.{has_first_id, id_lists_of, last_with_first_id}
+use Rattle.linux_perf_data.specs.steps.FirstIdIndex.{IndexesAll}
+use Rattle.linux_perf_data.specs.steps.NameTable.{name_from_table}
+use Rattle.linux_perf_data.specs.Names.{NamedBy, name_by_first_id, same_first_id}
+use Rattle.linux_perf_data.specs.steps.Names.{names_in}
+use Rattle.linux_perf_data.specs.steps.Renames.{AddsRenames, AreRenamesFor, HasOtherFirstId, IsRename, IsRenamed, IsUnlistedOrKept, KeepsName, Rename, ids_at, name_at}
 use Rattle.linux_perf_data.specs.declared.attributes.first_id_index.FirstIdIndex.{FirstIdIndex}
 use Rattle.linux_perf_data.specs.declared.attributes.names.NameTable.{NameTable}
 use Rattle.linux_perf_data.proofs.FirstIdIndexes.{last_found, last_missed}

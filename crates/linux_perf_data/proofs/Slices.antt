@@ -4,13 +4,13 @@ use Rattle.std.specs.Prelude.{Option, Result, Ok, Err}
 use Rattle.std.specs.IoError.{error_kind}
 use Rattle.std.specs.declared.io.Error.{Error as IoErrorValue}
 use Rattle.std.specs.declared.io.ErrorKind.TheVariants.{UnexpectedEof}
-use Rattle.perfdata_base.specs.Source.{State, Consumed, ReadExactError, prepend, memory_source}
-use Rattle.perfdata_base.proofs.ReadErrors.{none_or_paused, all_read}
-use Rattle.perfdata_base.proofs.Numbers.{number_prefix, number_drop_prefix}
-use Rattle.perfdata_base.specs.Endian.{number_in}
-use Rattle.perfdata_base.specs.declared.endian.Endianness.{Endianness}
-use Rattle.perfdata_base.specs.declared.source.append.AppendError.{AppendError}
-use Rattle.perfdata_base.specs.declared.source.append.AppendError.TheVariants.{Memory, Source}
+use Rattle.perfdata_sources.specs.Source.{State, Consumed, ReadExactError, prepend, memory_source}
+use Rattle.perfdata_sources.proofs.ReadErrors.{none_or_paused, all_read}
+use Rattle.perfdata_sources.proofs.Numbers.{number_prefix, number_drop_prefix}
+use Rattle.perfdata_sources.specs.Endian.{number_in}
+use Rattle.perfdata_sources.specs.declared.endian.Endianness.{Endianness}
+use Rattle.perfdata_sources.specs.declared.source.append.AppendError.{AppendError}
+use Rattle.perfdata_sources.specs.declared.source.append.AppendError.TheVariants.{Memory, Source}
 use Rattle.perfdata_sections.specs.ParsedPart.{IsPart, PartRead, PartReadError, file_error_of}
 use Rattle.perfdata_sections.specs.NumberSections.{sample_times_of, compression_of, clock_of, IsClockSection, IsTruncatedClock, ParsesClock}
 use Rattle.perfdata_sections.specs.PmuMappings.{IsPmuSectionOf, IsTruncatedPmuSection, ReadsPmus}

@@ -1,17 +1,18 @@
 -- Without a pending header, the view of a reader is the state of its source.
 use Rattle.std.proofs.Common.{◌≡◌, ◌≢◌, ℕ, List, [], refl, sym, ap, ◌∙◌, subst, inl, inr, Option, None, Some}
 use Rattle.std.specs.Prelude.{Bool, true, false, Result, Ok, Err, IfErr}
-use Rattle.perfdata_base.specs.Source.{State, prepend, Consumed, EndedOrPaused, SourceFailed, SourcePaused, PartlyRead, SkippedExactly, AppendedExactly}
-use Rattle.perfdata_base.specs.Endian.{number_in}
-use Rattle.perfdata_base.specs.RecordHeader.{RecordHeaderParsed}
-use Rattle.perfdata_base.specs.declared.endian.Endianness.{Endianness}
-use Rattle.perfdata_base.specs.declared.event.record_header.PerfEventHeader.{PerfEventHeader}
+use Rattle.perfdata_sources.specs.Source.{State, prepend, Consumed, EndedOrPaused, SourceFailed, SourcePaused, PartlyRead, SkippedExactly, AppendedExactly}
+use Rattle.perfdata_sources.specs.Endian.{number_in}
+use Rattle.perfdata_sources.specs.RecordHeader.{RecordHeaderParsed}
+use Rattle.perfdata_sources.specs.declared.endian.Endianness.{Endianness}
+use Rattle.perfdata_sources.specs.declared.event.record_header.PerfEventHeader.{PerfEventHeader}
 use Rattle.perfdata_sections.specs.declared.error.Error.{Error}
 use Rattle.perfdata_sections.specs.declared.error.Error.TheVariants.{Memory}
 use Rattle.linux_perf_data.specs.declared.records.input.RecordInput.{RecordInput}
 use Rattle.linux_perf_data.specs.declared.records.input.RecordInput.TheVariants.{Section, Pipe}
-use Rattle.linux_perf_data.specs.RecordInput.{HasNoPendingHeader, with_leading_bytes, input_source_state, AnswersTruncation, section_size_in}
-use Rattle.linux_perf_data.specs.RecordFraming.{ReadsRecordHeader, SkipsBody, AppendsBody, ReadsRecordBody, EndedWithin, FailedWithin, BodyPartlyRead, BodyRead, BodyEnded, BodyErrorCause, BodyExceedsCapacity}
+use Rattle.linux_perf_data.specs.RecordInput.{HasNoPendingHeader, with_leading_bytes, input_source_state, section_size_in}
+use Rattle.linux_perf_data.specs.steps.RecordInput.{AnswersTruncation}
+use Rattle.linux_perf_data.specs.steps.RecordFraming.{ReadsRecordHeader, SkipsBody, AppendsBody, ReadsRecordBody, EndedWithin, FailedWithin, BodyPartlyRead, BodyRead, BodyEnded, BodyErrorCause, BodyExceedsCapacity}
 use Rattle.linux_perf_data.proofs.RecordReads.{EndChecked}
 
 prepend_none : (o : Option (List ℕ)) → prepend [] o ≡ o

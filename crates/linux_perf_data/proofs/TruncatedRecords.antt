@@ -1,14 +1,15 @@
 -- The result for a truncated raw record: the end in a pipe, an error in a file.
 use Rattle.std.proofs.Common.{◌≡◌, ◌≢◌, length, sym, ◌∙◌, subst, Option, None, Some}
 use Rattle.std.specs.Prelude.{Result, Ok}
-use Rattle.perfdata_base.specs.Source.{State}
-use Rattle.perfdata_base.specs.declared.event.record_header.PerfEventHeader.{PerfEventHeader}
+use Rattle.perfdata_sources.specs.Source.{State}
+use Rattle.perfdata_sources.specs.declared.event.record_header.PerfEventHeader.{PerfEventHeader}
 use Rattle.perfdata_sections.specs.declared.error.Error.{Error}
 use Rattle.linux_perf_data.specs.declared.records.iter.PerfRecordIter.{PerfRecordIter}
-use Rattle.linux_perf_data.specs.RecordInput.{AnswersTruncation, HasNoPendingHeader}
-use Rattle.linux_perf_data.specs.RecordFraming.{RecordTruncatedAt, RecordErrorAt}
+use Rattle.linux_perf_data.specs.RecordInput.{HasNoPendingHeader}
+use Rattle.linux_perf_data.specs.steps.RecordInput.{AnswersTruncation}
+use Rattle.linux_perf_data.specs.steps.RecordFraming.{RecordTruncatedAt, RecordErrorAt}
 use Rattle.linux_perf_data.specs.Iter.{iter_source_state, section_size_of, SameInput}
-use Rattle.linux_perf_data.specs.IterSteps.{RawRecordRead, RawRecordTruncated, ReadsRawRecord}
+use Rattle.linux_perf_data.specs.steps.IterSteps.{RawRecordRead, RawRecordTruncated, ReadsRawRecord}
 use Rattle.linux_perf_data.specs.Pauses.{PausesOnlyAtEndOrError}
 use Rattle.linux_perf_data.proofs.SourceViews.{truncated_by}
 

@@ -3,10 +3,10 @@ use Rattle.std.proofs.Common.{ℕ, ◌≤◌, ◌<◌, List, length, ap, arith}
 use Rattle.linux_perf_data.specs.declared.in_memory.InMemoryRecords.{InMemoryRecords}
 use Rattle.linux_perf_data.specs.declared.in_memory.entries.RecordEntry.{RecordEntry}
 use Rattle.linux_perf_data.specs.declared.in_memory.file_walk.FileWalk.{FileWalk}
-use Rattle.linux_perf_data.specs.FileWalk.{IsWalkAhead, WalkStartsWithMarkerAtMost, records_at_walk}
+use Rattle.linux_perf_data.specs.steps.FileWalk.{IsWalkAhead, WalkStartsWithMarkerAtMost, records_at_walk}
 use Rattle.linux_perf_data.specs.InMemoryReading.{first_record_offset_of}
 use Rattle.linux_perf_data.specs.RecordEntries.{StartsWithMarkerAtMost, record_entries_at}
-use Rattle.linux_perf_data.specs.WalkEntries.{EntriesSoFar, ReadsEntriesOfWalk}
+use Rattle.linux_perf_data.specs.steps.WalkEntries.{EntriesSoFar, ReadsEntriesOfWalk}
 use Rattle.linux_perf_data.proofs.EntryLemmas.{length-with_prefix}
 use Rattle.linux_perf_data.proofs.FileWalkEnds.{marker_at_most_of_records}
 

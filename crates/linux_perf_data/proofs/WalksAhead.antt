@@ -7,9 +7,9 @@ use Rattle.std.proofs.lemmas.List.{drop_all, drop-drop, length-drop, length-take
 use Rattle.std.specs.Borrow.{Bor}
 use Rattle.std.specs.declared.io.impls.Cursor.{Cursor}
 use Rattle.std.specs.Io.Cursor.{cursor_inner, cursor_position}
-use Rattle.perfdata_base.specs.Endian.{number_in}
-use Rattle.perfdata_base.specs.RecordHeader.{record_header_of}
-use Rattle.perfdata_base.specs.Source.{Consumed, memory_source_at}
+use Rattle.perfdata_sources.specs.Endian.{number_in}
+use Rattle.perfdata_sources.specs.RecordHeader.{record_header_of}
+use Rattle.perfdata_sources.specs.Source.{Consumed, memory_source_at}
 use Rattle.perfdata_sections.specs.RecordTypes.{finished_round}
 use Rattle.linux_perf_data.specs.declared.attributes.lookup.AttributeLookup.{AttributeLookup}
 use Rattle.linux_perf_data.specs.declared.in_memory.InMemoryRecords.{InMemoryRecords}
@@ -18,12 +18,13 @@ use Rattle.linux_perf_data.specs.declared.in_memory.file_walk.WholeRecord.{Whole
 use Rattle.linux_perf_data.specs.declared.perf_file.PerfFile.{PerfFile}
 use Rattle.linux_perf_data.specs.declared.records.input.RecordInput.TheVariants.{Section}
 use Rattle.linux_perf_data.specs.declared.records.iter.IdentifiedRecord.{IdentifiedRecord}
-use Rattle.linux_perf_data.specs.AttributeLookup.{HasOnly, KeepsAttributes}
-use Rattle.linux_perf_data.specs.BufferedRecord.{WholeRecordLength}
-use Rattle.linux_perf_data.specs.FileWalk.{IsNextRecord, IsWalkAhead, IsWalkOf, MovesPast, iter_at, position_of_walk, records_at_walk, remaining_in, with_lookup}
-use Rattle.linux_perf_data.specs.InMemory.{IsInPlace, MemoryIter, RecordTaken, memory_state}
+use Rattle.linux_perf_data.specs.steps.AttributeLookup.{HasOnly, KeepsAttributes}
+use Rattle.linux_perf_data.specs.steps.BufferedRecord.{WholeRecordLength}
+use Rattle.linux_perf_data.specs.steps.FileWalk.{IsNextRecord, IsWalkAhead, IsWalkOf, MovesPast, iter_at, position_of_walk, records_at_walk, remaining_in, with_lookup}
+use Rattle.linux_perf_data.specs.InMemory.{IsInPlace, MemoryIter, memory_state}
+use Rattle.linux_perf_data.specs.steps.InMemory.{RecordTaken}
 use Rattle.linux_perf_data.specs.RecordInput.{HasNoPendingHeader}
-use Rattle.linux_perf_data.specs.RecordViews.{IdentifiesRecord}
+use Rattle.linux_perf_data.specs.steps.RecordViews.{IdentifiesRecord}
 use Rattle.linux_perf_data.proofs.FileRecordsTaken.{file_record_consumed, moved_in_place}
 use Rattle.linux_perf_data.proofs.WholeRecordsTaken.{first_consumed}
 

@@ -3,16 +3,16 @@ use Rattle.std.proofs.Common.{◌≡◌, ◌≢◌, ℕ, ◌+◌, ◌-◌, ◌^�
 use Rattle.std.specs.Prelude.{if◌then◌else◌}
 use Rattle.std.specs.List.{slice_range}
 use Rattle.std.proofs.lemmas.List.{drop-take, length-take-le, take-append-drop}
-use Rattle.perfdata_base.proofs.Seeks.{buffered_from_cursor}
-use Rattle.perfdata_base.specs.Source.{Consumed, memory_source_at}
-use Rattle.perfdata_base.specs.Endian.{number_in}
-use Rattle.perfdata_base.specs.RecordHeader.{record_header_of}
-use Rattle.perfdata_base.specs.declared.event.record_header.PerfEventHeader.{PerfEventHeader}
+use Rattle.perfdata_sources.proofs.Seeks.{buffered_from_cursor}
+use Rattle.perfdata_sources.specs.Source.{Consumed, memory_source_at}
+use Rattle.perfdata_sources.specs.Endian.{number_in}
+use Rattle.perfdata_sources.specs.RecordHeader.{record_header_of}
+use Rattle.perfdata_sources.specs.declared.event.record_header.PerfEventHeader.{PerfEventHeader}
 use Rattle.perfdata_sections.specs.RecordTypes.{finished_round}
-use Rattle.linux_perf_data.specs.BufferedRecord.{WholeRecordLength}
+use Rattle.linux_perf_data.specs.steps.BufferedRecord.{WholeRecordLength}
 use Rattle.linux_perf_data.specs.RecordInput.{HasNoPendingHeader, input_source_state, section_size_in}
 use Rattle.linux_perf_data.specs.InMemory.{memory_state, MemoryIter}
-use Rattle.linux_perf_data.specs.IterSteps.{RawRecordRead}
+use Rattle.linux_perf_data.specs.steps.IterSteps.{RawRecordRead}
 use Rattle.linux_perf_data.specs.Layout.{misc_of}
 use Rattle.linux_perf_data.proofs.BufferedRecords.{front_record_type}
 use Rattle.linux_perf_data.proofs.RecordHeaders.{misc_prefix, record_least}

@@ -1,10 +1,10 @@
 -- The attributes of an input, their consistency, and the attribute of a record.
 use Rattle.std.specs.Prelude.{◌≡◌, ◌≢◌, ℕ, ◌+◌, ◌==◌, nat_lt, Bool, true, false, List, [], ◌∷◌, ◌++◌, length, slice_get, All, if◌then◌else◌, Option, None, Some}
 use Rattle.std.specs.Option.{option_map}
-use Rattle.perfdata_base.specs.ParseInfo.{is_set, id_parse_info_of, parse_info_of}
-use Rattle.perfdata_base.specs.RecordFields.{read_identifier, read_time}
-use Rattle.perfdata_base.specs.declared.endian.Endianness.{Endianness}
-use Rattle.perfdata_base.specs.declared.place.parse_info.RecordParseInfo.{RecordParseInfo}
+use Rattle.perfdata_identifiers.specs.ParseInfo.{is_set, id_parse_info_of, parse_info_of}
+use Rattle.perfdata_identifiers.specs.RecordFields.{read_identifier, read_time}
+use Rattle.perfdata_sources.specs.declared.endian.Endianness.{Endianness}
+use Rattle.perfdata_identifiers.specs.declared.place.parse_info.RecordParseInfo.{RecordParseInfo}
 pub use Rattle.perfdata_records.specs.HeaderAttr.{Attribute, HoldsAttribute, attribute_in, u64s_of}
 
 -- All attributes have the same id parse info: the identifier is at the same offset in all records.
@@ -40,7 +40,8 @@ pub record FirstNonconformingAt (first : Attribute) (attrs : List Attribute) (in
 
 abbrev pub FirstInconsistency : Attribute → List Attribute → Inconsistency → Type 0
 FirstInconsistency first attrs (missing_identifier i) = FirstNonconformingAt first attrs i (λ a. has_identifier a ≡ false)
-FirstInconsistency first attrs (sample_id_all_differs i) = FirstNonconformingAt first attrs i (λ a. (has_identifier a ≡ true) × (has_sample_id_all a ≢ has_sample_id_all first))
+FirstInconsistency first attrs (sample_id_all_differs i) =
+    FirstNonconformingAt first attrs i (λ a. (has_identifier a ≡ true) × (has_sample_id_all a ≢ has_sample_id_all first))
 
 -- The attributes are inconsistent, and this is the first inconsistency.
 abbrev pub AreInconsistent : List Attribute → Inconsistency → Type 0
@@ -76,7 +77,10 @@ pub record EventRef : Type 0 where
 -- A kernel record (type below 64) belongs to an attribute. A tool's record belongs to none.
 abbrev pub event_of : Endianness → List Attribute → ℕ → List ℕ → Option EventRef
 event_of order attrs record_type body = if nat_lt record_type 64
-    then option_map (λ a. record { index = attr_index_of order attrs record_type body; parse_info = parse_info_of a.attr order }) (slice_get attrs (attr_index_of order attrs record_type body))
+    then option_map (λ a. record {
+      index = attr_index_of order attrs record_type body;
+      parse_info = parse_info_of a.attr order;
+    }) (slice_get attrs (attr_index_of order attrs record_type body))
     else None
 
 abbrev pub event_time : Option EventRef → ℕ → List ℕ → Option ℕ

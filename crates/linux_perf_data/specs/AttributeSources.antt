@@ -3,17 +3,17 @@
 -- attribute section (Linux's perf.data format, and simpleperf's).
 use Rattle.std.specs.Prelude.{◌≡◌, ◌≢◌, ℕ, ◌+◌, ◌-◌, ◌*◌, ◌/◌, ◌<◌, ◌≤◌, ◌⊎◌, List, [], length, drop, map, All, Option, None, Some, Result, Ok, Err, IfSome, Vec}
 use Rattle.std.specs.declared.alloc.Global.{Global}
-use Rattle.perfdata_base.specs.Source.{State, AfterSeek, all_bytes_of}
-use Rattle.perfdata_base.specs.Endian.{number_in}
-use Rattle.perfdata_base.specs.declared.endian.Endianness.{Endianness}
+use Rattle.perfdata_sources.specs.Source.{State, AfterSeek, all_bytes_of}
+use Rattle.perfdata_sources.specs.Endian.{number_in}
+use Rattle.perfdata_sources.specs.declared.endian.Endianness.{Endianness}
 use Rattle.perfdata_base.specs.declared.header.PerfHeader.{PerfHeader}
 use Rattle.perfdata_base.specs.declared.section.PerfFileSection.{PerfFileSection}
 use Rattle.perfdata_sections.specs.Items.{ItemsAt}
-use Rattle.perfdata_sections.specs.AttrFrames.{IsAttributesSourceError, DescribesByAttrSection, ReadsAttrSection, IsPlainDescription, IsFrameError, IsInvalidAttrSection}
+use Rattle.perfdata_sections.specs.AttrFrames.{IsAttributesSourceError, DescribesByAttrSection, IsPlainDescription, IsFrameError, IsInvalidAttrSection}
 use Rattle.perfdata_sections.specs.EventDesc.{DescribesByEventDesc, IsEventDescError}
-use Rattle.perfdata_sections.specs.EventTypes.{DescribesByEventTypes, IsEventTypesError, ReadsEventTypes, IsOutOfRange, type_name_at}
+use Rattle.perfdata_sections.specs.EventTypes.{DescribesByEventTypes, IsEventTypesError, IsOutOfRange, type_name_at}
 use Rattle.perfdata_simpleperf.specs.MetaInfo.{meta_pairs, last_value, IsUtf8Pair}
-use Rattle.perfdata_sections.specs.SimpleperfAttrs.{DescribesBySimpleperf, IsSimpleperfAttrsError, ReadsSimpleperfAttrs}
+use Rattle.perfdata_sections.specs.SimpleperfAttrs.{DescribesBySimpleperf, IsSimpleperfAttrsError}
 use Rattle.perfdata_simpleperf.specs.EventTypeInfo.{EventType, event_type_of, event_type_info, DescribesEventTypes}
 use Rattle.perfdata_sections.specs.declared.event_type.SimplePerfEventType.{SimplePerfEventType}
 use Rattle.perfdata_sections.specs.declared.feature_sections.AttributeDescription.{AttributeDescription}
@@ -44,13 +44,9 @@ pub record NamesEventTypes (info : List ℕ) (types : List SimplePerfEventType) 
 -- The meta info contains no event types: a key or a value isn't UTF-8, or it has no valid text of event types.
 abbrev pub IsMetaInfoError : List ℕ → Error → Type 0
 IsMetaInfoError info StringUtf8 = ¬ All IsUtf8Pair (meta_pairs info)
-IsMetaInfoError info NoEventTypesInSimpleperfMetaInfo = All IsUtf8Pair (meta_pairs info) × ((es : List EventType) → ¬ DescribesEventTypes (last_value (meta_pairs info) event_type_info) es)
+IsMetaInfoError info NoEventTypesInSimpleperfMetaInfo =
+    All IsUtf8Pair (meta_pairs info) × ((es : List EventType) → ¬ DescribesEventTypes (last_value (meta_pairs info) event_type_info) es)
 IsMetaInfoError info _ = ⊥
-
--- Parses the event types in the meta info. The contract doesn't constrain a `Memory` error.
-abbrev pub ParsesMetaEventTypes : List ℕ → Result (Vec SimplePerfEventType Global) Error → Type 0
-ParsesMetaEventTypes info (Ok v) = NamesEventTypes info v.items
-ParsesMetaEventTypes info (Err e) = e ≢ Memory → IsMetaInfoError info e
 
 module _ (order : Endianness) (h : PerfHeader) where
   -- The attribute size or the section's range is invalid for the event types section, or for the attribute section, whatever the
@@ -94,7 +90,8 @@ module _ (order : Endianness) (h : PerfHeader) where
   DescribesFrom sections all ds = DescribesWith sections.event_desc sections.meta_info all ds
 
   abbrev pub IsTypesError : List ℕ → Error → Type 0
-  IsTypesError all e = (IsInvalidTypesSection × (e ≡ Read OfAttr)) ⊎ ((¬ IsInvalidTypesSection) × IsEventTypesError (number_in order) h.attr_size h.event_types_section e all)
+  IsTypesError all e =
+      (IsInvalidTypesSection × (e ≡ Read OfAttr)) ⊎ ((¬ IsInvalidTypesSection) × IsEventTypesError (number_in order) h.attr_size h.event_types_section e all)
 
   abbrev pub IsAttrsError : List ℕ → Error → Type 0
   IsAttrsError all e = (IsInvalidAttrs × (e ≡ Read OfAttr)) ⊎ ((¬ IsInvalidAttrs) × AttrSectionError order h.attr_size h.attr_section e all)
@@ -103,7 +100,8 @@ module _ (order : Endianness) (h : PerfHeader) where
   abbrev pub IsSimpleperfError : List SimplePerfEventType → List ℕ → Error → Type 0
   IsSimpleperfError types all e =
       ((h.attr_size < 16) × (e ≡ Read OfAttr))
-      ⊎ ((16 ≤ h.attr_size) × ((IsInvalidSimpleperfAttrs types × (e ≡ Read OfAttr)) ⊎ ((¬ IsInvalidSimpleperfAttrs types) × IsSimpleperfAttrsError (number_in order) h.attr_size h.attr_section types e all)))
+      ⊎ ((16 ≤ h.attr_size) × ((IsInvalidSimpleperfAttrs types × (e ≡ Read OfAttr))
+      ⊎ ((¬ IsInvalidSimpleperfAttrs types) × IsSimpleperfAttrsError (number_in order) h.attr_size h.attr_section types e all)))
 
   -- The meta info contains no event types, or the attribute section is invalid for them.
   abbrev pub IsMetaError : List ℕ → List ℕ → Error → Type 0
@@ -129,18 +127,5 @@ module _ (order : Endianness) (h : PerfHeader) where
   -- Reads a file's attributes. The contract states no cause for a `Memory` error.
   abbrev pub ReadsAttributes : KnownSections → State → Result (Vec AttributeDescription Global) Error → State → Type 0
   ReadsAttributes sections old (Ok v) new = AfterSeek old new × IfSome (all_bytes_of old.position) (λ all. DescribesFrom sections all v.items)
-  ReadsAttributes sections old (Err e) new = AfterSeek old new × (e ≢ Memory → IfSome (all_bytes_of old.position) (λ all. IsSourcesError sections all e) ⊎ IsAttributesSourceError old e new)
-
--- Parses an EVENT_DESC section in memory. The contract states no cause for a `Memory` error.
-abbrev pub ParsesEventDesc : Endianness → List ℕ → Result (Vec AttributeDescription Global) Error → Type 0
-ParsesEventDesc order desc (Ok v) = DescribesByEventDesc (number_in order) desc v.items
-ParsesEventDesc order desc (Err e) = e ≢ Memory → IsEventDescError (number_in order) e desc
-
-abbrev pub ReadsTypesSection : Endianness → ℕ → PerfFileSection → State → Result (Vec AttributeDescription Global) Error → State → Type 0
-ReadsTypesSection order attr_size section old result new = ReadsEventTypes (number_in order) attr_size section old result new
-
-abbrev pub ReadsAttrsSection : Endianness → ℕ → PerfFileSection → State → Result (Vec AttributeDescription Global) Error → State → Type 0
-ReadsAttrsSection order attr_size section old result new = ReadsAttrSection (number_in order) attr_size section old result new
-
-abbrev pub ReadsSimpleperfSection : Endianness → ℕ → PerfFileSection → List SimplePerfEventType → State → Result (Vec AttributeDescription Global) Error → State → Type 0
-ReadsSimpleperfSection order attr_size section types old result new = ReadsSimpleperfAttrs (number_in order) attr_size section types old result new
+  ReadsAttributes sections old (Err e) new =
+      AfterSeek old new × (e ≢ Memory → IfSome (all_bytes_of old.position) (λ all. IsSourcesError sections all e) ⊎ IsAttributesSourceError old e new)

@@ -3,9 +3,9 @@ use Rattle.std.specs.Prelude.{◌≡◌, ℕ, ◌%◌, ◌++◌, List, [], ◌�
 use Rattle.std.specs.HashMap.{HashMap}
 use Rattle.std.specs.Map.{lookup, update_all}
 use Rattle.std.specs.Option.{option_map}
-use Rattle.perfdata_base.specs.Endian.{number_in}
-use Rattle.perfdata_base.specs.CpuMode.{cpu_mode_of}
-use Rattle.perfdata_base.specs.declared.endian.Endianness.{Endianness}
+use Rattle.perfdata_sources.specs.Endian.{number_in}
+use Rattle.perfdata_sources.specs.CpuMode.{cpu_mode_of}
+use Rattle.perfdata_sources.specs.declared.endian.Endianness.{Endianness}
 use Rattle.perfdata_records.specs.BuildIdEvent.{BuildIdEntry, IsBuildIdEntry, IsTruncatedBuildIdEntry}
 use Rattle.perfdata_records.specs.DsoKey.{Key, key_in, key_of, keys_equal}
 use Rattle.perfdata_records.specs.contracts.dso_key.DsoKeyPartialEq.TheImpl.{ghosts}
@@ -36,16 +36,12 @@ map_info_at m k = option_map path_and_id_of (lookup (λ q. keys_equal k (key_in 
 abbrev pub MapsLastEntries : {S : Type 0} → HashMap DsoKey DsoInfo S → List BuildIdEntry → Type 0
 MapsLastEntries m es = (k : Key) → map_info_at m k ≡ last_info es k
 
--- Inserts an entry. If the map contained the last entry of each key, it still does with the new entry. The error is `Memory`.
-abbrev pub InsertsEntry : {S A : Type 0} → HashMap DsoKey DsoInfo S → BuildIdEntry → Result A Error → HashMap DsoKey DsoInfo S → Type 0
-InsertsEntry old e (Ok _) new = (es : List BuildIdEntry) → MapsLastEntries old es → MapsLastEntries new (es ++ e ∷ [])
-InsertsEntry old e (Err error) new = error ≡ Memory
-
 module _ (order : Endianness) where
   -- `xs` starts with these entries, and `rest` follows them.
   abbrev pub BeginsWithEntries : List ℕ → List BuildIdEntry → List ℕ → Type 0
   BeginsWithEntries xs [] rest = xs ≡ rest
-  BeginsWithEntries xs (e ∷ es) rest = (first : List ℕ) × (after : List ℕ) × (xs ≡ first ++ after) × IsBuildIdEntry (number_in order) first e × BeginsWithEntries after es rest
+  BeginsWithEntries xs (e ∷ es) rest =
+      (first : List ℕ) × (after : List ℕ) × (xs ≡ first ++ after) × IsBuildIdEntry (number_in order) first e × BeginsWithEntries after es rest
 
   -- `xs` consists of these entries and a rest that doesn't contain a whole entry.
   abbrev pub AreBuildIdEntries : List ℕ → List BuildIdEntry → Type 0

@@ -1,11 +1,8 @@
 -- The attributes in attribute descriptions.
-use Rattle.std.specs.Prelude.{◌≡◌, List, map, Result, Ok, Err, Vec}
-use Rattle.std.specs.declared.alloc.Global.{Global}
-use Rattle.perfdata_base.specs.ParseInfo.{parse_info_of}
-use Rattle.perfdata_base.specs.declared.place.parse_info.RecordParseInfo.{RecordParseInfo}
-use Rattle.perfdata_base.specs.declared.endian.Endianness.{Endianness}
-use Rattle.perfdata_sections.specs.declared.error.Error.{Error}
-use Rattle.perfdata_sections.specs.declared.error.Error.TheVariants.{Memory}
+use Rattle.std.specs.Prelude.{List, map}
+use Rattle.perfdata_identifiers.specs.ParseInfo.{parse_info_of}
+use Rattle.perfdata_identifiers.specs.declared.place.parse_info.RecordParseInfo.{RecordParseInfo}
+use Rattle.perfdata_sources.specs.declared.endian.Endianness.{Endianness}
 use Rattle.perfdata_sections.specs.declared.feature_sections.AttributeDescription.{AttributeDescription}
 use Rattle.perfdata_sections.specs.AttributeDescription.{attr_in, ids_in}
 use Rattle.linux_perf_data.specs.Attribute.{Attribute}
@@ -20,7 +17,3 @@ described_attributes ds = map described_attribute ds
 -- The parse info of each attribute's records.
 abbrev pub parse_infos_of : Endianness → List Attribute → List RecordParseInfo
 parse_infos_of order attrs = map (λ a. parse_info_of a.attr order) attrs
-
-abbrev pub CollectsParseInfos : Endianness → List Attribute → Result (Vec RecordParseInfo Global) Error → Type 0
-CollectsParseInfos order attrs (Ok v) = v.items ≡ parse_infos_of order attrs
-CollectsParseInfos order attrs (Err e) = e ≡ Memory

@@ -1,7 +1,7 @@
 -- Reading a file from start to end: the opening, the records that consecutive calls return, and what ends them.
 use Rattle.std.specs.Prelude.{◌≡◌, ◌≢◌, ℕ, ◌+◌, ◌≤◌, ◌⊎◌, List, length, drop, Option, Some}
-use Rattle.perfdata_base.specs.Source.{State, Position}
-use Rattle.perfdata_base.specs.declared.endian.Endianness.{Endianness}
+use Rattle.perfdata_sources.specs.Source.{State, Position}
+use Rattle.perfdata_sources.specs.declared.endian.Endianness.{Endianness}
 use Rattle.perfdata_sections.specs.declared.error.Error.{Error}
 use Rattle.linux_perf_data.specs.declared.records.iter.PerfRecordIter.{PerfRecordIter}
 use Rattle.linux_perf_data.specs.declared.perf_file.PerfFile.{PerfFile}
@@ -17,7 +17,8 @@ use Rattle.linux_perf_data.specs.Reading.{SourceErrorInSomeRecord, AreFirstRecor
 
 -- `P` holds for the records of the file at position `p`.
 abbrev pub HoldsForFile : Position → ((List RecordView → LayoutEnd → Type 0) → Type 0) → Type 0
-HoldsForFile p P = (file : PerfFile) × ((header : PerfHeader) × DescribesFile p header file × P (FileRecords p (endian_of_file file) header (attributes_of_file file)))
+HoldsForFile p P =
+    (file : PerfFile) × ((header : PerfHeader) × DescribesFile p header file × P (FileRecords p (endian_of_file file) header (attributes_of_file file)))
 
 -- The source error in a file.
 abbrev pub SourceErrorInFile : State → Error → State → Type 0
@@ -53,15 +54,18 @@ module _ {R : Type 0} (state : R → State) where
   -- Reading a file up to any of its records.
   abbrev pub ReadingFilePartly : Type 0
   ReadingFilePartly = (p : Position) (old : State) (file file' : PerfFile) (it now : PerfRecordIter R) (records : List RecordView) →
-      old.position ≡ Some p → FileParsed state old file it → ReturnsRecords state it file records now file' → FilePartlyRead p file records (state now.source).bytes × (file' ≡ file)
+      old.position ≡ Some p → FileParsed state old file it → ReturnsRecords state it file records now file'
+      → FilePartlyRead p file records (state now.source).bytes × (file' ≡ file)
 
   -- Reading a file up to its end.
   abbrev pub ReadingFileToEnd : Type 0
   ReadingFileToEnd = (p : Position) (old : State) (file now_file file' : PerfFile) (it now new : PerfRecordIter R) (records : List RecordView) →
-      old.position ≡ Some p → FileParsed state old file it → ReturnsRecords state it file records now now_file → ReturnsEnd state now now_file new file' → FileRead p file records (state new.source).bytes × (file' ≡ file)
+      old.position ≡ Some p → FileParsed state old file it → ReturnsRecords state it file records now now_file → ReturnsEnd state now now_file new file'
+      → FileRead p file records (state new.source).bytes × (file' ≡ file)
 
   -- Reading a file up to an error other than `Memory`.
   abbrev pub ReadingFileToError : Type 0
   ReadingFileToError = (p : Position) (old : State) (file now_file file' : PerfFile) (it now new : PerfRecordIter R) (records : List RecordView) (e : Error) →
-      old.position ≡ Some p → FileParsed state old file it → ReturnsRecords state it file records now now_file → ReturnsError state now now_file e new file' → e ≢ Memory
+      old.position ≡ Some p → FileParsed state old file it → ReturnsRecords state it file records now now_file → ReturnsError state now now_file e new file'
+      → e ≢ Memory
       → (FileReadToError p file records e ⊎ SourceErrorInCall state old now e new) × SamePerfFile file file'

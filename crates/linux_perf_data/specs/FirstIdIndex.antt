@@ -1,5 +1,5 @@
 -- The index of attributes by their first ids.
-use Rattle.std.specs.Prelude.{◌≡◌, ℕ, zero, suc, ◌+◌, ◌<◌, ◌≤◌, Bool, true, List, [], ◌∷◌, map, length, slice_index_or, if◌then◌else◌, Option, None, Some, Result, Ok, Err}
+use Rattle.std.specs.Prelude.{◌≡◌, ℕ, zero, suc, ◌<◌, ◌≤◌, Bool, true, List, [], ◌∷◌, map, length, slice_index_or, if◌then◌else◌, Option, None, Some}
 use Rattle.std.specs.BTreeMap.{get}
 use Rattle.std.specs.Ordering.{nat_cmp}
 use Rattle.perfdata_sections.specs.AttributeDescription.{ids_in}
@@ -25,13 +25,5 @@ last_with_first_id lists id (suc k) = if has_first_id lists id k then Some k els
 pub record IndexesAttributes (x : FirstIdIndex) (lists : List (List ℕ)) : Type 0 where
   pub in_bounds : length x.previous.items ≤ length lists
   pub last : (id : ℕ) → get nat_cmp x.last id ≡ last_with_first_id lists id (length x.previous.items)
-  pub previous : (id k : ℕ) → k < length x.previous.items → has_first_id lists id k ≡ true → slice_index_or x.previous.items k None ≡ last_with_first_id lists id k
-
--- It contains all attributes.
-abbrev pub IndexesAll : FirstIdIndex → List AttributeDescription → Type 0
-IndexesAll x ds = IndexesAttributes x (id_lists_of ds) × (length x.previous.items ≡ length ds)
-
--- The next attribute, which has these ids, is added. On error, the index contains the same attributes as before.
-abbrev pub AddsIds : {A B : Type 0} → FirstIdIndex → List ℕ → Result A B → FirstIdIndex → Type 0
-AddsIds old ids (Ok _) new = (length new.previous.items ≡ length old.previous.items + 1) × ((lists : List (List ℕ)) → IndexesAttributes old lists → length old.previous.items < length lists → slice_index_or lists (length old.previous.items) [] ≡ ids → IndexesAttributes new lists)
-AddsIds old ids (Err _) new = (lists : List (List ℕ)) → IndexesAttributes old lists → IndexesAttributes new lists
+  pub previous : (id k : ℕ) → k < length x.previous.items → has_first_id lists id k ≡ true
+      → slice_index_or x.previous.items k None ≡ last_with_first_id lists id k

@@ -14,7 +14,3 @@ first_index_with_id id i (d ∷ ds) = if same_first_id (ids_in d) (id ∷ []) th
 -- The map contains, for each id, the index of the first description whose first id it is.
 abbrev pub IndexesFirstIds : BTreeMap ℕ ℕ → List AttributeDescription → Type 0
 IndexesFirstIds first events = (id : ℕ) → get nat_cmp first id ≡ first_index_with_id id 0 events
-
--- The first of `ids` maps to `index`, and all other ids map to what they mapped to before.
-abbrev pub InsertsFirstId : BTreeMap ℕ ℕ → List ℕ → ℕ → BTreeMap ℕ ℕ → Type 0
-InsertsFirstId old ids index new = (id : ℕ) → get nat_cmp new id ≡ (if same_first_id ids (id ∷ []) then Some index else get nat_cmp old id)

@@ -1,7 +1,7 @@
 -- Positions among the records of a file in memory, and readers that start at them.
 use Rattle.std.specs.Prelude.{◌≡◌, ℕ, ◌+◌, ◌^◌, ◌<◌, List, drop, min, Result, Ok, Err, Some}
-use Rattle.perfdata_base.specs.Source.{at_start, memory_source_at}
-use Rattle.perfdata_base.specs.declared.endian.Endianness.{Endianness}
+use Rattle.perfdata_sources.specs.Source.{at_start, memory_source_at}
+use Rattle.perfdata_sources.specs.declared.endian.Endianness.{Endianness}
 use Rattle.perfdata_base.specs.declared.header.PerfHeader.{PerfHeader}
 use Rattle.perfdata_sections.specs.declared.error.Error.{Error}
 use Rattle.linux_perf_data.specs.declared.in_memory.InMemoryReader.{InMemoryReader}
@@ -29,7 +29,8 @@ round_at position = min position.round position.offset
 -- The records of a file with this header from a position on, and how the layout of its data section ends.
 abbrev pub FileRecordsFrom : List ℕ → Endianness → PerfHeader → RecordPosition → List Attribute → List RecordView → LayoutEnd → Type 0
 FileRecordsFrom bytes order h position attrs records end =
-    RemainingRecords order (drop (h.data_section.offset + position.offset) bytes) (Some h.data_section.size) position.offset (round_at position) attrs records end
+    RemainingRecords order (drop (h.data_section.offset + position.offset) bytes) (Some h.data_section.size) position.offset
+    (round_at position) attrs records end
 
 -- The iterator of a file is at a position. Its remaining bytes are those of the file from there on.
 pub record IsAtPosition (bytes : List ℕ) (position : RecordPosition) (header : PerfHeader) (file : PerfFile) (it : MemoryIter) : Type 0 where

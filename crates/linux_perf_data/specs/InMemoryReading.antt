@@ -1,8 +1,8 @@
 -- The contracts of a reader of a file or a pipe in memory.
 use Rattle.std.specs.Prelude.{◌≡◌, ℕ, ◌+◌, ◌≤◌, List, [], ◌∷◌, ◌++◌, length, take, drop, Vec, Option, None, Some, Result, Ok, Err}
 use Rattle.std.specs.declared.alloc.Global.{Global}
-use Rattle.perfdata_base.specs.Source.{memory_source_at}
-use Rattle.perfdata_base.specs.Raw.{bytes_of, IsSingle}
+use Rattle.perfdata_sources.specs.Source.{memory_source_at}
+use Rattle.perfdata_sources.specs.Raw.{bytes_of, IsSingle}
 use Rattle.perfdata_sections.specs.declared.error.Error.{Error}
 use Rattle.perfdata_sections.specs.declared.error.Error.TheVariants.{Memory}
 use Rattle.perfdata_records.specs.declared.record.PerfFileRecord.{PerfFileRecord}
@@ -37,11 +37,13 @@ pub record KeepsInput (old new : InMemoryRecords) : Type 0 where
 pub record IsSliceOfInput (records : InMemoryRecords) (place : RecordPlace) (r : PerfFileRecord) : Type 0 where
   pub single : IsSingle (file_record_body r)
   pub ends_in_input : first_record_offset_of records + place.offset + 8 + length (bytes_of (file_record_body r)) ≤ length (input_of records)
-  pub bytes : bytes_of (file_record_body r) ≡ take (length (bytes_of (file_record_body r))) (drop (first_record_offset_of records + place.offset + 8) (input_of records))
+  pub bytes : bytes_of (file_record_body r)
+      ≡ take (length (bytes_of (file_record_body r))) (drop (first_record_offset_of records + place.offset + 8) (input_of records))
 
 -- A record was returned, as a streaming iterator over the same bytes returns it, whose buffer then is `buffer`. The body is a
 -- slice of the input.
-pub record ReturnsRecordInMemory (old : InMemoryRecords) (file : PerfFile) (place : RecordPlace) (r : PerfFileRecord) (new : InMemoryRecords) (file' : PerfFile) : Type 0 where
+pub record ReturnsRecordInMemory (old : InMemoryRecords) (file : PerfFile) (place : RecordPlace) (r : PerfFileRecord) (new : InMemoryRecords)
+    (file' : PerfFile) : Type 0 where
   pub buffer : Vec ℕ Global
   pub returns : ReturnsRecord memory_state old.records file (record_view_of place r) (with_buffer new.records buffer) file'
   pub in_input : IsSliceOfInput old place r
@@ -74,12 +76,14 @@ ParsesPipeInMemory bytes (Err e) = PipeParseError memory_state (memory_source_at
 
 -- A call returned a record with this view.
 abbrev pub ReturnsViewInMemory : InMemoryRecords → PerfFile → RecordView → InMemoryRecords → PerfFile → Type 0
-ReturnsViewInMemory old file h new file' = (place : RecordPlace) × ((r : PerfFileRecord) × ReturnsRecordInMemory old file place r new file' × (h ≡ record_view_of place r))
+ReturnsViewInMemory old file h new file' =
+    (place : RecordPlace) × ((r : PerfFileRecord) × ReturnsRecordInMemory old file place r new file' × (h ≡ record_view_of place r))
 
 -- Consecutive calls returned these records. Each call received the `PerfFile` as the previous one left it.
 abbrev pub ReturnsRecordsInMemory : InMemoryRecords → PerfFile → List RecordView → InMemoryRecords → PerfFile → Type 0
 ReturnsRecordsInMemory old file [] now file' = (now ≡ old) × (file' ≡ file)
-ReturnsRecordsInMemory old file (h ∷ hs) now file' = (next : InMemoryRecords) × ((next_file : PerfFile) × ReturnsViewInMemory old file h next next_file × ReturnsRecordsInMemory next next_file hs now file')
+ReturnsRecordsInMemory old file (h ∷ hs) now file' =
+    (next : InMemoryRecords) × ((next_file : PerfFile) × ReturnsViewInMemory old file h next next_file × ReturnsRecordsInMemory next next_file hs now file')
 
 -- Zero calls return no records.
 abbrev pub NoCallsInMemory : Type 0
@@ -88,7 +92,8 @@ NoCallsInMemory = (records : InMemoryRecords) (file : PerfFile) → ReturnsRecor
 -- One call after others returns one record more.
 abbrev pub OneCallMoreInMemory : Type 0
 OneCallMoreInMemory = (old now new : InMemoryRecords) (file now_file file' : PerfFile) (records : List RecordView) (place : RecordPlace) (r : PerfFileRecord) →
-    ReturnsRecordsInMemory old file records now now_file → ReturnsRecordInMemory now now_file place r new file' → ReturnsRecordsInMemory old file (records ++ record_view_of place r ∷ []) new file'
+    ReturnsRecordsInMemory old file records now now_file → ReturnsRecordInMemory now now_file place r new file'
+    → ReturnsRecordsInMemory old file (records ++ record_view_of place r ∷ []) new file'
 
 -- A streaming reader of the same bytes returns the same records, and then has the same state but for its buffer.
 abbrev pub ReturnsSameRecords : Type 0
@@ -97,8 +102,10 @@ ReturnsSameRecords = (old now : InMemoryRecords) (file file' : PerfFile) (record
 
 -- In this state, it returns the same end.
 abbrev pub ReturnsSameEnd : Type 0
-ReturnsSameEnd = (now new : InMemoryRecords) (file file' : PerfFile) (buffer : Vec ℕ Global) → now.records.stage ≡ Running → ReturnsEnd memory_state now.records file new.records file' → ReturnsEnd memory_state (with_buffer now.records buffer) file new.records file'
+ReturnsSameEnd = (now new : InMemoryRecords) (file file' : PerfFile) (buffer : Vec ℕ Global) → now.records.stage ≡ Running
+    → ReturnsEnd memory_state now.records file new.records file' → ReturnsEnd memory_state (with_buffer now.records buffer) file new.records file'
 
 -- In this state, it returns the same error.
 abbrev pub ReturnsSameError : Type 0
-ReturnsSameError = (now new : InMemoryRecords) (file file' : PerfFile) (e : Error) (buffer : Vec ℕ Global) → now.records.stage ≡ Running → ReturnsError memory_state now.records file e new.records file' → ReturnsError memory_state (with_buffer now.records buffer) file e new.records file'
+ReturnsSameError = (now new : InMemoryRecords) (file file' : PerfFile) (e : Error) (buffer : Vec ℕ Global) → now.records.stage ≡ Running
+    → ReturnsError memory_state now.records file e new.records file' → ReturnsError memory_state (with_buffer now.records buffer) file e new.records file'

@@ -1,9 +1,9 @@
 -- The kind of an input by its first bytes: the magic of a jitdump in 4 bytes, or the magic of perf in 8 bytes and the size of
 -- the header in the next 8. The header of a perf.data file has at least 104 bytes, that of a pipe fewer (perf writes 16).
 use Rattle.std.specs.Prelude.{◌≡◌, ℕ, ◌<◌, ◌≤◌, List, length, take, drop, Option, None, Some}
-use Rattle.perfdata_base.specs.Endian.{number_in}
+use Rattle.perfdata_sources.specs.Endian.{number_in}
 use Rattle.perfdata_base.specs.Header.{magic_of}
-use Rattle.perfdata_base.specs.declared.endian.Endianness.{Endianness}
+use Rattle.perfdata_sources.specs.declared.endian.Endianness.{Endianness}
 use Rattle.perfdata_jit.specs.JitHeader.{jit_magic_of}
 use Rattle.linux_perf_data.specs.declared.input_kind.InputKind.{InputKind}
 use Rattle.linux_perf_data.specs.declared.input_kind.InputKind.TheVariants.{File, Pipe, JitDump}

@@ -1,8 +1,7 @@
 -- The state of a `PerfRecordIter`, its remaining records, and the contract of one call.
-use Rattle.std.specs.Prelude.{◌≡◌, ◌≢◌, ℕ, ◌+◌, ◌^◌, ◌<◌, ◌≤◌, ◌⊎◌, Bool, true, false, List, [], ◌∷◌, ◌++◌, length, drop, Option, None, Some, Result, Ok, Err, IfSome, IfErr, vec_capacity}
-use Rattle.perfdata_base.specs.Source.{State, Consumed, SourcePaused}
-use Rattle.perfdata_base.specs.Endian.{number_in}
-use Rattle.perfdata_base.specs.declared.endian.Endianness.{Endianness}
+use Rattle.std.specs.Prelude.{◌≡◌, ◌≢◌, ℕ, ◌+◌, ◌^◌, ◌<◌, ◌≤◌, ◌⊎◌, List, [], ◌∷◌, ◌++◌, length, drop, Option, None, Some, Result, Ok, Err, IfSome, IfErr, vec_capacity}
+use Rattle.perfdata_sources.specs.Source.{State, Consumed, SourcePaused}
+use Rattle.perfdata_sources.specs.Endian.{number_in}
 use Rattle.perfdata_sections.specs.declared.error.Error.{Error}
 use Rattle.perfdata_sections.specs.declared.error.Error.TheVariants as error
 use Rattle.perfdata_records.specs.declared.record.PerfFileRecord.{PerfFileRecord}
@@ -25,11 +24,6 @@ use Rattle.linux_perf_data.specs.Pauses.{PausesOnlyAtEndOrError}
 use Rattle.linux_perf_data.specs.RecordFraming.{ExceedsCapacity, StaysWithinRecord, IsTruncatedAfterHeader, IsErrorFor, ShownBy, SourceErrorInRecord, MayNeedMemory}
 use Rattle.linux_perf_data.specs.RecordViews.{record_view_of, record_view_with}
 
--- Whether a record may start at this offset.
-abbrev pub TestsMayStart : SectionSize → ℕ → Bool → Type 0
-TestsMayStart bound offset true = MayStartAt bound offset
-TestsMayStart bound offset false = (bound ≢ None) × ((order : Endianness) (bytes : List ℕ) → IsEnd order bound offset bytes)
-
 module _ {R : Type 0} (state : R → State) where
   -- The source as the iterator sees it. In a pipe, the pending header precedes the remaining bytes.
   abbrev pub iter_source_state : PerfRecordIter R → State
@@ -46,7 +40,8 @@ module _ {R : Type 0} (state : R → State) where
 
   -- The records that the iterator still returns and how its layout then ends, if the attributes before are `attrs`.
   abbrev pub HasRemainingRecords : PerfRecordIter R → List Attribute → List RecordView → LayoutEnd → Type 0
-  HasRemainingRecords it attrs records end = IfSome (iter_source_state it).bytes (λ bytes. RemainingRecords it.endian bytes (section_size_of it) it.offset it.round attrs records end)
+  HasRemainingRecords it attrs records end =
+      IfSome (iter_source_state it).bytes (λ bytes. RemainingRecords it.endian bytes (section_size_of it) it.offset it.round attrs records end)
 
   -- A record was returned.
   pub record ReturnsRecord (old : PerfRecordIter R) (file : PerfFile) (h : RecordView) (new : PerfRecordIter R) (file' : PerfFile) : Type 0 where
@@ -54,10 +49,12 @@ module _ {R : Type 0} (state : R → State) where
     pub stage_running : new.stage ≡ Running
     pub same_input : SameInput old new
     -- The lookup represents the attributes before, and those of this record.
-    pub represents : (attrs : List Attribute) → Represents old.endian old.attribute_lookup attrs → Represents new.endian new.attribute_lookup (attrs ++ attributes_in_record old.endian (section_size_of old) h.record_type h.body)
+    pub represents : (attrs : List Attribute) → Represents old.endian old.attribute_lookup attrs
+        → Represents new.endian new.attribute_lookup (attrs ++ attributes_in_record old.endian (section_size_of old) h.record_type h.body)
     -- remaining(before) = record :: remaining(after)
     pub extends_remaining : (attrs : List Attribute) → Represents old.endian old.attribute_lookup attrs → (records : List RecordView) (end : LayoutEnd)
-        → HasRemainingRecords new (attrs ++ attributes_in_record old.endian (section_size_of old) h.record_type h.body) records end → HasRemainingRecords old attrs (h ∷ records) end
+        → HasRemainingRecords new (attrs ++ attributes_in_record old.endian (section_size_of old) h.record_type h.body) records end
+        → HasRemainingRecords old attrs (h ∷ records) end
     -- In a pipe, if the record contains metadata, the attribute count of the `PerfFile` matches the input's.
     pub same_attribute_count : section_size_of old ≡ None → IsMetadataType h.record_type → SameAttributeCount old.endian old.attribute_lookup file
     -- The `PerfFile` contains the metadata of this record. It is untouched in a file, and by a record without metadata.
@@ -121,15 +118,19 @@ module _ {R : Type 0} (state : R → State) where
     pub in_pipe : section_size_of old ≡ None
     pub is_record : IsRecord old.endian consumed
     pub metadata_type : IsMetadataType (record_type_of old.endian consumed)
-    pub cause : (IsInvalidInput e × ((attrs : List Attribute) → Represents old.endian old.attribute_lookup attrs → length (descriptions_of_file file) ≢ length attrs))
-        ⊎ (SameAttributeCount old.endian old.attribute_lookup file × (record_type_of old.endian consumed ≡ header_attr) × HoldsAttribute old.endian (drop 8 consumed) × ((bytes : List ℕ) × (feature_data_in_file file event_desc ≡ Some bytes) × IsEventDescError (number_in old.endian) e bytes))
+    pub cause : (IsInvalidInput e × ((attrs : List Attribute) → Represents old.endian old.attribute_lookup attrs
+        → length (descriptions_of_file file) ≢ length attrs))
+        ⊎ (SameAttributeCount old.endian old.attribute_lookup file × (record_type_of old.endian consumed ≡ header_attr)
+        × HoldsAttribute old.endian (drop 8 consumed)
+        × ((bytes : List ℕ) × (feature_data_in_file file event_desc ≡ Some bytes) × IsEventDescError (number_in old.endian) e bytes))
 
   -- The cause of an error. The consumed bytes show a layout error whose earlier checks the `PerfFile` passes, or the source has an
   -- error. Or the `PerfFile` belongs to another input, and the record is complete and ends below 2^64.
   abbrev pub IsErrorCause : PerfRecordIter R → PerfFile → List ℕ → List ℕ → Error → PerfRecordIter R → Type 0
   IsErrorCause old file markers consumed e new =
       ShownBy (λ bytes. (f : LayoutError) × ((attrs : List Attribute) → Represents old.endian old.attribute_lookup attrs
-      → RemainingRecords old.endian bytes (section_size_of old) old.offset old.round attrs [] (ends_with_error f)) × PassesEarlierChecks old.endian old.attribute_lookup file f × IsErrorFor f e) (markers ++ consumed) (iter_source_state new)
+      → RemainingRecords old.endian bytes (section_size_of old) old.offset old.round attrs [] (ends_with_error f))
+      × PassesEarlierChecks old.endian old.attribute_lookup file f × IsErrorFor f e) (markers ++ consumed) (iter_source_state new)
       ⊎ (SourceErrorInRecord old.endian (section_size_of old) (iter_source_state old) consumed e (iter_source_state new)
       ⊎ (IsMismatchedPerfFile old file consumed e × (new.offset + length consumed < 2 ^ 64)))
 
@@ -137,7 +138,8 @@ module _ {R : Type 0} (state : R → State) where
   -- metadata is complete and valid, and the attribute count of the `PerfFile` matches the input's.
   abbrev pub NeedsMemoryFor : PerfRecordIter R → PerfFile → List ℕ → Type 0
   NeedsMemoryFor old file consumed = MayNeedMemory old.endian consumed × (IsTruncatedAfterHeader old.endian consumed
-      ⊎ ((section_size_of old ≡ None) × IsRecord old.endian consumed × SameAttributeCount old.endian old.attribute_lookup file × HasValidMetadata old.endian (record_type_of old.endian consumed) (drop 8 consumed)))
+      ⊎ ((section_size_of old ≡ None) × IsRecord old.endian consumed × SameAttributeCount old.endian old.attribute_lookup file
+      × HasValidMetadata old.endian (record_type_of old.endian consumed) (drop 8 consumed)))
 
   -- A running iterator failed. It skipped the markers. The record after them starts where one may. `consumed_bytes` of it were
   -- consumed, and no byte after it.
@@ -205,4 +207,5 @@ module _ {R : Type 0} (state : R → State) where
   -- The result of a call, and the iterator after the loan of the record ends. The iterator keeps its source, reads no further
   -- after an empty read, and needs memory only to grow its buffer and for metadata.
   abbrev pub NextRecord : (R → ℕ) → PerfRecordIter R → PerfFile → Result (Option (RecordPlace × PerfFileRecord)) Error → PerfRecordIter R → PerfFile → Type 0
-  NextRecord loan old file r new file' = ReturnsNext old file r new file' × (loan new.source ≡ loan old.source) × PausesOnlyAtEndOrError (state old.source) r (state new.source) × MemoryOnlyToGrow old r new
+  NextRecord loan old file r new file' = ReturnsNext old file r new file' × (loan new.source ≡ loan old.source)
+      × PausesOnlyAtEndOrError (state old.source) r (state new.source) × MemoryOnlyToGrow old r new

@@ -1,11 +1,11 @@
 -- Late metadata: what a pipe's record HEADER_ATTR or HEADER_FEATURE adds to a `PerfFile` and to the attribute lookup.
 use Rattle.std.specs.Prelude.{◌≡◌, ◌≢◌, ◌⊎◌, ◌↔◌, ℕ, ◌<◌, ◌≤◌, ◌==◌, List, [], ◌∷◌, ◌++◌, length, drop, nat_eq, if◌then◌else◌, None, Some, Result, Ok, Err}
 use Rattle.std.specs.Map.{update_all}
-use Rattle.perfdata_base.specs.Features.{HasFeature}
-use Rattle.perfdata_base.specs.Endian.{number_in}
-use Rattle.perfdata_base.specs.Attr.{IsTooSmall}
-use Rattle.perfdata_base.specs.declared.endian.Endianness.{Endianness}
-use Rattle.perfdata_base.specs.declared.features.FeatureSet.{FeatureSet}
+use Rattle.perfdata_identifiers.specs.Features.{HasFeature}
+use Rattle.perfdata_sources.specs.Endian.{number_in}
+use Rattle.perfdata_sources.specs.Attr.{IsTooSmall}
+use Rattle.perfdata_sources.specs.declared.endian.Endianness.{Endianness}
+use Rattle.perfdata_identifiers.specs.declared.features.FeatureSet.{FeatureSet}
 use Rattle.perfdata_sections.specs.Error.{IsUnexpectedEof, IsInvalidData, IsInvalidInput}
 use Rattle.perfdata_sections.specs.EventDesc.{IsEventDescError}
 use Rattle.perfdata_sections.specs.RecordTypes.{header_attr, header_feature}
@@ -63,7 +63,8 @@ module _ (order : Endianness) where
 
   -- The EVENT_DESC, if there is one, that names the events after this record.
   abbrev pub IsEventDescToApply : PerfFile → ℕ → List ℕ → List ℕ → Type 0
-  IsEventDescToApply file record_type body bytes = ((record_type ≡ header_attr) × HoldsAttribute order body × (feature_data_in_file file event_desc ≡ Some bytes))
+  IsEventDescToApply file record_type body bytes =
+      ((record_type ≡ header_attr) × HoldsAttribute order body × (feature_data_in_file file event_desc ≡ Some bytes))
       ⊎ ((record_type ≡ header_feature) × (8 ≤ length body) × (feature_in_body order body ≡ event_desc) × (bytes ≡ drop 8 body))
 
   -- The metadata of the record is complete.
@@ -88,20 +89,24 @@ module _ (order : Endianness) where
       (IsInvalidInput e × ((attrs : List Attribute) → Represents order lookup attrs → length (descriptions_of_file file) ≢ length attrs))
       ⊎ (SameAttributeCount lookup file × (IsMetadataError record_type body e
       ⊎ (((bytes : List ℕ) × IsEventDescToApply file record_type body bytes × IsEventDescError (number_in order) e bytes)
-      ⊎ ((b : Inconsistency) × (record_type ≡ header_attr) × HoldsAttribute order body × IsReadableOrAbsent order (feature_data_in_file file event_desc) × (e ≡ error_of_inconsistency b)
+      ⊎ ((b : Inconsistency) × (record_type ≡ header_attr) × HoldsAttribute order body × IsReadableOrAbsent order (feature_data_in_file file event_desc)
+      × (e ≡ error_of_inconsistency b)
       × ((attrs : List Attribute) → Represents order lookup attrs → AreInconsistent (attrs ++ attributes_in_record order None record_type body) b)))))
 
   -- The checks that precede a layout error in a whole metadata record. The attribute count of the `PerfFile` matches the input's.
   -- Before an inconsistency, the EVENT_DESC of the `PerfFile` is readable or absent.
   abbrev pub PassesEarlierChecks : AttributeLookup → PerfFile → LayoutError → Type 0
-  PassesEarlierChecks lookup file f = ConcernsMetadata f → SameAttributeCount lookup file × ((b : Inconsistency) → f ≡ inconsistent_attributes b → IsReadableOrAbsent order (feature_data_in_file file event_desc))
+  PassesEarlierChecks lookup file f = ConcernsMetadata f
+      → SameAttributeCount lookup file × ((b : Inconsistency) → f ≡ inconsistent_attributes b → IsReadableOrAbsent order (feature_data_in_file file event_desc))
 
   -- The metadata of a pipe's record was applied.
-  pub record MetadataApplied (lookup : AttributeLookup) (file : PerfFile) (record_type : ℕ) (body : List ℕ) (lookup' : AttributeLookup) (file' : PerfFile) : Type 0 where
+  pub record MetadataApplied (lookup : AttributeLookup) (file : PerfFile) (record_type : ℕ) (body : List ℕ) (lookup' : AttributeLookup)
+      (file' : PerfFile) : Type 0 where
     pub same_attribute_count : IsMetadataType record_type → SameAttributeCount lookup file
     pub valid_attribute : record_type ≡ header_attr → HoldsAttribute order body
     pub valid_feature : record_type ≡ header_feature → 8 ≤ length body
-    pub represents : (attrs : List Attribute) → Represents order lookup attrs → Represents order lookup' (attrs ++ attributes_in_record order None record_type body)
+    pub represents : (attrs : List Attribute) → Represents order lookup attrs
+        → Represents order lookup' (attrs ++ attributes_in_record order None record_type body)
     pub file_updates : UpdatesPerfFile None record_type body file file'
 
   -- It wasn't applied, and the contents of the `PerfFile` are unchanged.
@@ -136,7 +141,8 @@ module _ (order : Endianness) where
     pub attributes : attributes_of_file new ≡ attributes_of_file old ++ attributes_in_views order bound records
     pub feature_data : (n : ℕ) → feature_data_in_file new n ≡ update_all nat_eq (feature_data_in_file old) (features_in_views bound records) n
     pub features : AddsFeatures (features_of_file old) (λ n. SomeProvideFeature bound n records) (features_of_file new)
-    pub names_match : NamedByEventDesc order (feature_data_in_file old event_desc) (descriptions_of_file old) → NamedByEventDesc order (feature_data_in_file new event_desc) (descriptions_of_file new)
+    pub names_match : NamedByEventDesc order (feature_data_in_file old event_desc) (descriptions_of_file old)
+        → NamedByEventDesc order (feature_data_in_file new event_desc) (descriptions_of_file new)
 
 -- Applying records one by one accumulates their metadata.
 abbrev pub AccumulatesNone : Type 0
@@ -144,9 +150,11 @@ AccumulatesNone = (order : Endianness) (bound : SectionSize) (file : PerfFile) �
 
 abbrev pub AccumulatesOneMore : Type 0
 AccumulatesOneMore = (order : Endianness) (bound : SectionSize) (records : List RecordView) (h : RecordView) (old now new : PerfFile) →
-    AccumulatesMetadata order bound records old now → UpdatesPerfFile order bound h.record_type h.body now new → AccumulatesMetadata order bound (records ++ h ∷ []) old new
+    AccumulatesMetadata order bound records old now → UpdatesPerfFile order bound h.record_type h.body now new
+    → AccumulatesMetadata order bound (records ++ h ∷ []) old new
 
 -- An EVENT_DESC that is readable or absent stays so after a record is applied.
 abbrev pub EventDescStaysValid : Type 0
 EventDescStaysValid = (order : Endianness) (bound : SectionSize) (record_type : ℕ) (body : List ℕ) (old new : PerfFile) →
-    IsReadableOrAbsent order (feature_data_in_file old event_desc) → UpdatesPerfFile order bound record_type body old new → IsReadableOrAbsent order (feature_data_in_file new event_desc)
+    IsReadableOrAbsent order (feature_data_in_file old event_desc) → UpdatesPerfFile order bound record_type body old new
+    → IsReadableOrAbsent order (feature_data_in_file new event_desc)

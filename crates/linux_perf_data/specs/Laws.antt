@@ -1,12 +1,12 @@
 -- The theorems about layouts, openings and their errors.
 use Rattle.std.specs.Prelude.{◌≡◌, ◌≢◌, ◌⊎◌, ℕ, ◌+◌, ◌^◌, ◌<◌, ◌≤◌, ◌==◌, List, ◌∷◌, ◌++◌, length, drop, map, count_by, All, AllPairs, Option}
 use Rattle.std.specs.List.{concat}
-use Rattle.perfdata_base.specs.Source.{Position}
+use Rattle.perfdata_sources.specs.Source.{Position}
 use Rattle.perfdata_base.specs.declared.header.PerfHeader.{PerfHeader}
-use Rattle.perfdata_base.specs.declared.endian.Endianness.{Endianness}
+use Rattle.perfdata_sources.specs.declared.endian.Endianness.{Endianness}
 use Rattle.linux_perf_data.specs.Attribute.{Attribute, AreConsistent, Inconsistency, AreInconsistent}
 use Rattle.linux_perf_data.specs.Layout.{SectionSize, MayStartAt, IsEnd, IsRecord, IsValidRecord, StartsWithRecord, LayoutError, ErrorAt, LayoutEnd, Layout, RecordView, record_views, record_view_in, attributes_in_views, RemainingRecords, attributes_in_record, attributes_in_records, record_type_of, record_size_of}
-use Rattle.perfdata_base.specs.Endian.{number_in}
+use Rattle.perfdata_sources.specs.Endian.{number_in}
 use Rattle.perfdata_sections.specs.AttributeDescription.{name_in, ids_in, events_in}
 use Rattle.perfdata_records.specs.Auxtrace.{HoldsAuxtrace}
 use Rattle.perfdata_sections.specs.Error.{IsUnexpectedEof, IsInvalidInput, IsInvalidData}
@@ -34,15 +34,18 @@ ErrorIsUnique = (order : Endianness) (bound : SectionSize) (offset : ℕ) (attrs
 
 -- No layout error holds where a valid record starts and its attributes are consistent with those before.
 abbrev pub NoErrorAtRecord : Type 0
-NoErrorAtRecord = (order : Endianness) (bound : SectionSize) (offset : ℕ) (attrs : List Attribute) (rest p : List ℕ) (f : LayoutError) → MayStartAt bound offset →
-    StartsWithRecord order offset rest p → IsValidRecord order bound p → AreConsistent (attrs ++ attributes_in_record order bound (record_type_of order p) (drop 8 p)) → ¬ ErrorAt order bound offset attrs rest f
+NoErrorAtRecord =
+    (order : Endianness) (bound : SectionSize) (offset : ℕ) (attrs : List Attribute) (rest p : List ℕ) (f : LayoutError) → MayStartAt bound offset →
+    StartsWithRecord order offset rest p → IsValidRecord order bound p
+    → AreConsistent (attrs ++ attributes_in_record order bound (record_type_of order p) (drop 8 p)) → ¬ ErrorAt order bound offset attrs rest f
 
 -- At each offset the records end, a layout error holds, or a valid record starts whose attributes are consistent with those
 -- before.
 abbrev pub EndErrorOrRecord : Type 0
 EndErrorOrRecord = (order : Endianness) (bound : SectionSize) (offset : ℕ) (attrs : List Attribute) (rest : List ℕ) → AreConsistent attrs →
     IsEnd order bound offset rest ⊎ (((f : LayoutError) × ErrorAt order bound offset attrs rest f)
-    ⊎ ((p : List ℕ) × StartsWithRecord order offset rest p × IsValidRecord order bound p × AreConsistent (attrs ++ attributes_in_record order bound (record_type_of order p) (drop 8 p))))
+    ⊎ ((p : List ℕ) × StartsWithRecord order offset rest p × IsValidRecord order bound p
+    × AreConsistent (attrs ++ attributes_in_record order bound (record_type_of order p) (drop 8 p))))
 
 -- The attributes are consistent, or one is the first that doesn't conform: attributes that all conform have the same id parse
 -- info.
@@ -65,7 +68,8 @@ LayoutExists = (order : Endianness) (bytes : List ℕ) (bound : SectionSize) (of
 
 -- The remaining records and their end are unique.
 abbrev pub RemainingRecordsAreUnique : Type 0
-RemainingRecordsAreUnique = (order : Endianness) (bytes : List ℕ) (bound : SectionSize) (offset round : ℕ) (attrs : List Attribute) (rs ss : List RecordView) (e f : LayoutEnd) →
+RemainingRecordsAreUnique =
+    (order : Endianness) (bytes : List ℕ) (bound : SectionSize) (offset round : ℕ) (attrs : List Attribute) (rs ss : List RecordView) (e f : LayoutEnd) →
     RemainingRecords order bytes bound offset round attrs rs e → RemainingRecords order bytes bound offset round attrs ss f → (rs ≡ ss) × (e ≡ f)
 
 -- The later record has a greater offset, and the same round or a later one.
@@ -74,8 +78,10 @@ FollowsRecord h later = (h.offset < later.offset) × (h.round ≤ later.round)
 
 -- Offsets increase strictly and rounds don't decrease. None is below the start.
 abbrev pub OffsetsIncrease : Type 0
-OffsetsIncrease = (order : Endianness) (bound : SectionSize) (offset round : ℕ) (attrs : List Attribute) (raw_records : List (List ℕ)) → All (IsRecord order) raw_records →
-    AllPairs FollowsRecord (record_views order bound offset round attrs raw_records) × All (λ h. (offset ≤ h.offset) × (round ≤ h.round)) (record_views order bound offset round attrs raw_records)
+OffsetsIncrease =
+    (order : Endianness) (bound : SectionSize) (offset round : ℕ) (attrs : List Attribute) (raw_records : List (List ℕ)) → All (IsRecord order) raw_records →
+    AllPairs FollowsRecord (record_views order bound offset round attrs raw_records)
+    × All (λ h. (offset ≤ h.offset) × (round ≤ h.round)) (record_views order bound offset round attrs raw_records)
 
 -- The number of markers in the raw records.
 abbrev pub marker_count : Endianness → List (List ℕ) → ℕ
@@ -88,11 +94,13 @@ record_view_after order bound offset round attrs earlier p =
 
 -- Each raw record that isn't a marker is returned, with its offset and its round.
 abbrev pub OffsetAndRoundOfRecord : Type 0
-OffsetAndRoundOfRecord = (order : Endianness) (bound : SectionSize) (offset round : ℕ) (attrs : List Attribute) (earlier later : List (List ℕ)) (p : List ℕ) → record_type_of order p ≢ finished_round →
+OffsetAndRoundOfRecord = (order : Endianness) (bound : SectionSize) (offset round : ℕ) (attrs : List Attribute) (earlier later : List (List ℕ)) (p : List ℕ)
+    → record_type_of order p ≢ finished_round →
     record_views order bound offset round attrs (earlier ++ p ∷ later)
     ≡ record_views order bound offset round attrs earlier
     ++ record_view_after order bound offset round attrs earlier p
-    ∷ record_views order bound (offset + length (concat earlier) + length p) (round + marker_count order earlier) ((attrs ++ attributes_in_records order bound earlier) ++ attributes_in_record order bound (record_type_of order p) (drop 8 p)) later
+    ∷ record_views order bound (offset + length (concat earlier) + length p) (round + marker_count order earlier) ((attrs
+    ++ attributes_in_records order bound earlier) ++ attributes_in_record order bound (record_type_of order p) (drop 8 p)) later
 
 -- The attributes in the raw records are those in the returned records.
 abbrev pub MarkersAddNoAttributes : Type 0
@@ -101,7 +109,8 @@ MarkersAddNoAttributes = (order : Endianness) (bound : SectionSize) (offset roun
 
 -- If the header of a record AUXTRACE gives a size of 48, without the aux data, its body is that of an auxtrace record.
 abbrev pub AuxtracesParse : Type 0
-AuxtracesParse = (order : Endianness) (offset round : ℕ) (attrs : List Attribute) (p : List ℕ) → IsRecord order p → record_type_of order p ≡ auxtrace → record_size_of order p ≡ 48 →
+AuxtracesParse = (order : Endianness) (offset round : ℕ) (attrs : List Attribute) (p : List ℕ) → IsRecord order p → record_type_of order p ≡ auxtrace
+    → record_size_of order p ≡ 48 →
     HoldsAuxtrace (number_in order) (record_view_in order offset round attrs p).body
 
 -- An EVENT_DESC with an error can't be read.
@@ -115,12 +124,14 @@ NamesAreUnique = (order : Endianness) (desc : Option (List ℕ)) (ds es : List A
 
 -- The metadata records of a pipe's opening are unique, if no metadata record follows them.
 abbrev pub PipeOpeningIsUnique : Type 0
-PipeOpeningIsUnique = (order : Endianness) (ps qs : List (List ℕ)) (rest later : List ℕ) → AreMetadata order ps → AreMetadata order qs → EndsMetadata order rest → EndsMetadata order later →
+PipeOpeningIsUnique = (order : Endianness) (ps qs : List (List ℕ)) (rest later : List ℕ) → AreMetadata order ps → AreMetadata order qs
+    → EndsMetadata order rest → EndsMetadata order later →
     concat ps ++ rest ≡ concat qs ++ later → (ps ≡ qs) × (rest ≡ later)
 
 -- A pipe whose metadata can open it has no error.
 abbrev pub DescribedPipeOpens : Type 0
-DescribedPipeOpens = (order : Endianness) (header : List ℕ) (ps : List (List ℕ)) (rest : List ℕ) (e : Error) → IsPipeHeader order header → AreMetadata order ps → EndsMetadata order rest → CanOpenPipe order ps →
+DescribedPipeOpens = (order : Endianness) (header : List ℕ) (ps : List (List ℕ)) (rest : List ℕ) (e : Error) → IsPipeHeader order header → AreMetadata order ps
+    → EndsMetadata order rest → CanOpenPipe order ps →
     ¬ IsPipeError (header ++ (concat ps ++ rest)) e
 
 -- A file whose bytes describe it has no error.
@@ -154,7 +165,8 @@ FarHeaderFails = (p : Position) (h : PerfHeader) → HasHeader p h → 104 + 2 ^
 
 -- A header whose extra bytes can be skipped and whose magic is unknown fails with its magic, whatever follows it.
 abbrev pub UnknownMagicFails : Type 0
-UnknownMagicFails = (p : Position) (h : PerfHeader) → HasHeader p h → CanSkipExtra h → ((order : Endianness) → h.magic ≢ magic_of order) → FailsWith p (λ e. e ≡ UnrecognizedMagicValue h.magic)
+UnknownMagicFails = (p : Position) (h : PerfHeader) → HasHeader p h → CanSkipExtra h → ((order : Endianness) → h.magic ≢ magic_of order)
+    → FailsWith p (λ e. e ≡ UnrecognizedMagicValue h.magic)
 
 -- Two errors have the same cause. They are equal, or both are I/O errors of one kind: unexpected end of file, invalid input, or
 -- invalid data.

@@ -1,9 +1,9 @@
 -- The layout of records in a list of bytes: in the data section of a file, and in a pipe (Linux's perf.data format).
 use Rattle.std.specs.Prelude.{◌≡◌, ◌≢◌, ◌⊎◌, ℕ, ◌+◌, ◌^◌, ◌<◌, ◌≤◌, ◌==◌, List, [], ◌∷◌, ◌++◌, length, drop, All, if◌then◌else◌, Option, None, Some}
 use Rattle.std.specs.List.{concat}
-use Rattle.perfdata_base.specs.Endian.{number_in}
-use Rattle.perfdata_base.specs.declared.endian.Endianness.{Endianness}
-use Rattle.perfdata_base.specs.Attr.{IsTruncatedAttr, IsTooSmall}
+use Rattle.perfdata_sources.specs.Endian.{number_in}
+use Rattle.perfdata_sources.specs.declared.endian.Endianness.{Endianness}
+use Rattle.perfdata_sources.specs.Attr.{IsTruncatedAttr, IsTooSmall}
 use Rattle.perfdata_records.specs.HeaderAttr.{HasTruncatedId}
 use Rattle.perfdata_sections.specs.RecordTypes.{header_attr, finished_round, auxtrace, header_feature, compressed_type, compressed2_type}
 use Rattle.linux_perf_data.specs.FeatureNumbers.{event_desc}
@@ -109,7 +109,8 @@ module _ (order : Endianness) where
   -- These raw records are markers (type 68). The first is at this offset, and each starts where a record may.
   abbrev pub AreMarkerRecords : SectionSize → ℕ → List (List ℕ) → Type 0
   AreMarkerRecords bound offset [] = Unit {0}
-  AreMarkerRecords bound offset (p ∷ ps) = MayStartAt bound offset × IsRecord p × (record_type_of p ≡ finished_round) × AreMarkerRecords bound (offset + length p) ps
+  AreMarkerRecords bound offset (p ∷ ps) =
+      MayStartAt bound offset × IsRecord p × (record_type_of p ≡ finished_round) × AreMarkerRecords bound (offset + length p) ps
 
   -- The bytes from `offset` on are markers only.
   pub record ConsistsOfMarkers (bound : SectionSize) (offset : ℕ) (bytes : List ℕ) : Type 0 where
@@ -132,7 +133,8 @@ module _ (order : Endianness) where
     pub is_record : IsRecord p
     pub valid_attribute : bound ≡ None → record_type_of p ≡ header_attr → HoldsAttribute order (drop 8 p)
     pub valid_feature : bound ≡ None → record_type_of p ≡ header_feature → 8 ≤ length (drop 8 p)
-    pub valid_event_desc : bound ≡ None → record_type_of p ≡ header_feature → feature_in_body order (drop 8 p) ≡ event_desc → IsReadableEventDesc order (drop 16 p)
+    pub valid_event_desc : bound ≡ None → record_type_of p ≡ header_feature → feature_in_body order (drop 8 p) ≡ event_desc
+        → IsReadableEventDesc order (drop 16 p)
 
   -- `rest` starts with the whole record `p`, which ends below 2^64.
   pub record StartsWithRecord (offset : ℕ) (rest p : List ℕ) : Type 0 where
@@ -147,7 +149,8 @@ module _ (order : Endianness) where
 
   -- How the metadata in a pipe's record is invalid.
   abbrev pub HasInvalidMetadata : MetadataError → List ℕ → Type 0
-  HasInvalidMetadata truncated_metadata p = ((record_type_of p ≡ header_attr) × IsTruncatedAttribute (drop 8 p)) ⊎ ((record_type_of p ≡ header_feature) × (length (drop 8 p) < 8))
+  HasInvalidMetadata truncated_metadata p =
+      ((record_type_of p ≡ header_attr) × IsTruncatedAttribute (drop 8 p)) ⊎ ((record_type_of p ≡ header_feature) × (length (drop 8 p) < 8))
   HasInvalidMetadata attr_size_too_small p = (record_type_of p ≡ header_attr) × IsTooSmall (number_in order) (drop 8 p)
 
   -- The record has type 80 and the feature EVENT_DESC, and its data `bytes` can't be read.
@@ -186,9 +189,11 @@ module _ (order : Endianness) where
   ErrorAt bound offset attrs rest aux_end_overflows = HasAuxSize offset rest × (2 ^ 64 ≤ offset + total_size_of rest)
   ErrorAt bound offset attrs rest truncated_aux_data = HasAuxSize offset rest × (offset + total_size_of rest < 2 ^ 64) × (length rest < total_size_of rest)
   ErrorAt bound offset attrs rest (invalid_metadata cause) = (bound ≡ None) × ((p : List ℕ) × StartsWithRecord offset rest p × HasInvalidMetadata cause p)
-  ErrorAt bound offset attrs rest (invalid_event_desc o bytes) = (bound ≡ None) × (o ≡ order) × ((p : List ℕ) × StartsWithRecord offset rest p × HasInvalidEventDesc bytes p)
+  ErrorAt bound offset attrs rest (invalid_event_desc o bytes) =
+      (bound ≡ None) × (o ≡ order) × ((p : List ℕ) × StartsWithRecord offset rest p × HasInvalidEventDesc bytes p)
   ErrorAt bound offset attrs rest (inconsistent_attributes b) =
-      (bound ≡ None) × ((p : List ℕ) × StartsWithRecord offset rest p × IsValidRecord None p × AreInconsistent (attrs ++ attributes_in_record None (record_type_of p) (drop 8 p)) b)
+      (bound ≡ None) × ((p : List ℕ) × StartsWithRecord offset rest p × IsValidRecord None p
+      × AreInconsistent (attrs ++ attributes_in_record None (record_type_of p) (drop 8 p)) b)
 
   -- The record is truncated, in its header or in what the size in the header counts.
   abbrev pub IsTruncated : ℕ → List ℕ → Type 0
@@ -237,10 +242,12 @@ module _ (order : Endianness) where
   record_views bound offset round attrs [] = []
   record_views bound offset round attrs (p ∷ ps) = if record_type_of p == finished_round
       then record_views bound (offset + length p) (round + 1) (attrs ++ attributes_in_record bound (record_type_of p) (drop 8 p)) ps
-      else record_view_in offset round attrs p ∷ record_views bound (offset + length p) round (attrs ++ attributes_in_record bound (record_type_of p) (drop 8 p)) ps
+      else record_view_in offset round attrs p
+      ∷ record_views bound (offset + length p) round (attrs ++ attributes_in_record bound (record_type_of p) (drop 8 p)) ps
 
   -- The records that remain to be returned, and how the layout then ends.
-  pub record RemainingRecords (bytes : List ℕ) (bound : SectionSize) (offset round : ℕ) (attrs : List Attribute) (records : List RecordView) (end : LayoutEnd) : Type 0 where
+  pub record RemainingRecords (bytes : List ℕ) (bound : SectionSize) (offset round : ℕ) (attrs : List Attribute) (records : List RecordView)
+      (end : LayoutEnd) : Type 0 where
     pub raw_records : List (List ℕ)
     pub layout : Layout bytes bound offset attrs raw_records end
     pub elements : records ≡ record_views bound offset round attrs raw_records

@@ -1,13 +1,9 @@
 -- The names that the section EVENT_DESC gives a pipe's attributes.
-use Rattle.std.specs.Prelude.{◌≡◌, ℕ, ◌%◌, ◌^◌, ◌==◌, Bool, false, List, [], ◌∷◌, map, All, if◌then◌else◌, Option, None, Some, Result, Ok, Err, String, string_bytes}
-use Rattle.std.specs.Option.{option_map}
-use Rattle.std.specs.declared.alloc.Global.{Global}
-use Rattle.perfdata_base.specs.Endian.{number_in}
-use Rattle.perfdata_base.specs.declared.endian.Endianness.{Endianness}
+use Rattle.std.specs.Prelude.{◌≡◌, ℕ, ◌%◌, ◌^◌, ◌==◌, Bool, false, List, [], ◌∷◌, All, if◌then◌else◌, Option, None, Some}
+use Rattle.perfdata_sources.specs.Endian.{number_in}
+use Rattle.perfdata_sources.specs.declared.endian.Endianness.{Endianness}
 use Rattle.perfdata_sections.specs.AttributeDescription.{DescribedEvent, name_in, ids_in}
 use Rattle.perfdata_sections.specs.EventDesc.{BeginsWithEventDesc, DescribesByEventDesc}
-use Rattle.perfdata_sections.specs.declared.error.Error.{Error}
-use Rattle.perfdata_sections.specs.declared.error.Error.TheVariants.{Memory}
 use Rattle.perfdata_sections.specs.declared.feature_sections.AttributeDescription.{AttributeDescription}
 
 -- The feature of a record of type 80 with this body: the low 32 bits of its first u64 field. The feature's data follows that
@@ -43,15 +39,3 @@ NamedBy events ds = All (λ d. name_in d ≡ name_by_first_id events (ids_in d))
 abbrev pub NamedByEventDesc : Endianness → Option (List ℕ) → List AttributeDescription → Type 0
 NamedByEventDesc order None ds = NamedBy [] ds
 NamedByEventDesc order (Some bytes) ds = (events : List AttributeDescription) × DescribesByEventDesc (number_in order) bytes events × NamedBy events ds
-
--- The names of attributes, and the bytes of copied names.
-abbrev pub names_in : List AttributeDescription → List (Option (List ℕ))
-names_in ds = map name_in ds
-
-abbrev pub name_bytes_of : List (Option (String Global)) → List (Option (List ℕ))
-name_bytes_of names = map (λ name. option_map string_bytes name) names
-
--- Copies a name. The error is `Memory`.
-abbrev pub CopiesName : Option (List ℕ) → Result (Option (String Global)) Error → Type 0
-CopiesName name (Ok copy) = option_map string_bytes copy ≡ name
-CopiesName name (Err e) = e ≡ Memory

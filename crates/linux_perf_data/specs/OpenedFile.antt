@@ -1,8 +1,8 @@
 -- The contracts of parsing a file: the reader on success, and the cause on error.
 use Rattle.std.specs.Prelude.{◌≡◌, ◌≢◌, ◌⊎◌, ℕ, List, drop, Result, Ok, Err, Some, IfSome}
-use Rattle.perfdata_base.specs.Source.{State, Position, AfterSeek}
+use Rattle.perfdata_sources.specs.Source.{State, Position, AfterSeek}
 use Rattle.perfdata_base.specs.Section.{EndFitsU64}
-use Rattle.perfdata_base.specs.declared.endian.Endianness.{Endianness}
+use Rattle.perfdata_sources.specs.declared.endian.Endianness.{Endianness}
 use Rattle.perfdata_base.specs.declared.header.PerfHeader.{PerfHeader}
 use Rattle.perfdata_sections.specs.declared.error.Error.{Error}
 use Rattle.perfdata_sections.specs.declared.error.Error.TheVariants.{Memory}

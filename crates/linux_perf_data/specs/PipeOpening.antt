@@ -1,12 +1,12 @@
 -- The opening of a perf.data pipe: its header and the metadata records after it. Also the first error in an opening.
-use Rattle.std.specs.Prelude.{◌≡◌, ◌≢◌, ◌⊎◌, ◌↔◌, ℕ, ◌+◌, ◌-◌, ◌^◌, ◌<◌, ◌≤◌, List, [], ◌∷◌, ◌++◌, length, take, drop, nat_eq, All, IsSome, Option, None, Some, Result, Ok, Err}
+use Rattle.std.specs.Prelude.{◌≡◌, ◌≢◌, ◌⊎◌, ◌↔◌, ℕ, ◌+◌, ◌-◌, ◌^◌, ◌<◌, ◌≤◌, List, [], ◌∷◌, ◌++◌, length, take, drop, nat_eq, All, IsSome, Option, None, Some}
 use Rattle.std.specs.List.{concat}
 use Rattle.std.specs.Map.{update_all}
-use Rattle.perfdata_base.specs.Source.{State, Consumed, EndedOrPaused, SourceFailed}
-use Rattle.perfdata_base.specs.Endian.{number_in}
-use Rattle.perfdata_base.specs.Features.{HasFeature}
-use Rattle.perfdata_base.specs.declared.features.FeatureSet.{FeatureSet}
-use Rattle.perfdata_base.specs.declared.endian.Endianness.{Endianness}
+use Rattle.perfdata_sources.specs.Source.{State, Consumed, EndedOrPaused, SourceFailed}
+use Rattle.perfdata_sources.specs.Endian.{number_in}
+use Rattle.perfdata_identifiers.specs.Features.{HasFeature}
+use Rattle.perfdata_identifiers.specs.declared.features.FeatureSet.{FeatureSet}
+use Rattle.perfdata_sources.specs.declared.endian.Endianness.{Endianness}
 use Rattle.perfdata_sections.specs.Error.{IsUnexpectedEof, IsIoError}
 use Rattle.perfdata_sections.specs.EventDesc.{IsEventDescError}
 use Rattle.perfdata_sections.specs.declared.error.Error.{Error}
@@ -14,15 +14,12 @@ use Rattle.perfdata_sections.specs.declared.error.Error.TheVariants.{Read, Unrec
 use Rattle.perfdata_sections.specs.declared.error.ReadError.TheVariants.{PerfEventData}
 use Rattle.perfdata_sections.specs.RecordTypes.{header_attr, header_feature}
 use Rattle.linux_perf_data.specs.Attribute.{Attribute, Inconsistency, AreInconsistent, AreConsistent, HoldsAttribute}
-use Rattle.linux_perf_data.specs.Descriptions.{described_attributes}
 use Rattle.linux_perf_data.specs.LateMetadata.{IsMetadataType, IsMetadataError, features_in_record}
 use Rattle.linux_perf_data.specs.Layout.{IsRecord, StartsWithRecord, HasRecordHeader, attributes_in_records, record_type_of, record_size_of}
 use Rattle.linux_perf_data.specs.FeatureNumbers.{event_desc}
-use Rattle.linux_perf_data.specs.Names.{NamedByEventDesc, IsReadableEventDesc}
+use Rattle.linux_perf_data.specs.Names.{IsReadableEventDesc}
 use Rattle.perfdata_base.specs.Header.{magic_of}
 use Rattle.linux_perf_data.specs.Consistency.{error_of_inconsistency}
-use Rattle.linux_perf_data.specs.FeatureData.{feature_data_of}
-use Rattle.linux_perf_data.specs.declared.pipe.opening.PipeOpening.{PipeOpening}
 
 module _ (order : Endianness) where
   -- ---- the bytes of an opening
@@ -65,7 +62,8 @@ module _ (order : Endianness) where
   abbrev pub IsMetadataRecordError : ℕ → List ℕ → Error → Type 0
   IsMetadataRecordError offset rest e =
       ((e ≡ InvalidPerfEventSize) × (8 ≤ length rest) × (record_size_of order rest < 8))
-      ⊎ (((e ≡ Read PerfEventData) × IsMetadataType (record_type_of order rest) × (8 ≤ length rest) × (8 ≤ record_size_of order rest) × (2 ^ 64 ≤ offset + record_size_of order rest))
+      ⊎ (((e ≡ Read PerfEventData) × IsMetadataType (record_type_of order rest) × (8 ≤ length rest) × (8 ≤ record_size_of order rest)
+      × (2 ^ 64 ≤ offset + record_size_of order rest))
       ⊎ ((IsUnexpectedEof e × IsMetadataType (record_type_of order rest) × HasRecordHeader order offset rest × (length rest < record_size_of order rest))
       ⊎ ((p : List ℕ) × StartsWithRecord order offset rest p × IsMetadataError order (record_type_of order p) (drop 8 p) e)))
 
@@ -74,8 +72,10 @@ module _ (order : Endianness) where
   abbrev pub IsMetadataListError : List (List ℕ) → Error → Type 0
   IsMetadataListError pieces e =
       ((e ≡ NoAttributes) × (attributes_in_records order None pieces ≡ []))
-      ⊎ (((bytes : List ℕ) × (attributes_in_records order None pieces ≢ []) × (feature_data_in pieces event_desc ≡ Some bytes) × IsEventDescError (number_in order) e bytes)
-      ⊎ ((b : Inconsistency) × ((bytes : List ℕ) → feature_data_in pieces event_desc ≡ Some bytes → IsReadableEventDesc order bytes) × AreInconsistent (attributes_in_records order None pieces) b × (e ≡ error_of_inconsistency b)))
+      ⊎ (((bytes : List ℕ) × (attributes_in_records order None pieces ≢ []) × (feature_data_in pieces event_desc ≡ Some bytes)
+      × IsEventDescError (number_in order) e bytes)
+      ⊎ ((b : Inconsistency) × ((bytes : List ℕ) → feature_data_in pieces event_desc ≡ Some bytes → IsReadableEventDesc order bytes)
+      × AreInconsistent (attributes_in_records order None pieces) b × (e ≡ error_of_inconsistency b)))
 
   -- The metadata of the records can open a pipe. There is an attribute, EVENT_DESC is readable or absent, and the attributes are
   -- consistent.
@@ -131,7 +131,8 @@ pub record FailsBy (Stops : List ℕ → Error → Type 0) (old : State) (e : Er
 -- How the metadata records ended. Either the last eight bytes are the header of another record type, or fewer than eight bytes
 -- were read and the source ended or paused.
 abbrev pub MetadataEnded : Endianness → Option (List ℕ) → State → List ℕ → State → Type 0
-MetadataEnded order (Some ending_header) old last new = (last ≡ ending_header) × (length ending_header ≡ 8) × (8 ≤ record_size_of order ending_header) × (¬ IsMetadataType (record_type_of order ending_header))
+MetadataEnded order (Some ending_header) old last new =
+    (last ≡ ending_header) × (length ending_header ≡ 8) × (8 ≤ record_size_of order ending_header) × (¬ IsMetadataType (record_type_of order ending_header))
 MetadataEnded order None old last new = (length last < 8) × EndedOrPaused old new
 
 -- The consumed bytes are a pipe header, metadata records, and what ended them.
@@ -145,25 +146,8 @@ pub record OpeningRead (order : Endianness) (pieces : List (List ℕ)) (ending_h
 
 -- These attributes, data of features, and features are those of the records: their attributes in order, and the last data of each
 -- feature.
-pub record HoldsMetadataOf (order : Endianness) (pieces : List (List ℕ)) (attrs : List Attribute) (data_of : ℕ → Option (List ℕ)) (set : FeatureSet) : Type 0 where
+pub record HoldsMetadataOf (order : Endianness) (pieces : List (List ℕ)) (attrs : List Attribute) (data_of : ℕ → Option (List ℕ))
+    (set : FeatureSet) : Type 0 where
   pub attributes : attrs ≡ attributes_in_records order None pieces
   pub feature_data : (n : ℕ) → data_of n ≡ feature_data_in order pieces n
   pub features : (n : ℕ) → HasFeature set n ↔ ((n < 256) × IsSome (feature_data_in order pieces n))
-
--- The opening contains the metadata of the records.
-pub record HoldsPipeMetadata (order : Endianness) (pieces : List (List ℕ)) (opening : PipeOpening) : Type 0 where
-  pub endian : opening.perf_file.endian ≡ order
-  pub contents : HoldsMetadataOf order pieces (described_attributes opening.perf_file.attributes.items) (feature_data_of opening.perf_file.sections) opening.perf_file.features
-  pub names_match : NamedByEventDesc order (feature_data_in order pieces event_desc) opening.perf_file.attributes.items
-  pub nonempty : 0 < length opening.perf_file.attributes.items
-  pub consistent : AreConsistent (described_attributes opening.perf_file.attributes.items)
-
--- A pipe was opened.
-pub record PipeOpened (old : State) (opening : PipeOpening) (new : State) : Type 0 where
-  pub raw_records : List (List ℕ)
-  pub opening_read : OpeningRead opening.perf_file.endian raw_records opening.pending_header old new
-  pub metadata : HoldsPipeMetadata opening.perf_file.endian raw_records opening
-
-abbrev pub OpensPerfPipe : State → Result PipeOpening Error → State → Type 0
-OpensPerfPipe old (Ok opening) new = PipeOpened old opening new
-OpensPerfPipe old (Err e) new = FailsBy IsPipeError old e new

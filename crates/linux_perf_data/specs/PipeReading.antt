@@ -2,9 +2,9 @@
 use Rattle.std.specs.Prelude.{◌≡◌, ◌≢◌, ◌⊎◌, ◌↔◌, ℕ, ◌<◌, List, [], ◌++◌, drop, nat_eq, IsSome, IsTrue, Option, None, Some, IfSome}
 use Rattle.std.specs.List.{concat}
 use Rattle.std.specs.Map.{update_all}
-use Rattle.perfdata_base.specs.Source.{State, SourcePaused}
-use Rattle.perfdata_base.specs.Features.{HasFeature}
-use Rattle.perfdata_base.specs.declared.endian.Endianness.{Endianness}
+use Rattle.perfdata_sources.specs.Source.{State, SourcePaused}
+use Rattle.perfdata_identifiers.specs.Features.{HasFeature}
+use Rattle.perfdata_sources.specs.declared.endian.Endianness.{Endianness}
 use Rattle.perfdata_sections.specs.declared.error.Error.{Error}
 use Rattle.perfdata_sections.specs.declared.error.Error.TheVariants.{Memory}
 use Rattle.linux_perf_data.specs.declared.records.iter.PerfRecordIter.{PerfRecordIter}
@@ -42,7 +42,8 @@ module _ (order : Endianness) (raw_records : List (List ℕ)) where
 
   -- The same, and no metadata record follows them.
   abbrev pub HoldsForPipe : List ℕ → ((List RecordView → LayoutEnd → Type 0) → Type 0) → Type 0
-  HoldsForPipe bytes P = (rest : List ℕ) × BeginsPipe bytes rest × EndsMetadata order rest × P (RemainingRecords order rest None 0 0 (attributes_in_records order None raw_records))
+  HoldsForPipe bytes P = (rest : List ℕ) × BeginsPipe bytes rest × EndsMetadata order rest
+      × P (RemainingRecords order rest None 0 0 (attributes_in_records order None raw_records))
 
   -- The layout of the rest is complete, with these records.
   abbrev pub IsCompletePipe : List RecordView → List ℕ → Type 0
@@ -60,11 +61,13 @@ module _ (order : Endianness) (raw_records : List (List ℕ)) where
 
 -- If a source opens this way and the header of another record follows, no error of an opening holds for its bytes.
 abbrev pub OpeningHasNoError : Type 0
-OpeningHasNoError = (order : Endianness) (raw_records : List (List ℕ)) (header : List ℕ) (old : State) → OpensWith order raw_records old (Some header) → IfSome old.bytes (λ bytes. (e : Error) → ¬ IsPipeError bytes e)
+OpeningHasNoError = (order : Endianness) (raw_records : List (List ℕ)) (header : List ℕ) (old : State) → OpensWith order raw_records old (Some header)
+    → IfSome old.bytes (λ bytes. (e : Error) → ¬ IsPipeError bytes e)
 
 -- Then the metadata records are also unique: they are those after which no metadata record follows.
 abbrev pub LongestRun : Type 0
-LongestRun = (order : Endianness) (raw_records longest : List (List ℕ)) (header rest : List ℕ) (old : State) (o : OpensWith order raw_records old (Some header)) → AreMetadata order longest → EndsMetadata order rest
+LongestRun = (order : Endianness) (raw_records longest : List (List ℕ)) (header rest : List ℕ) (old : State)
+    (o : OpensWith order raw_records old (Some header)) → AreMetadata order longest → EndsMetadata order rest
     → old.bytes ≡ Some (o.opening_read.header ++ (concat longest ++ rest)) → raw_records ≡ longest
 
 -- The returned records are the first of the pipe, and its `PerfFile` contains exactly the metadata read so far. All bytes after
@@ -104,14 +107,16 @@ module _ {R : Type 0} (state : R → State) where
   -- Reading a pipe up to any of its records.
   abbrev pub ReadingPipePartly : Type 0
   ReadingPipePartly = (old : State) (bytes : List ℕ) (file file' : PerfFile) (it now : PerfRecordIter R) (records : List RecordView) →
-      old.bytes ≡ Some bytes → PipeParsed state old file it → it.stage ≡ Running → ReturnsRecords state it file records now file' → PipePartlyRead it.endian bytes records file' (state now.source).bytes
+      old.bytes ≡ Some bytes → PipeParsed state old file it → it.stage ≡ Running → ReturnsRecords state it file records now file'
+      → PipePartlyRead it.endian bytes records file' (state now.source).bytes
 
   -- The source paused before its end: in the opening, which then read no pending header, or in the last call. An infallible source
   -- doesn't pause.
   pub record PausesBeforeEnd (old : State) (it now new : PerfRecordIter R) : Type 0 where
     pub not_steady : ¬ IsTrue old.steady
     pub bytes_remain : (state new.source).bytes ≢ Some []
-    pub paused : ((it.stage ≡ Ended) × SourcePaused old (state it.source)) ⊎ ((it.stage ≡ Running) × SourcePaused (iter_source_state state now) (iter_source_state state new))
+    pub paused : ((it.stage ≡ Ended) × SourcePaused old (state it.source))
+        ⊎ ((it.stage ≡ Running) × SourcePaused (iter_source_state state now) (iter_source_state state new))
 
   -- Reading a pipe up to its end, or up to a pause of the source.
   abbrev pub ReadingPipeToEnd : Type 0
@@ -122,5 +127,7 @@ module _ {R : Type 0} (state : R → State) where
   -- Reading a pipe up to an error other than `Memory`.
   abbrev pub ReadingPipeToError : Type 0
   ReadingPipeToError = (old : State) (bytes : List ℕ) (file now_file file' : PerfFile) (it now new : PerfRecordIter R) (records : List RecordView) (e : Error) →
-      old.bytes ≡ Some bytes → PipeParsed state old file it → ReturnsRecords state it file records now now_file → ReturnsError state now now_file e new file' → e ≢ Memory
-      → (PipeReadToError it.endian bytes records now_file e ⊎ (PipePartlyRead it.endian bytes records now_file (state now.source).bytes × SourceErrorInCall state old now e new)) × SamePerfFile now_file file'
+      old.bytes ≡ Some bytes → PipeParsed state old file it → ReturnsRecords state it file records now now_file → ReturnsError state now now_file e new file'
+      → e ≢ Memory
+      → (PipeReadToError it.endian bytes records now_file e
+      ⊎ (PipePartlyRead it.endian bytes records now_file (state now.source).bytes × SourceErrorInCall state old now e new)) × SamePerfFile now_file file'

@@ -4,12 +4,9 @@ use Rattle.linux_perf_data.specs.declared.in_memory.InMemoryRecords.{InMemoryRec
 use Rattle.linux_perf_data.specs.declared.in_memory.entries.RecordEntry.{RecordEntry}
 use Rattle.linux_perf_data.specs.declared.perf_file.PerfFile.{PerfFile}
 use Rattle.linux_perf_data.specs.Attribute.{EventRef}
-use Rattle.linux_perf_data.specs.RecordViews.{record_view_of}
-use Rattle.perfdata_records.specs.declared.record.PerfFileRecord.{PerfFileRecord}
-use Rattle.linux_perf_data.specs.declared.records.iter.RecordPlace.{RecordPlace}
 use Rattle.linux_perf_data.specs.declared.records.iter.Stage.TheVariants.{Running}
 use Rattle.linux_perf_data.specs.InMemory.{memory_state}
-use Rattle.linux_perf_data.specs.InMemoryReading.{KeepsInput, ReturnsRecordInMemory, ReturnsRecordsInMemory, first_record_offset_of, input_of}
+use Rattle.linux_perf_data.specs.InMemoryReading.{KeepsInput, ReturnsRecordsInMemory, first_record_offset_of, input_of}
 use Rattle.linux_perf_data.specs.Iter.{section_size_of}
 use Rattle.linux_perf_data.specs.Layout.{RecordView, StartsWithRecord, record_type_of}
 use Rattle.perfdata_sections.specs.RecordTypes.{finished_round}
@@ -69,16 +66,10 @@ with_prefix (e ∷ es) (o ∷ os) = e ∷ with_prefix es os
 
 -- In a file in which a record may start here: if the remaining bytes start with a whole record, it is a marker.
 abbrev pub StartsWithMarkerAtMost : InMemoryRecords → Type 0
-StartsWithMarkerAtMost records = records.records.stage ≡ Running → (size : ℕ) → section_size_of memory_state records.records ≡ Some size → records.records.offset < size
-    → (rest p : List ℕ) → (memory_state records.records.source).bytes ≡ Some rest → StartsWithRecord records.records.endian records.records.offset rest p → record_type_of records.records.endian p ≡ finished_round
-
--- The next record was returned, and this is its entry. No `PerfFile` is changed.
-pub record TakesEntry (old : InMemoryRecords) (entry : RecordEntry) (new : InMemoryRecords) : Type 0 where
-  pub place : RecordPlace
-  pub found : PerfFileRecord
-  pub returned : (file : PerfFile) → ReturnsRecordInMemory old file place found new file
-  pub is_entry : entry ≡ record_entry_at (first_record_offset_of old) (record_view_of place found)
-  pub same_input : KeepsInput old new
+StartsWithMarkerAtMost records = records.records.stage ≡ Running → (size : ℕ) → section_size_of memory_state records.records ≡ Some size
+    → records.records.offset < size
+    → (rest p : List ℕ) → (memory_state records.records.source).bytes ≡ Some rest → StartsWithRecord records.records.endian records.records.offset rest p
+    → record_type_of records.records.endian p ≡ finished_round
 
 -- The next records were returned and their entries written. Each body is at the offset in its entry. No `PerfFile` is changed.
 -- If the array has capacity for more, no whole record follows but a marker.

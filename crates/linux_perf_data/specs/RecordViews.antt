@@ -1,9 +1,8 @@
 -- A record as the caller sees it, and how an iterator identifies a record.
-use Rattle.std.specs.Prelude.{◌≡◌, ℕ, ◌<◌, List, Option, None, Some}
-use Rattle.perfdata_base.specs.Raw.{bytes_of}
-use Rattle.perfdata_base.specs.declared.endian.Endianness.{Endianness}
-use Rattle.perfdata_base.specs.declared.event.record_header.PerfEventHeader.{PerfEventHeader}
-use Rattle.perfdata_base.specs.declared.place.parse_info.RecordParseInfo.{RecordParseInfo}
+use Rattle.std.specs.Prelude.{ℕ, List, Option, None, Some}
+use Rattle.perfdata_sources.specs.Raw.{bytes_of}
+use Rattle.perfdata_sources.specs.declared.endian.Endianness.{Endianness}
+use Rattle.perfdata_identifiers.specs.declared.place.parse_info.RecordParseInfo.{RecordParseInfo}
 use Rattle.perfdata_records.specs.declared.record.PerfFileRecord.{PerfFileRecord}
 use Rattle.perfdata_records.specs.declared.record.PerfFileRecord.TheVariants.{EventRecord, UserRecord}
 use Rattle.perfdata_records.specs.UserRecordType.{user_type_number}
@@ -12,9 +11,9 @@ use Rattle.linux_perf_data.specs.declared.records.iter.IdentifiedRecord.{Identif
 use Rattle.linux_perf_data.specs.declared.records.iter.RecordOrigin.{RecordOrigin}
 use Rattle.linux_perf_data.specs.declared.records.iter.RecordOrigin.TheVariants.{Kernel, User}
 use Rattle.linux_perf_data.specs.declared.attributes.lookup.AttributeLookup.{AttributeLookup}
-use Rattle.linux_perf_data.specs.Attribute.{Attribute, EventRef}
-use Rattle.linux_perf_data.specs.AttributeLookup.{Represents, parse_info_at}
-use Rattle.linux_perf_data.specs.Layout.{RecordView, record_view}
+use Rattle.linux_perf_data.specs.Attribute.{EventRef}
+use Rattle.linux_perf_data.specs.AttributeLookup.{parse_info_at}
+use Rattle.linux_perf_data.specs.Layout.{RecordView}
 
 -- The view of a returned record: its fields as the layout gives them.
 abbrev pub record_view_of : RecordPlace → PerfFileRecord → RecordView
@@ -72,12 +71,3 @@ record_view_at places f order body = record {
 -- The same, with the parse info from the attribute lookup.
 abbrev pub record_view_with : AttributeLookup → IdentifiedRecord → Endianness → List ℕ → RecordView
 record_view_with lookup f order body = record_view_at (parse_info_at lookup (attr_index_by_origin f.origin)) f order body
-
--- The record with this header, which isn't a marker's, is identified as the represented attributes require. The view uses the
--- parse infos of the new lookup.
-pub record IdentifiesRecord (old : AttributeLookup) (offset round : ℕ) (header : PerfEventHeader) (body : List ℕ) (found : IdentifiedRecord) (new : AttributeLookup) : Type 0 where
-  pub offset_matches : found.place.offset ≡ offset
-  pub round_matches : found.place.round ≡ round
-  pub record_type : record_type_by_origin found.origin found.record_type.0 ≡ header.type_
-  pub kernel_type : (index : ℕ) → found.origin ≡ Kernel index → header.type_ < 64
-  pub matches : (order : Endianness) (attrs : List Attribute) → Represents order old attrs → record_view_with new found order body ≡ record_view order offset round attrs header.type_ header.misc body

@@ -1,3 +1,4 @@
 //! Opening a file.
 pub(crate) mod feature_data;
 pub(crate) mod opening;
+pub(crate) mod unfinished;

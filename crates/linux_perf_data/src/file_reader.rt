@@ -6,6 +6,7 @@ ghost use Rattle.linux_perf_data.specs.PerfFile.{attributes_of_file};
 
 use crate::attributes::lookup::AttributeLookup;
 use crate::file::opening::{FileOpening, open_file};
+use crate::file::unfinished::open_unfinished_file;
 use crate::perf_file::PerfFile;
 use crate::pipe::opening::{PipeOpening, open_pipe};
 use crate::records::input::RecordInput;
@@ -114,10 +115,42 @@ impl<C: PlacedSource + Drop> PerfFileReader<C> {
         let opening = open_file(alloc, &mut source)?;
         PerfFileReader::from_opening(alloc, source, opening)
     }
+
+    /// Opens a perf.data file whose recording wasn't finished, or whose end is missing, and seeks to the
+    /// first record.
+    ///
+    /// The header and the attributes are read as by `parse_file`, and the attributes of the attribute section
+    /// with their ids, if its entries have at least 80 bytes. If the header has a data size and the file
+    /// contains the whole data section, the records are those of this section. Otherwise they are the whole
+    /// records from the offset of the data section to the end of the file, each once, in order; a record
+    /// that the file doesn't contain as a whole, with its aux data, isn't returned. If the size of a record
+    /// is below 8, or that of an auxtrace record below 48, the iterator returns the error of this record
+    /// after the records before it.
+    ///
+    /// A file that doesn't contain the whole data section has no features. Otherwise its features are those
+    /// whose table entry and section the file contains as a whole.
+    ///
+    /// The end of the file is where the source shows it at the opening.
+    ///
+    /// # Errors
+    ///
+    /// The error is the first one in the file, or an I/O error of the source:
+    ///
+    /// - [`Error::IoError`] if the header can't be read, or if a read or a seek fails. It is of kind
+    ///   `InvalidInput` if the header's size counts 2^63 or more bytes beyond 104.
+    /// - [`Error::UnrecognizedMagicValue`] if the magic is unknown.
+    /// - The errors of `parse_file` for the attributes and for the meta info.
+    /// - [`Error::Memory`] if memory runs out.
+    pub fn parse_unfinished_file(alloc: Global, source: C) -> Result<PerfFileReader<C>, Error> {
+        let mut source = source;
+        let opening = open_unfinished_file(alloc, &mut source)?;
+        PerfFileReader::from_opening(alloc, source, opening)
+    }
 }
 
 impl<R: Source + Drop> PerfFileReader<R> {
-    ghost use Rattle.linux_perf_data.specs.OpenedPipe.{ParsesPipe, BuildsPipeReader};
+    ghost use Rattle.linux_perf_data.specs.OpenedPipe.{ParsesPipe};
+    ghost use Rattle.linux_perf_data.specs.steps.OpenedPipe.{BuildsPipeReader};
 
     // Builds the reader of an opened pipe. `source` is positioned after the bytes that the opening consumed.
     fn from_pipe_opening(

@@ -42,6 +42,7 @@ mod metadata_records;
 pub mod perf_file;
 mod pipe;
 mod records;
+pub mod truncation;
 
 pub use file_reader::{PerfFileReader, PerfRecordIter, RecordPlace};
 pub use input_kind::InputKind;

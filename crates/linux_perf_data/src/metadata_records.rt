@@ -3,9 +3,10 @@
 ghost use Rattle.std.specs.Prelude.{◌≡◌, ◌≢◌, []};
 ghost use Rattle.perfdata_sections.specs.Error.{IsInvalidInput};
 ghost use Rattle.linux_perf_data.specs.LateMetadata.{AppliesMetadata, IsMetadataType};
-ghost use Rattle.linux_perf_data.specs.LateSteps.{AppliesAttribute, AppliesFeature};
-ghost use Rattle.linux_perf_data.specs.PipeSteps.{AddsRecord, CollectsMetadata, ParsesAttribute};
-ghost use Rattle.linux_perf_data.specs.PipeSteps.{ParsesFeature, ReportsContentsError, TestsMetadataType};
+ghost use Rattle.linux_perf_data.specs.steps.LateSteps.{AppliesAttribute, AppliesFeature};
+ghost use Rattle.linux_perf_data.specs.steps.PipeSteps.{AddsRecord, CollectsMetadata, ParsesAttribute};
+ghost use Rattle.linux_perf_data.specs.steps.PipeSteps.{ParsesFeature, ReportsContentsError};
+ghost use Rattle.linux_perf_data.specs.steps.PipeSteps.{TestsMetadataType};
 
 use crate::attributes::lookup::AttributeLookup;
 use crate::perf_file::PerfFile;

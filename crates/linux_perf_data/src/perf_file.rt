@@ -1,7 +1,7 @@
 //! The metadata of a file or pipe, with accessors that parse the bytes of its sections.
 ghost use Rattle.std.specs.Prelude.{◌≡◌, ◌<◌, ◌↔◌, IsTrue, length, vec_len};
 ghost use Rattle.std.specs.Option.{option_map};
-ghost use Rattle.perfdata_base.specs.Features.{HasFeature};
+ghost use Rattle.perfdata_identifiers.specs.Features.{HasFeature};
 ghost use Rattle.perfdata_simpleperf.specs.MetaInfo.{ParsesMetaInfo};
 ghost use Rattle.linux_perf_data.specs.FirstIdIndex.{IndexesAttributes, id_lists_of};
 ghost use Rattle.linux_perf_data.specs.FeatureNumbers.{arch, build_id, clock_data, clock_id, cmd_line};

@@ -4,9 +4,9 @@ use Rattle.std.specs.Prelude.{IsTrue, min, slice_index}
 use Rattle.std.proofs.lemmas.List.{drop-drop, drop-append-le, take-append-drop}
 use Rattle.std.proofs.lemmas.List.Folds.{length-prefix_len}
 use Rattle.std.proofs.Math.Seq.{take-append_seam}
-use Rattle.perfdata_base.specs.Endian.{number_in}
-use Rattle.perfdata_base.specs.ParseInfo.{is_set}
-use Rattle.perfdata_base.specs.declared.endian.Endianness.{Endianness}
+use Rattle.perfdata_sources.specs.Endian.{number_in}
+use Rattle.perfdata_identifiers.specs.ParseInfo.{is_set}
+use Rattle.perfdata_sources.specs.declared.endian.Endianness.{Endianness}
 use Rattle.perfdata_records.specs.BuildIdEvent.{BuildIdEntry as Entry, IsBuildIdEntry, IsBuildIdIn, IsWithoutZeroGroups, zero_groups}
 use Rattle.perfdata_arrays.specs.BuildIds.{HasBuildIdAt, build_id_entry}
 use Rattle.perfdata_arrays.specs.declared.build_ids.BuildId.{BuildId}

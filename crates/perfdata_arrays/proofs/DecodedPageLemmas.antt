@@ -4,7 +4,7 @@ use Rattle.std.proofs.lemmas.Bool.Decides.{nat_tests}
 use Rattle.std.specs.Prelude.{◌==◌, ◌-◌, if◌then◌else◌}
 use Rattle.std.specs.List.{concat}
 use Rattle.std.proofs.lemmas.List.{append_cancel_right}
-use Rattle.perfdata_base.specs.Source.{at_start}
+use Rattle.perfdata_sources.specs.Source.{at_start}
 use Rattle.perfdata_sections.specs.declared.error.Error.{Error}
 use Rattle.linux_perf_data.specs.FileOpening.{IsFileError}
 use Rattle.linux_perf_data.specs.InMemory.{MemoryIter}
@@ -20,7 +20,8 @@ use Rattle.linux_perf_data.specs.declared.perf_file.PerfFile.{PerfFile}
 use Rattle.perfdata_arrays.proofs.PageLemmas.{first_at, header_of, page_of, page_to_end, same_attributes}
 use Rattle.perfdata_arrays.proofs.PipeRecordsLemmas.{PipeEnds, pipe_ends}
 use Rattle.perfdata_arrays.proofs.WalkLemmas.{streams_records}
-use Rattle.perfdata_arrays.specs.DecodedPages.{DecodesRecords, EndsWalk, IsDecodedPage, IsDecodedPipe, ReadsDecodedPage, ReadsDecodedPipe, RecordsEnd, ReportsNoSpace, attributes_after, page_result, result_of_end}
+use Rattle.perfdata_arrays.specs.DecodedPages.{IsDecodedPage, IsDecodedPipe, ReadsDecodedPage, ReadsDecodedPipe, ReportsNoSpace, page_result}
+use Rattle.perfdata_arrays.specs.steps.DecodedPages.{DecodesRecords, EndsWalk, RecordsEnd, attributes_after, result_of_end}
 use Rattle.perfdata_arrays.specs.Decoding.{AreEntriesOf, EntryKind, wants_frames}
 use Rattle.perfdata_arrays.specs.Records.{FailsWithStatus, IsPipeWithRecords}
 use Rattle.perfdata_arrays.specs.Status.{error_status, walk_status}

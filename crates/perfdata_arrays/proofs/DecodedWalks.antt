@@ -2,7 +2,7 @@
 use Rattle.std.proofs.Common.{Bool, false, not, ◌≡◌, ℕ, ◌+◌, ◌≤◌, ◌++◌, List, [], ◌∷◌, length, refl, sym, ap, ◌∙◌, subst, arith, length-append}
 use Rattle.std.specs.Prelude.{◌==◌, ◌||◌}
 use Rattle.std.proofs.lemmas.List.{append-nil, append_assoc}
-use Rattle.perfdata_base.specs.declared.endian.Endianness.{Endianness}
+use Rattle.perfdata_sources.specs.declared.endian.Endianness.{Endianness}
 use Rattle.perfdata_records.specs.declared.record.PerfFileRecord.{PerfFileRecord}
 use Rattle.linux_perf_data.proofs.EntryLemmas.{length-with_prefix}
 use Rattle.linux_perf_data.proofs.InMemoryReadings.{one_call_more}
@@ -19,8 +19,9 @@ use Rattle.linux_perf_data.specs.declared.in_memory.position.RecordPosition.{Rec
 use Rattle.linux_perf_data.specs.declared.perf_file.PerfFile.{PerfFile}
 use Rattle.linux_perf_data.specs.declared.records.iter.RecordPlace.{RecordPlace}
 use Rattle.perfdata_arrays.proofs.Arrays.{more_entries}
-use Rattle.perfdata_arrays.specs.DecodedPages.{DecodesRecords, EndsWalk, IsFollowedInWalk, attributes_after}
-use Rattle.perfdata_arrays.specs.Decoding.{Adding, AreEntriesOf, EntryKind, ExceedsArrays, WritesRecord, of_no_records, of_one_more, wants, wants_frames}
+use Rattle.perfdata_arrays.specs.steps.DecodedPages.{DecodesRecords, EndsWalk, IsFollowedInWalk, attributes_after}
+use Rattle.perfdata_arrays.specs.Decoding.{Adding, AreEntriesOf, EntryKind, of_no_records, of_one_more, wants_frames}
+use Rattle.perfdata_arrays.specs.steps.Decoding.{ExceedsArrays, WritesRecord, wants}
 use Rattle.perfdata_arrays.specs.declared.decoder.EntryCounts.{EntryCounts}
 use Rattle.perfdata_arrays.specs.declared.pages.DecodingWalk.{DecodingWalk}
 use Rattle.perfdata_arrays.specs.declared.pages.WalkEnd.{WalkEnd}

@@ -1,7 +1,7 @@
 -- An error in opening a file in memory is an error of its bytes.
 use Rattle.std.proofs.Common.{◌≢◌, ℕ, List, refl, inl, inr}
 use Rattle.std.specs.Prelude.{IsTrue}
-use Rattle.perfdata_base.specs.Source.{State, at_start, memory_source_at}
+use Rattle.perfdata_sources.specs.Source.{State, at_start, memory_source_at}
 use Rattle.perfdata_sections.specs.declared.error.Error.{Error}
 use Rattle.perfdata_sections.specs.declared.error.Error.TheVariants.{Memory}
 use Rattle.linux_perf_data.specs.FileOpening.{IsFileError, SourceErrorInOpening}

@@ -3,14 +3,15 @@ use Rattle.std.proofs.Common.{◌≡◌, ℕ, zero, suc, ◌+◌, ◌<◌, ◌�
 use Rattle.std.proofs.lemmas.List.{drop-append-le, drop-drop, length-take-le, take-append-drop}
 use Rattle.std.proofs.lemmas.Grind.{take_at_read}
 use Rattle.std.proofs.Math.Seq.{drop-append_seam, take-append_seam}
-use Rattle.perfdata_base.specs.Endian.{number_in}
-use Rattle.perfdata_base.specs.Raw.{bytes_of}
-use Rattle.perfdata_base.specs.declared.endian.Endianness.{Endianness}
+use Rattle.perfdata_sources.specs.Endian.{number_in}
+use Rattle.perfdata_sources.specs.Raw.{bytes_of}
+use Rattle.perfdata_sources.specs.declared.endian.Endianness.{Endianness}
 use Rattle.perfdata_jit.specs.JitRecords.{AreDebugEntries, IsDebugEntry, IsDebugInfo}
 use Rattle.perfdata_jit.specs.declared.records.JitCodeDebugInfoEntry.{JitCodeDebugInfoEntry}
 use Rattle.perfdata_jit.specs.declared.records.JitCodeDebugInfoRecord.{JitCodeDebugInfoRecord}
 use Rattle.perfdata_arrays.specs.JitBodies.{IsBodyAt}
-use Rattle.perfdata_arrays.specs.JitDebug.{HasPathsAt, after_debug_entry, debug_end, debug_entries_at, debug_entry_at}
+use Rattle.perfdata_arrays.specs.JitDebug.{HasPathsAt, after_debug_entry, debug_entries_at, debug_entry_at}
+use Rattle.perfdata_arrays.specs.steps.JitDebug.{debug_end}
 use Rattle.linux_perf_data.specs.RecordEntries.{with_prefix}
 use Rattle.perfdata_arrays.specs.Overwrites.{with_entries_at}
 use Rattle.perfdata_arrays.specs.declared.jit_debug.JitDebugEntry.{JitDebugEntry}

@@ -4,12 +4,12 @@ use Rattle.std.specs.Prelude.{min, slice_set}
 use Rattle.std.specs.List.{concat}
 use Rattle.std.proofs.lemmas.List.{drop-append-le, drop-drop, take-append-drop, length-take-le, take_all}
 use Rattle.std.proofs.Math.Seq.{drop-append-add, drop-append_seam, take-append_seam}
-use Rattle.perfdata_base.specs.Endian.{number_in}
-use Rattle.perfdata_base.specs.declared.endian.Endianness.{Endianness}
+use Rattle.perfdata_sources.specs.Endian.{number_in}
+use Rattle.perfdata_sources.specs.declared.endian.Endianness.{Endianness}
 use Rattle.perfdata_jit.proofs.ConsecutiveRecords.{concat-snoc, records-snoc}
 use Rattle.perfdata_jit.proofs.RecordHeaders.{header_front}
 use Rattle.perfdata_jit.specs.RecordBytes.{record_header_at, IsOneRecord}
-use Rattle.perfdata_base.specs.Raw.{bytes_of}
+use Rattle.perfdata_sources.specs.Raw.{bytes_of}
 use Rattle.perfdata_jit.specs.JitRecords.{IsLoad}
 use Rattle.perfdata_jit.specs.declared.records.JitCodeLoadRecord.{JitCodeLoadRecord}
 use Rattle.perfdata_jit.specs.JitHeader.{BeginsWithJitHeader, IsEndianOfMagic, IsJitHeader}

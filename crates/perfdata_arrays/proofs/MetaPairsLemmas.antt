@@ -9,7 +9,8 @@ use Rattle.std.proofs.lemmas.List.Splits.{slice_split_first, slice_split_none}
 use Rattle.std.proofs.lemmas.List.Sums.{fails_before_first}
 use Rattle.perfdata_sections.specs.HeaderString.{before_nul}
 use Rattle.perfdata_simpleperf.specs.MetaInfo.{IsUtf8Pair, Pair, meta_pairs, nul_segments, pair_up}
-use Rattle.perfdata_arrays.specs.MetaPairs.{AreSegmentsFrom, HasPairAt, HasPairsAt, IsPairAt, ReadsMetaInfo, offset_after, pair_entries_at, pair_entry_at}
+use Rattle.perfdata_arrays.specs.MetaPairs.{HasPairAt, HasPairsAt, ReadsMetaInfo, offset_after, pair_entries_at, pair_entry_at}
+use Rattle.perfdata_arrays.specs.steps.MetaPairs.{AreSegmentsFrom, IsPairAt}
 use Rattle.linux_perf_data.specs.RecordEntries.{with_prefix, HasBytesAt}
 use Rattle.perfdata_arrays.specs.Overwrites.{with_entries_at}
 use Rattle.perfdata_arrays.specs.declared.meta_info.MetaPair.{MetaPair}

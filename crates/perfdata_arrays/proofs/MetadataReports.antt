@@ -1,11 +1,12 @@
 -- What calls report of the metadata of a recording.
 use Rattle.std.proofs.Common.{ℕ, List, inl, inr, Result, Ok, Err}
-use Rattle.perfdata_base.specs.Source.{at_start}
+use Rattle.perfdata_sources.specs.Source.{at_start}
 use Rattle.perfdata_sections.specs.declared.error.Error.{Error}
 use Rattle.linux_perf_data.specs.FileOpening.{IsFileError}
 use Rattle.linux_perf_data.specs.PipeOpening.{IsPipeError}
 use Rattle.linux_perf_data.specs.declared.perf_file.PerfFile.{PerfFile}
-use Rattle.perfdata_arrays.specs.Metadata.{IsFileWith, IsPipeWith, ReadsFileMetadata, ReadsMetadata, ReadsPipeMetadata, Reports, ReportsFile, ReportsOf, ReportsPipe}
+use Rattle.perfdata_arrays.specs.Metadata.{IsFileWith, IsPipeWith, Reports, ReportsFile, ReportsPipe}
+use Rattle.perfdata_arrays.specs.steps.Metadata.{ReadsFileMetadata, ReadsMetadata, ReadsPipeMetadata, ReportsOf}
 use Rattle.perfdata_arrays.specs.declared.metadata.Metadata.{Metadata}
 use Rattle.perfdata_arrays.specs.declared.status.Status.{Status}
 

@@ -4,8 +4,8 @@ use Rattle.std.specs.Prelude.{IfSome, IsTrue, Vec}
 use Rattle.std.specs.declared.alloc.Global.{Global}
 use Rattle.std.specs.List.{concat}
 use Rattle.std.proofs.lemmas.List.{append-nil, drop-drop}
-use Rattle.perfdata_base.specs.Source.{at_start}
-use Rattle.perfdata_base.specs.declared.endian.Endianness.{Endianness}
+use Rattle.perfdata_sources.specs.Source.{at_start}
+use Rattle.perfdata_sources.specs.declared.endian.Endianness.{Endianness}
 use Rattle.perfdata_base.specs.declared.header.PerfHeader.{PerfHeader}
 use Rattle.perfdata_sections.specs.Error.{IsUnexpectedEof, IsUnsupported}
 use Rattle.perfdata_sections.specs.declared.error.Error.{Error}
@@ -17,7 +17,8 @@ use Rattle.linux_perf_data.specs.declared.perf_file.PerfFile.{PerfFile}
 use Rattle.linux_perf_data.specs.declared.records.iter.Stage.TheVariants.{Running}
 use Rattle.linux_perf_data.specs.Attribute.{Attribute}
 use Rattle.linux_perf_data.specs.AttributeLookup.{Represents}
-use Rattle.linux_perf_data.specs.Reading.{HasMatchingFile, ReturnsRecords, end_after}
+use Rattle.linux_perf_data.specs.Reading.{ReturnsRecords, end_after}
+use Rattle.linux_perf_data.specs.steps.Reading.{HasMatchingFile}
 use Rattle.linux_perf_data.specs.InMemory.{memory_state, MemoryIter, with_buffer}
 use Rattle.linux_perf_data.specs.InMemoryPositions.{FileRecordsFrom, IsAtPosition, ParsesFileAt, position_of, round_at}
 use Rattle.linux_perf_data.specs.InMemoryReading.{NeedsMemoryInPipeOnly, ReturnsRecordsInMemory, first_record_offset_of, input_of}
@@ -30,10 +31,11 @@ use Rattle.linux_perf_data.proofs.FileReadings.{after_prefix_is, consumed_of, fi
 use Rattle.linux_perf_data.proofs.InMemoryPlaces.{section_view}
 use Rattle.linux_perf_data.proofs.InMemoryReadings.{same_end, same_error, same_records}
 use Rattle.linux_perf_data.specs.RecordEntries.{HasBodiesAt}
-use Rattle.perfdata_arrays.specs.Pages.{IsPage, ReadsFilePage, WalksPage, layout_end_status, layout_error_status, position_after, round_after}
+use Rattle.perfdata_arrays.specs.Pages.{IsPage, ReadsFilePage, layout_end_status, layout_error_status, position_after, round_after}
+use Rattle.perfdata_arrays.specs.steps.Pages.{WalksPage}
 use Rattle.perfdata_arrays.specs.Records.{FailsWithStatus}
 use Rattle.perfdata_arrays.specs.Status.{error_status, io_kind_status, walk_status}
-use Rattle.perfdata_arrays.specs.Walk.{WalkEnds}
+use Rattle.perfdata_arrays.specs.steps.Walk.{WalkEnds}
 use Rattle.linux_perf_data.specs.declared.in_memory.entries.RecordEntry.{RecordEntry}
 use Rattle.perfdata_arrays.specs.declared.records.PageWalk.{PageWalk}
 use Rattle.perfdata_arrays.specs.declared.records.RecordsResult.{RecordsResult}

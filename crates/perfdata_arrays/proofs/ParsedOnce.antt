@@ -1,10 +1,10 @@
 -- A record has one parsed form, wherever its bytes are.
 use Rattle.std.proofs.Common.{◌≡◌, ℕ, List, refl, subst}
 use Rattle.std.specs.declared.io.ErrorKind.{ErrorKind}
-use Rattle.perfdata_base.specs.Raw.{bytes_of}
+use Rattle.perfdata_sources.specs.Raw.{bytes_of}
 use Rattle.perfdata_base.specs.declared.event.raw_event_record.RawEventRecord.{RawEventRecord}
-use Rattle.perfdata_base.specs.declared.place.parse_info.RecordParseInfo.{RecordParseInfo}
-use Rattle.perfdata_base.specs.declared.raw.RawData.TheVariants.{Single}
+use Rattle.perfdata_identifiers.specs.declared.place.parse_info.RecordParseInfo.{RecordParseInfo}
+use Rattle.perfdata_sources.specs.declared.raw.RawData.TheVariants.{Single}
 use Rattle.perfdata_events.proofs.OneParsed.{one_parsed, parsed_or_failed}
 use Rattle.perfdata_events.specs.Event.{IsParsed, ParseFails}
 use Rattle.perfdata_events.specs.EventView.{event_view}

@@ -2,12 +2,12 @@
 use Rattle.std.proofs.Common.{◌≡◌, ◌≢◌, ◌⊎◌, ℕ, ◌+◌, ◌-◌, ◌^◌, ◌<◌, ◌++◌, List, [], length, drop, refl, sym, ap, ◌∙◌, subst, arith, inl, inr, append_assoc, length-append, length-drop, None, Some, Result, Ok, Err}
 use Rattle.std.specs.List.{concat}
 use Rattle.std.proofs.Math.Seq.{drop-append_seam, drop-nil}
-use Rattle.perfdata_base.specs.Features.{HasFeature}
-use Rattle.perfdata_base.specs.Endian.{number_in}
-use Rattle.perfdata_base.specs.declared.endian.Endianness.{Endianness}
-use Rattle.perfdata_base.proofs.Numbers.{number_drop_prefix}
-use Rattle.perfdata_base.specs.Source.{State, memory_source_at}
-use Rattle.perfdata_base.proofs.ReadErrors.{none_or_paused, all_read}
+use Rattle.perfdata_identifiers.specs.Features.{HasFeature}
+use Rattle.perfdata_sources.specs.Endian.{number_in}
+use Rattle.perfdata_sources.specs.declared.endian.Endianness.{Endianness}
+use Rattle.perfdata_sources.proofs.Numbers.{number_drop_prefix}
+use Rattle.perfdata_sources.specs.Source.{State, memory_source_at}
+use Rattle.perfdata_sources.proofs.ReadErrors.{none_or_paused, all_read}
 use Rattle.perfdata_sections.specs.declared.error.Error.{Error}
 use Rattle.perfdata_sections.specs.declared.error.Error.TheVariants.{Memory}
 use Rattle.linux_perf_data.specs.declared.in_memory.InMemoryReader.{InMemoryReader}
@@ -33,7 +33,7 @@ use Rattle.perfdata_arrays.specs.Overwrites.{with_prefix_from}
 use Rattle.perfdata_arrays.specs.Status.{error_status, walk_status}
 use Rattle.linux_perf_data.specs.RecordEntries.{HasBodiesAt}
 use Rattle.perfdata_arrays.specs.Records.{FailsWithStatus, EndsWithStatus, FollowedByMetadata, IsPipeWithRecords, ReadsPipeRecords}
-use Rattle.perfdata_arrays.specs.Walk.{WalkEnds, WalksRecords}
+use Rattle.perfdata_arrays.specs.steps.Walk.{WalkEnds, WalksRecords}
 use Rattle.perfdata_arrays.specs.declared.status.Status.{Status}
 use Rattle.perfdata_arrays.specs.declared.status.Status.TheVariants.{Success}
 use Rattle.linux_perf_data.specs.declared.in_memory.entries.RecordEntry.{RecordEntry}

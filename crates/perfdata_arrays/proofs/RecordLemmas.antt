@@ -3,13 +3,13 @@ use Rattle.std.proofs.Common.{◌≡◌, ℕ, ◌+◌, ◌<◌, ◌≤◌, Bool,
 use Rattle.std.specs.Prelude.{◌==◌, ◌||◌, if◌then◌else◌, slice_get}
 use Rattle.std.specs.Option.{option_map, unwrap_or}
 use Rattle.std.proofs.lemmas.Option.{slice_get-map}
-use Rattle.perfdata_base.specs.declared.place.parse_info.RecordParseInfo.{RecordParseInfo}
-use Rattle.perfdata_base.specs.declared.endian.Endianness.{Endianness}
+use Rattle.perfdata_identifiers.specs.declared.place.parse_info.RecordParseInfo.{RecordParseInfo}
+use Rattle.perfdata_sources.specs.declared.endian.Endianness.{Endianness}
 use Rattle.perfdata_sections.specs.AttributeDescription.{attr_in}
 use Rattle.perfdata_sections.specs.declared.feature_sections.AttributeDescription.{AttributeDescription}
 use Rattle.linux_perf_data.specs.Descriptions.{described_attribute, described_attributes}
 use Rattle.perfdata_events.specs.EventFormat.{event_format_of}
-use Rattle.perfdata_base.specs.Raw.{bytes_of}
+use Rattle.perfdata_sources.specs.Raw.{bytes_of}
 use Rattle.perfdata_records.specs.declared.record.PerfFileRecord.{PerfFileRecord}
 use Rattle.perfdata_records.specs.declared.record.PerfFileRecord.TheVariants.{EventRecord, UserRecord}
 use Rattle.linux_perf_data.specs.Attribute.{Attribute}
@@ -19,10 +19,13 @@ use Rattle.linux_perf_data.specs.declared.records.iter.RecordPlace.{RecordPlace}
 use Rattle.perfdata_arrays.proofs.Arrays.{no_entries}
 use Rattle.perfdata_arrays.proofs.SampleBounds.{adds_within}
 use Rattle.perfdata_arrays.specs.Bodies.{IsBody}
-use Rattle.perfdata_arrays.specs.Decoding.{DecodesRecord, EntryKind, ExceedsArrays, WritesRecord, wants as wants_in, wants_frames}
-use Rattle.perfdata_arrays.specs.Entries.{AddsEntries, HasEntries, event_kind}
+use Rattle.perfdata_arrays.specs.Decoding.{EntryKind, wants_frames}
+use Rattle.perfdata_arrays.specs.steps.Decoding.{DecodesRecord, ExceedsArrays, WritesRecord, wants as wants_in}
+use Rattle.perfdata_arrays.specs.Entries.{HasEntries, event_kind}
+use Rattle.perfdata_arrays.specs.steps.Entries.{AddsEntries}
 use Rattle.perfdata_arrays.specs.Overwrites.{with_entries_at}
-use Rattle.perfdata_arrays.specs.SampleRecords.{AddsFrames, AddsOf, HasParts, IsFormatAt, IsSampleOf, format_of_event, frames_of_body, sample_kind, saturated}
+use Rattle.perfdata_arrays.specs.SampleRecords.{AddsOf, HasParts, IsFormatAt, IsSampleOf, format_of_event, frames_of_body, sample_kind, saturated}
+use Rattle.perfdata_arrays.specs.steps.SampleRecords.{AddsFrames}
 use Rattle.perfdata_arrays.specs.Samples.{sample_of}
 use Rattle.perfdata_arrays.specs.declared.samples.body.SampleBody.{SampleBody}
 use Rattle.perfdata_arrays.specs.declared.samples.frame.FrameEntry.{FrameEntry}

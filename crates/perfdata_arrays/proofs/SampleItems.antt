@@ -3,7 +3,7 @@ use Rattle.std.proofs.Common.{◌≡◌, ℕ, ◌+◌, Bool, true, false, not, L
 use Rattle.std.specs.Prelude.{◌==◌, map}
 use Rattle.std.specs.Option.{option_map}
 use Rattle.std.specs.Int.RustNames.{bit_and}
-use Rattle.perfdata_base.specs.declared.endian.Endianness.{Endianness}
+use Rattle.perfdata_sources.specs.declared.endian.Endianness.{Endianness}
 use Rattle.linux_perf_data.specs.Attribute.{Attribute}
 use Rattle.linux_perf_data.specs.Layout.{RecordView}
 use Rattle.perfdata_events.proofs.OneOutcomes.{one_both, one_led, one_optional, one_word}

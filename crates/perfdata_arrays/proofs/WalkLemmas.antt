@@ -4,14 +4,14 @@ use Rattle.std.specs.Prelude.{Vec}
 use Rattle.std.proofs.lemmas.List.{length-map, map-append, map_push}
 use Rattle.std.proofs.Math.Seq.{drop-nil}
 use Rattle.std.specs.declared.alloc.Global.{Global}
-use Rattle.perfdata_base.specs.Source.{prepend}
+use Rattle.perfdata_sources.specs.Source.{prepend}
 use Rattle.perfdata_sections.specs.declared.error.Error.{Error}
 use Rattle.perfdata_sections.specs.declared.error.Error.TheVariants.{Memory}
 use Rattle.perfdata_records.specs.declared.record.PerfFileRecord.{PerfFileRecord}
 use Rattle.linux_perf_data.specs.declared.in_memory.InMemoryRecords.{InMemoryRecords}
 use Rattle.linux_perf_data.specs.declared.in_memory.position.RecordPosition.{RecordPosition}
 use Rattle.linux_perf_data.specs.InMemoryPositions.{position_of}
-use Rattle.perfdata_arrays.specs.Pages.{WalksPage}
+use Rattle.perfdata_arrays.specs.steps.Pages.{WalksPage}
 use Rattle.linux_perf_data.specs.declared.perf_file.PerfFile.{PerfFile}
 use Rattle.linux_perf_data.specs.declared.records.iter.RecordPlace.{RecordPlace}
 use Rattle.linux_perf_data.specs.declared.records.iter.Stage.TheVariants.{Running}
@@ -26,7 +26,7 @@ use Rattle.linux_perf_data.proofs.InMemoryReadings.{one_call_more, same_records,
 use Rattle.perfdata_arrays.specs.Overwrites.{with_prefix_from}
 use Rattle.linux_perf_data.specs.RecordEntries.{HasBodiesAt, HasBytesAt, record_entries_at, record_entry_at, with_prefix}
 use Rattle.perfdata_arrays.specs.Records.{WritesRecords}
-use Rattle.perfdata_arrays.specs.Walk.{ReadsMoreEntries, WalkEnds}
+use Rattle.perfdata_arrays.specs.steps.Walk.{ReadsMoreEntries, WalkEnds}
 use Rattle.linux_perf_data.specs.declared.in_memory.entries.RecordEntry.{RecordEntry}
 use Rattle.perfdata_arrays.specs.declared.records.RecordsResult.{RecordsResult}
 

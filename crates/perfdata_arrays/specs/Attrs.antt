@@ -1,12 +1,11 @@
 -- The results for attributes, with their names and IDs.
-use Rattle.std.specs.Prelude.{◌≡◌, ◌⊎◌, ℕ, ◌+◌, ◌^◌, ◌≤◌, List, [], ◌∷◌, ◌++◌, length, flat_map, Option, None, Some, Result}
+use Rattle.std.specs.Prelude.{◌≡◌, ◌⊎◌, ℕ, ◌+◌, ◌^◌, ◌≤◌, List, [], ◌∷◌, ◌++◌, length, flat_map, Option, None, Some}
 use Rattle.perfdata_sections.specs.AttributeDescription.{attr_in, ids_in, name_in}
 use Rattle.perfdata_sections.specs.declared.feature_sections.AttributeDescription.{AttributeDescription}
 use Rattle.linux_perf_data.specs.declared.perf_file.PerfFile.{PerfFile}
 use Rattle.linux_perf_data.specs.PerfFile.{descriptions_of_file}
 use Rattle.linux_perf_data.specs.RecordEntries.{with_prefix, one_if_some}
-use Rattle.perfdata_arrays.specs.Metadata.{ReportsFile, ReportsOf, ReportsPipe}
-use Rattle.perfdata_arrays.specs.declared.metadata.Metadata.{Metadata}
+use Rattle.perfdata_arrays.specs.Metadata.{ReportsFile, ReportsPipe}
 use Rattle.perfdata_arrays.specs.declared.attrs.Attr.{Attr}
 use Rattle.perfdata_arrays.specs.declared.attrs.AttrsResult.{AttrsResult}
 use Rattle.perfdata_arrays.specs.declared.status.Status.{Status}
@@ -68,7 +67,8 @@ attr_entries_at names ids [] = []
 attr_entries_at names ids (d ∷ ds) = attr_entry_at names ids d ∷ attr_entries_at (names + length (name_bytes d)) (ids + length (ids_in d)) ds
 
 -- These attributes, their names and their IDs are written, each as a prefix of its array.
-pub record WritesAttrs (descriptions : List AttributeDescription) (entries : List Attr) (names ids : List ℕ) (entries' : List Attr) (names' ids' : List ℕ) : Type 0 where
+pub record WritesAttrs (descriptions : List AttributeDescription) (entries : List Attr) (names ids : List ℕ) (entries' : List Attr)
+    (names' ids' : List ℕ) : Type 0 where
   pub entries_written : entries' ≡ with_prefix (attr_entries_at 0 0 descriptions) entries
   pub names_written : names' ≡ with_prefix (all_names descriptions) names
   pub ids_written : ids' ≡ with_prefix (all_ids descriptions) ids
@@ -78,14 +78,10 @@ pub record WritesAttrs (descriptions : List AttributeDescription) (entries : Lis
 abbrev pub ExceedsU64 : ℕ → ℕ → AttributeDescription → Type 0
 ExceedsU64 names ids d = (2 ^ 64 ≤ names + length (name_bytes d)) ⊎ (2 ^ 64 ≤ ids + length (ids_in d))
 
--- the end offset of an attribute's name and the end index of its IDs, or `None` if one of them doesn't fit in 64 bits
-abbrev pub AreEndOffsets : AttributeDescription → ℕ → ℕ → Option (ℕ × ℕ) → Type 0
-AreEndOffsets d names ids (Some ends) = (ends.0 ≡ names + length (name_bytes d)) × (ends.1 ≡ ids + length (ids_in d))
-AreEndOffsets d names ids None = ExceedsU64 names ids d
-
 -- These attributes are written and counted. Either they are all, and the status is the one given; or they are a prefix, and the
 -- name end or the ID end of the next attribute doesn't fit in 64 bits. No memory can contain so many names or IDs.
-pub record WritesAttrsOrPrefix (all : List AttributeDescription) (status : Status) (entries : List Attr) (names ids : List ℕ) (outcome : AttrsResult) (entries' : List Attr) (names' ids' : List ℕ) : Type 0 where
+pub record WritesAttrsOrPrefix (all : List AttributeDescription) (status : Status) (entries : List Attr) (names ids : List ℕ) (outcome : AttrsResult)
+    (entries' : List Attr) (names' ids' : List ℕ) : Type 0 where
   pub written : List AttributeDescription
   pub unwritten : List AttributeDescription
   pub split : all ≡ written ++ unwritten
@@ -94,7 +90,8 @@ pub record WritesAttrsOrPrefix (all : List AttributeDescription) (status : Statu
   pub ids_count : outcome.totals.ids_count ≡ length (all_ids written)
   pub writes : WritesAttrs written entries names ids entries' names' ids'
   pub ends : ((unwritten ≡ []) × (outcome.status ≡ status))
-      ⊎ ((outcome.status ≡ OutOfMemory) × ((d : AttributeDescription) × ((rest : List AttributeDescription) × (unwritten ≡ d ∷ rest) × ExceedsU64 outcome.totals.names_size outcome.totals.ids_count d)))
+      ⊎ ((outcome.status ≡ OutOfMemory) × ((d : AttributeDescription)
+      × ((rest : List AttributeDescription) × (unwritten ≡ d ∷ rest) × ExceedsU64 outcome.totals.names_size outcome.totals.ids_count d)))
 
 -- all totals are 0
 abbrev pub no_attrs_with : Status → AttrsResult
@@ -108,14 +105,12 @@ module _ (entries : List Attr) (names ids : List ℕ) (outcome : AttrsResult) (e
   abbrev pub WritesNothing : Status → Type 0
   WritesNothing status = (outcome ≡ no_attrs_with status) × (entries' ≡ entries) × (names' ≡ names) × (ids' ≡ ids)
 
--- The result for the attributes of a recording that was read.
-abbrev pub ReadsAttrs : Result Metadata Status → List Attr → List ℕ → List ℕ → AttrsResult → List Attr → List ℕ → List ℕ → Type 0
-ReadsAttrs read entries names ids outcome entries' names' ids' = ReportsOf (WritesAttrsOf entries names ids outcome entries' names' ids') (WritesNothing entries names ids outcome entries' names' ids') read
-
 -- The result for a file's attributes. If the file doesn't open, nothing is written.
 abbrev pub ReadsFileAttrs : List ℕ → List Attr → List ℕ → List ℕ → AttrsResult → List Attr → List ℕ → List ℕ → Type 0
-ReadsFileAttrs bytes entries names ids outcome entries' names' ids' = ReportsFile bytes (WritesAttrsOf entries names ids outcome entries' names' ids') (WritesNothing entries names ids outcome entries' names' ids')
+ReadsFileAttrs bytes entries names ids outcome entries' names' ids' =
+    ReportsFile bytes (WritesAttrsOf entries names ids outcome entries' names' ids') (WritesNothing entries names ids outcome entries' names' ids')
 
 -- The result for a pipe's attributes, up to the pipe's end or first error. If the pipe doesn't open, nothing is written.
 abbrev pub ReadsPipeAttrs : List ℕ → List Attr → List ℕ → List ℕ → AttrsResult → List Attr → List ℕ → List ℕ → Type 0
-ReadsPipeAttrs bytes entries names ids outcome entries' names' ids' = ReportsPipe bytes (WritesAttrsOf entries names ids outcome entries' names' ids') (WritesNothing entries names ids outcome entries' names' ids')
+ReadsPipeAttrs bytes entries names ids outcome entries' names' ids' =
+    ReportsPipe bytes (WritesAttrsOf entries names ids outcome entries' names' ids') (WritesNothing entries names ids outcome entries' names' ids')

@@ -1,8 +1,8 @@
 -- The result for an entry of a BUILD_ID section.
 use Rattle.std.specs.Prelude.{◌≡◌, ◌⊎◌, ℕ, ◌+◌, ◌%◌, ◌++◌, List, length, drop, Option, None, Some}
-use Rattle.perfdata_base.specs.Endian.{number_in}
-use Rattle.perfdata_base.specs.CpuMode.{cpu_mode_of}
-use Rattle.perfdata_base.specs.declared.endian.Endianness.{Endianness}
+use Rattle.perfdata_sources.specs.Endian.{number_in}
+use Rattle.perfdata_sources.specs.CpuMode.{cpu_mode_of}
+use Rattle.perfdata_sources.specs.declared.endian.Endianness.{Endianness}
 use Rattle.perfdata_records.specs.BuildIdEvent.{BuildIdEntry as Entry, IsTruncatedBuildIdEntry, IsBuildIdEntry}
 use Rattle.perfdata_records.specs.DsoKey.{Key, kernel, guest_kernel, vdso_32, vdso_x32, vdso_64, vsyscall, kernel_module, user, key_of}
 use Rattle.linux_perf_data.specs.RecordEntries.{HasBytesAt}

@@ -65,7 +65,8 @@ module _ {A B : Type 0} (kind : EntryKind A B) where
   -- The entries from a position on and their frames are determined by the number of entries.
   abbrev pub EntriesAreUnique : Type 0
   EntriesAreUnique = (bytes : List ℕ) (from next next' : RecordPosition) (wants : Bool) (entries entries' : List A) (frames frames' : List B) →
-      AreEntriesUpTo bytes from wants entries frames next → AreEntriesUpTo bytes from wants entries' frames' next' → length entries ≡ length entries' → (entries ≡ entries') × (frames ≡ frames')
+      AreEntriesUpTo bytes from wants entries frames next → AreEntriesUpTo bytes from wants entries' frames' next' → length entries ≡ length entries'
+      → (entries ≡ entries') × (frames ≡ frames')
 
   -- ---- calls
 
@@ -85,7 +86,8 @@ module _ {A B : Type 0} (kind : EntryKind A B) where
   -- or in none.
   abbrev pub IsChain : List ℕ → RecordPosition → Bool → List (PageCall A B) → PageCall A B → Type 0
   IsChain bytes from wants [] last = IsCallAt bytes from last × (wants_frames (length last.frames_before) ≡ wants)
-  IsChain bytes from wants (call ∷ calls) last = IsCallAt bytes from call × (wants_frames (length call.frames_before) ≡ wants) × IsChain bytes call.next wants calls last
+  IsChain bytes from wants (call ∷ calls) last =
+      IsCallAt bytes from call × (wants_frames (length call.frames_before) ≡ wants) × IsChain bytes call.next wants calls last
 
   -- The entries that a chain writes, in order. The frames of each are after those of the calls before it.
   abbrev pub entries_of_chain : List (PageCall A B) → PageCall A B → List A
@@ -118,4 +120,5 @@ module _ {A B : Type 0} (kind : EntryKind A B) where
   -- of them writes.
   abbrev pub ChainIsOneDecodedPage : Type 0
   ChainIsOneDecodedPage = (bytes : List ℕ) (from : RecordPosition) (calls : List (PageCall A B)) (last whole : PageCall A B) →
-      IsChain bytes from (wants_frames (length whole.frames_before)) calls last → IsCallAt bytes from whole → HasMemory whole → HasCapacityFor calls last whole → WritesSame calls last whole
+      IsChain bytes from (wants_frames (length whole.frames_before)) calls last → IsCallAt bytes from whole → HasMemory whole → HasCapacityFor calls last whole
+      → WritesSame calls last whole

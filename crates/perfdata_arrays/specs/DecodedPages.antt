@@ -1,97 +1,31 @@
 -- The entries and frames of a file's records in pages, and those of a pipe.
-use Rattle.std.specs.Prelude.{◌≡◌, ◌⊎◌, ℕ, ◌+◌, ◌<◌, ◌≤◌, ◌==◌, ◌++◌, Bool, true, false, List, [], ◌∷◌, length, None, Result, if◌then◌else◌}
-use Rattle.perfdata_sections.specs.declared.error.Error.{Error}
-use Rattle.perfdata_base.specs.Source.{at_start}
-use Rattle.linux_perf_data.specs.Attribute.{Attribute}
+use Rattle.std.specs.Prelude.{◌≡◌, ◌⊎◌, ℕ, ◌+◌, ◌<◌, ◌≤◌, ◌++◌, true, List, [], ◌∷◌, length, None}
+use Rattle.perfdata_sources.specs.Source.{at_start}
 use Rattle.linux_perf_data.specs.FileOpening.{IsFileError}
-use Rattle.linux_perf_data.specs.InMemory.{memory_state}
-use Rattle.linux_perf_data.specs.InMemoryPositions.{position_of}
-use Rattle.linux_perf_data.specs.InMemoryReading.{NeedsMemoryForMetadataOnly, NeedsMemoryInPipeOnly, ReturnsRecordsInMemory, first_record_offset_of}
-use Rattle.linux_perf_data.specs.Iter.{section_size_of}
 use Rattle.linux_perf_data.specs.Layout.{RecordView, attributes_in_records, attributes_in_views}
 use Rattle.linux_perf_data.specs.PerfFile.{attributes_of_file, endian_of_file}
 use Rattle.linux_perf_data.specs.PipeOpening.{IsPipeError}
 use Rattle.linux_perf_data.specs.RecordEntries.{with_prefix}
-use Rattle.linux_perf_data.specs.declared.in_memory.InMemoryRecords.{InMemoryRecords}
 use Rattle.linux_perf_data.specs.declared.in_memory.position.RecordPosition.{RecordPosition}
 use Rattle.linux_perf_data.specs.declared.perf_file.PerfFile.{PerfFile}
-use Rattle.perfdata_arrays.specs.Decoding.{AreEntriesOf, EntryKind, wants, wants_frames}
+use Rattle.perfdata_arrays.specs.Decoding.{AreEntriesOf, EntryKind, wants_frames}
 use Rattle.perfdata_arrays.specs.Pages.{IsPage}
 use Rattle.perfdata_arrays.specs.Records.{FailsWithStatus, IsPipeWithRecords}
-use Rattle.perfdata_arrays.specs.Status.{walk_status}
-use Rattle.perfdata_arrays.specs.Walk.{WalkEnds}
 use Rattle.perfdata_arrays.specs.declared.decoder.EntryCounts.{EntryCounts}
-use Rattle.perfdata_arrays.specs.declared.pages.WalkEnd.{WalkEnd}
-use Rattle.perfdata_arrays.specs.declared.pages.WalkEnd.TheVariants.{Full, Exceeded, Records}
-use Rattle.perfdata_arrays.specs.declared.pages.DecodingWalk.{DecodingWalk}
 use Rattle.perfdata_arrays.specs.declared.pages.PageResult.{PageResult}
 use Rattle.perfdata_arrays.specs.declared.status.Status.{Status}
 use Rattle.perfdata_arrays.specs.declared.status.Status.TheVariants.{NoSpace, Success}
-
--- the attributes that are known after some records of an iterator
-abbrev pub attributes_after : InMemoryRecords → PerfFile → List RecordView → List Attribute
-attributes_after input file records = attributes_of_file file ++ attributes_in_views input.records.endian (section_size_of memory_state input.records) records
 
 -- the result of a page that wrote these numbers, or reports them
 abbrev pub page_result : ℕ → ℕ → Status → PageResult
 page_result count frames_count status = record { count = count; frames_count = frames_count; status = status }
 
--- The result for the end of a walk: an error of its records, or no space for what the first record with entries adds.
-abbrev pub result_of_end : WalkEnd → ℕ → ℕ → PageResult
-result_of_end Full count used = page_result count used Success
-result_of_end (Exceeded needed) count used = if count == 0 then page_result needed.entries needed.frames NoSpace else page_result count used Success
-result_of_end (Records r) count used = page_result count used (walk_status r)
-
 module _ {A B : Type 0} (kind : EntryKind A B) where
-  -- ---- a walk
-
-  -- After these records comes one that adds more than fits in the arrays, after this many entries and frames.
-  pub record IsFollowedInWalk (old : InMemoryRecords) (file : PerfFile) (records : List RecordView) (capacity frames_capacity count used : ℕ) (needed : EntryCounts) (new : InMemoryRecords) (file' : PerfFile) : Type 0 where
-    pub next : RecordView
-    pub own : List A
-    pub own_frames : List B
-    pub adds : kind.Adds (wants_frames frames_capacity) (endian_of_file file) (attributes_after old file (records ++ next ∷ [])) (first_record_offset_of old) used next own own_frames
-    pub exceeds : kind.Exceeds capacity frames_capacity count used own own_frames needed
-    pub returned : ReturnsRecordsInMemory old file (records ++ next ∷ []) new file'
-
-  -- the records end
-  pub record RecordsEnd (counts_all : Bool) (old : InMemoryRecords) (file : PerfFile) (records : List RecordView) (capacity count : ℕ) (now : InMemoryRecords) (now_file : PerfFile) (r : Result (Unit {0}) Error) (new : InMemoryRecords) (file' : PerfFile) : Type 0 where
-    pub fewer : counts_all ≡ false → count < capacity
-    pub ends : WalkEnds now.records now_file r new.records file'
-    pub in_pipe_only : NeedsMemoryInPipeOnly now r
-    pub for_metadata_only : NeedsMemoryForMetadataOnly now r new
-    pub attributes_are : attributes_of_file file' ≡ attributes_after old file records
-
-  -- How the walk ends after these records: the array of entries is full, the next record adds more than fits, or the records end. A walk
-  -- that counts all ends with the records.
-  abbrev pub EndsWalk : Bool → InMemoryRecords → PerfFile → List RecordView → ℕ → ℕ → ℕ → ℕ → InMemoryRecords → PerfFile → WalkEnd → InMemoryRecords → PerfFile → Type 0
-  EndsWalk counts_all old file records capacity frames_capacity count used now now_file Full new file' = (counts_all ≡ false) × (count ≡ capacity)
-  EndsWalk counts_all old file records capacity frames_capacity count used now now_file (Exceeded needed) new file' =
-      (counts_all ≡ false) × (count < capacity) × IsFollowedInWalk old file records capacity frames_capacity count used needed new file'
-  EndsWalk counts_all old file records capacity frames_capacity count used now now_file (Records r) new file' = RecordsEnd counts_all old file records capacity count now now_file r new file'
-
-  -- The walk returns these records, and counts and writes what they add, up to the capacities. The next position is after the last of
-  -- them.
-  pub record DecodesRecords (counts_all : Bool) (old : InMemoryRecords) (file : PerfFile) (entries : List A) (frames : List B) (walk : DecodingWalk) (new : InMemoryRecords) (file' : PerfFile) (entries' : List A) (frames' : List B) : Type 0 where
-    pub records : List RecordView
-    pub input_at_end : InMemoryRecords
-    pub file_at_end : PerfFile
-    pub returned : ReturnsRecordsInMemory old file records input_at_end file_at_end
-    pub next : walk.next ≡ position_of input_at_end
-    pub own : List A
-    pub own_frames : List B
-    pub are_entries : AreEntriesOf (kind.Adds (wants counts_all (length frames))) (endian_of_file file) (attributes_after old file) (first_record_offset_of old) records own own_frames
-    pub count_is : walk.count ≡ length own
-    pub frames_count_is : walk.frames_count ≡ length own_frames
-    pub written : entries' ≡ with_prefix own entries
-    pub frames_written : frames' ≡ with_prefix own_frames frames
-    pub fits : counts_all ≡ false → (length own ≤ length entries) × (length own_frames ≤ length frames)
-    pub ends : EndsWalk counts_all old file records (length entries) (length frames) (length own) (length own_frames) input_at_end file_at_end walk.end new file'
-
   -- ---- a page
 
   -- The record that follows these, up to another position, adds more than fits, after this many entries and frames.
-  pub record IsFollowedByTooMany (bytes : List ℕ) (base : ℕ) (from : RecordPosition) (file : PerfFile) (records : List RecordView) (capacity frames_capacity count used : ℕ) (needed : EntryCounts) : Type 0 where
+  pub record IsFollowedByTooMany (bytes : List ℕ) (base : ℕ) (from : RecordPosition) (file : PerfFile) (records : List RecordView)
+      (capacity frames_capacity count used : ℕ) (needed : EntryCounts) : Type 0 where
     pub next : RecordView
     pub own : List A
     pub own_frames : List B
@@ -108,7 +42,8 @@ module _ {A B : Type 0} (kind : EntryKind A B) where
   -- The entries and frames are those of the records of a file from a position on, up to another position, by the attributes of the file.
   -- The page ends because the array of entries is full, or else because the next record adds more than fits, or because the records end.
   -- The first record of the input is at an offset.
-  pub record IsDecodedPage (bytes : List ℕ) (from : RecordPosition) (capacity frames_capacity : ℕ) (own : List A) (own_frames : List B) (result : PageResult) (next : RecordPosition) : Type 0 where
+  pub record IsDecodedPage (bytes : List ℕ) (from : RecordPosition) (capacity frames_capacity : ℕ) (own : List A) (own_frames : List B) (result : PageResult)
+      (next : RecordPosition) : Type 0 where
     pub records : List RecordView
     pub base : ℕ
     pub first_record_offset : ℕ
@@ -116,21 +51,26 @@ module _ {A B : Type 0} (kind : EntryKind A B) where
     pub records_capacity : ℕ
     pub end : Status
     pub page : IsPage bytes base from records_capacity records end next
-    pub are_entries : AreEntriesOf (kind.Adds (wants_frames frames_capacity)) (endian_of_file page.file) (λ _. attributes_of_file page.file) first_record_offset records own own_frames
+    pub are_entries : AreEntriesOf (kind.Adds (wants_frames frames_capacity)) (endian_of_file page.file)
+        (λ _. attributes_of_file page.file) first_record_offset records own own_frames
     pub ends :
         ((length own ≡ capacity) × (result ≡ page_result (length own) (length own_frames) Success))
-        ⊎ (((length own < capacity) × (needed : EntryCounts) × IsFollowedByTooMany bytes base from page.file records capacity frames_capacity (length own) (length own_frames) needed × ReportsNoSpace (length own) (length own_frames) needed result)
+        ⊎ (((length own < capacity) × (needed : EntryCounts)
+        × IsFollowedByTooMany bytes base from page.file records capacity frames_capacity (length own) (length own_frames) needed
+        × ReportsNoSpace (length own) (length own_frames) needed result)
         ⊎ ((length own < capacity) × (length records < records_capacity) × (result ≡ page_result (length own) (length own_frames) end)))
 
   -- The result for a page. If the file doesn't open, nothing is written, and the position is unchanged.
-  pub record ReadsDecodedPage (bytes : List ℕ) (from : RecordPosition) (entries : List A) (frames : List B) (result : PageResult) (next : RecordPosition) (entries' : List A) (frames' : List B) : Type 0 where
+  pub record ReadsDecodedPage (bytes : List ℕ) (from : RecordPosition) (entries : List A) (frames : List B) (result : PageResult) (next : RecordPosition)
+      (entries' : List A) (frames' : List B) : Type 0 where
     pub own : List A
     pub own_frames : List B
     pub fits : length own ≤ length entries
     pub written : entries' ≡ with_prefix own entries
     pub frames_fit : length own_frames ≤ length frames
     pub frames_written : frames' ≡ with_prefix own_frames frames
-    pub ends : ((own ≡ []) × (own_frames ≡ []) × (next ≡ from) × (result ≡ page_result 0 0 result.status) × FailsWithStatus result.status (IsFileError (at_start bytes)))
+    pub ends : ((own ≡ []) × (own_frames ≡ []) × (next ≡ from) × (result ≡ page_result 0 0 result.status)
+        × FailsWithStatus result.status (IsFileError (at_start bytes)))
         ⊎ IsDecodedPage bytes from (length entries) (length frames) own own_frames result next
 
   -- ---- a pipe
@@ -143,7 +83,8 @@ module _ {A B : Type 0} (kind : EntryKind A B) where
     pub is_pipe : IsPipeWithRecords bytes records file s
     pub first_record_offset : ℕ
     pub first_record_at : (records ≡ []) ⊎ (first_record_offset + length is_pipe.rest ≡ length bytes)
-    pub are_entries : AreEntriesOf (kind.Adds true) is_pipe.endian (λ before. attributes_in_records is_pipe.endian None is_pipe.metadata_records ++ attributes_in_views is_pipe.endian None before) first_record_offset records own own_frames
+    pub are_entries : AreEntriesOf (kind.Adds true) is_pipe.endian (λ before. attributes_in_records is_pipe.endian None is_pipe.metadata_records
+        ++ attributes_in_views is_pipe.endian None before) first_record_offset records own own_frames
 
   -- The result for a pipe: all is counted, and written up to the capacities. If the pipe doesn't open, there is nothing.
   pub record ReadsDecodedPipe (bytes : List ℕ) (entries : List A) (frames : List B) (result : PageResult) (entries' : List A) (frames' : List B) : Type 0 where

@@ -2,10 +2,10 @@
 use Rattle.std.specs.Prelude.{◌≡◌, ◌⊎◌, ℕ, ◌+◌, ◌-◌, false, List, length, bit_and, is_some, if◌then◌else◌, Option, None, Some}
 use Rattle.std.specs.Option.{unwrap_or}
 use Rattle.std.specs.declared.io.ErrorKind.{ErrorKind}
-use Rattle.perfdata_base.specs.Endian.{number_in}
-use Rattle.perfdata_base.specs.Raw.{bytes_of}
-use Rattle.perfdata_base.specs.declared.endian.Endianness.{Endianness}
-use Rattle.perfdata_base.specs.declared.raw.RawData.{RawData}
+use Rattle.perfdata_sources.specs.Endian.{number_in}
+use Rattle.perfdata_sources.specs.Raw.{bytes_of}
+use Rattle.perfdata_sources.specs.declared.endian.Endianness.{Endianness}
+use Rattle.perfdata_sources.specs.declared.raw.RawData.{RawData}
 use Rattle.perfdata_arrays.specs.declared.attrs.Attr.{Attr}
 use Rattle.perfdata_arrays.specs.declared.status.Status.{Status}
 use Rattle.perfdata_arrays.specs.declared.status.Status.TheVariants as status
@@ -176,4 +176,5 @@ format_of_attr order attr = record {
 abbrev pub ReadsDetails : EventFormat → List ℕ → SampleDetails → Status → SampleDetails → Type 0
 ReadsDetails format body old s new =
     ((s ≡ status.Success) × IsDetails format body new)
-    ⊎ (((s ≡ status.Truncated) × (new ≡ old) × IsDetailsError format body Truncated) ⊎ ((s ≡ status.Other) × (new ≡ old) × IsDetailsError format body UnknownFields))
+    ⊎ (((s ≡ status.Truncated) × (new ≡ old) × IsDetailsError format body Truncated)
+    ⊎ ((s ≡ status.Other) × (new ≡ old) × IsDetailsError format body UnknownFields))

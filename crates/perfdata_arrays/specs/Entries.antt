@@ -1,9 +1,9 @@
 -- The entries of the records of one kind, as plain numbers.
-use Rattle.std.specs.Prelude.{◌≡◌, ◌⊎◌, ℕ, ◌+◌, ◌<◌, ◌≤◌, Bool, true, false, List, [], ◌∷◌, length, Option, None, Some, Result, Ok, Err}
+use Rattle.std.specs.Prelude.{◌≡◌, ◌⊎◌, ℕ, ◌+◌, ◌<◌, Bool, true, false, List, [], ◌∷◌, length, Option, None, Some}
 use Rattle.std.specs.declared.io.ErrorKind.{ErrorKind}
-use Rattle.perfdata_base.specs.Raw.{bytes_of}
+use Rattle.perfdata_sources.specs.Raw.{bytes_of}
 use Rattle.perfdata_base.specs.declared.event.raw_event_record.RawEventRecord.{RawEventRecord}
-use Rattle.perfdata_base.specs.declared.endian.Endianness.{Endianness}
+use Rattle.perfdata_sources.specs.declared.endian.Endianness.{Endianness}
 use Rattle.linux_perf_data.specs.Attribute.{Attribute}
 use Rattle.linux_perf_data.specs.Layout.{RecordView}
 use Rattle.linux_perf_data.specs.RecordEntries.{or_zero}
@@ -11,9 +11,7 @@ use Rattle.perfdata_events.specs.Event.{IsParsed, ParseFails}
 use Rattle.perfdata_events.specs.declared.event.EventRecord.{EventRecord}
 use Rattle.perfdata_events.specs.declared.format.EventFormat.{EventFormat}
 use Rattle.perfdata_arrays.specs.Decoding.{EntryKind}
-use Rattle.perfdata_arrays.specs.Overwrites.{with_entries_at}
 use Rattle.perfdata_arrays.specs.SampleRecords.{format_of_event}
-use Rattle.perfdata_arrays.specs.declared.decoder.EntryCounts.{EntryCounts}
 use Rattle.perfdata_arrays.specs.declared.envelope.EntryEnvelope.{EntryEnvelope}
 
 -- a raw record with these fields
@@ -40,7 +38,8 @@ pub record FailsToParse (order : Endianness) (attrs : List Attribute) (h : Recor
   pub kind : ErrorKind
   pub fails : ParseFails format raw kind
 
-module _ {E : Type 0} (has_type : ℕ → Bool) (entries_of : EntryEnvelope → EventRecord → List E) (order : Endianness) (attrs : List Attribute) (base : ℕ) (h : RecordView) where
+module _ {E : Type 0} (has_type : ℕ → Bool) (entries_of : EntryEnvelope → EventRecord → List E) (order : Endianness) (attrs : List Attribute) (base : ℕ)
+    (h : RecordView) where
   -- the record is parsed by the format of its attribute, and these are its entries
   pub record ParsesEntries (entries : List E) : Type 0 where
     pub format : EventFormat
@@ -68,12 +67,8 @@ list_of (Some entry) = entry ∷ []
 abbrev pub event_kind : {E : Type 0} → (ℕ → Bool) → (EntryEnvelope → EventRecord → List E) → Bool → EntryKind E (Unit {0})
 event_kind has_type entries_of is_single = record {
   Adds = λ wants order attrs base used h entries frames. HasEntries has_type entries_of order attrs base h entries × (frames ≡ []);
-  Exceeds = λ capacity frames_capacity count used entries frames needed. (needed.entries ≡ length entries) × (needed.frames ≡ 0) × (capacity < count + length entries);
+  Exceeds = λ capacity frames_capacity count used entries frames needed. (needed.entries ≡ length entries) × (needed.frames ≡ 0)
+      × (capacity < count + length entries);
   AlwaysFits = λ frames_capacity. is_single ≡ true;
   after_frames = λ count entry. entry;
 }
-
--- The entries are written after the first elements, up to the capacity. If they don't fit, and not all are counted, nothing is written.
-abbrev pub AddsEntries : {E : Type 0} → List E → Bool → ℕ → List E → Result EntryCounts EntryCounts → List E → Type 0
-AddsEntries own counts_all count old (Ok added) new = (added.entries ≡ length own) × (added.frames ≡ 0) × (counts_all ≡ false → count + length own ≤ length old) × (new ≡ with_entries_at count own old)
-AddsEntries own counts_all count old (Err needed) new = (counts_all ≡ false) × (needed.entries ≡ length own) × (needed.frames ≡ 0) × (length old < count + length own) × (new ≡ old)

@@ -1,10 +1,9 @@
 -- The results for a feature's bytes.
-use Rattle.std.specs.Prelude.{◌≡◌, ℕ, List, length, Option, None, Some, Result}
+use Rattle.std.specs.Prelude.{◌≡◌, ℕ, List, length, Option, None, Some}
 use Rattle.linux_perf_data.specs.declared.perf_file.PerfFile.{PerfFile}
 use Rattle.linux_perf_data.specs.PerfFile.{feature_data_in_file}
 use Rattle.linux_perf_data.specs.RecordEntries.{with_prefix}
-use Rattle.perfdata_arrays.specs.Metadata.{ReportsFile, ReportsOf, ReportsPipe}
-use Rattle.perfdata_arrays.specs.declared.metadata.Metadata.{Metadata}
+use Rattle.perfdata_arrays.specs.Metadata.{ReportsFile, ReportsPipe}
 use Rattle.perfdata_arrays.specs.declared.features.FeatureResult.{FeatureResult}
 use Rattle.perfdata_arrays.specs.declared.status.Status.{Status}
 
@@ -20,9 +19,6 @@ CopiesFeatureOf n old outcome new file status = (outcome.status ≡ status) × C
 
 abbrev pub CopiesNothing : List ℕ → FeatureResult → List ℕ → Status → Type 0
 CopiesNothing old outcome new status = (outcome.status ≡ status) × CopiesFeature None old outcome new
-
-abbrev pub ReadsFeature : Result Metadata Status → ℕ → List ℕ → FeatureResult → List ℕ → Type 0
-ReadsFeature read n old outcome new = ReportsOf (CopiesFeatureOf n old outcome new) (CopiesNothing old outcome new) read
 
 -- The result for a feature of a file: the bytes of its section. If the file doesn't open, nothing is written.
 abbrev pub ReadsFileFeature : List ℕ → ℕ → List ℕ → FeatureResult → List ℕ → Type 0

@@ -1,11 +1,11 @@
 -- The results for a jitdump in memory: its header, its records, a load record.
 use Rattle.std.specs.Prelude.{◌≡◌, ◌≢◌, ◌⊎◌, ℕ, ◌+◌, ◌<◌, ◌≤◌, max, List, [], ◌∷◌, ◌++◌, length, take, drop, Option, None, Some, Result, Ok, Err}
 use Rattle.std.specs.List.{concat}
-use Rattle.perfdata_base.specs.declared.endian.Endianness.{Endianness}
-use Rattle.perfdata_base.specs.declared.endian.Endianness.TheVariants.{LittleEndian, BigEndian}
+use Rattle.perfdata_sources.specs.declared.endian.Endianness.{Endianness}
+use Rattle.perfdata_sources.specs.declared.endian.Endianness.TheVariants.{LittleEndian, BigEndian}
 use Rattle.perfdata_jit.specs.RecordBytes.{record_header_at, AreRecords, HasNoWholeRecord, HasInvalidSize, IsOneRecord}
-use Rattle.perfdata_base.specs.Endian.{number_in}
-use Rattle.perfdata_base.specs.Raw.{bytes_of}
+use Rattle.perfdata_sources.specs.Endian.{number_in}
+use Rattle.perfdata_sources.specs.Raw.{bytes_of}
 use Rattle.perfdata_jit.specs.JitRecords.{IsLoad, IsLoadError}
 use Rattle.perfdata_jit.specs.declared.records.JitCodeLoadRecord.{JitCodeLoadRecord}
 use Rattle.std.specs.declared.io.Error.{Error}
@@ -30,11 +30,6 @@ header_window bytes = take 4096 bytes
 -- the prefix isn't a header, and the status is that of the error
 abbrev pub HasHeaderError : List ℕ → Status → Type 0
 HasHeaderError bytes status = (e : JitDumpError) × (status ≡ jit_error_status e) × IsJitHeaderError (header_window bytes) e
-
--- the result of parsing the header
-abbrev pub ParsesJitHeader : List ℕ → Result (JitDumpHeader × Endianness) Status → Type 0
-ParsesJitHeader bytes (Ok h) = IsJitHeader h.1 (header_window bytes) h.0
-ParsesJitHeader bytes (Err status) = HasHeaderError bytes status
 
 abbrev pub endian_number_of : Endianness → ℕ
 endian_number_of LittleEndian = 0
@@ -64,7 +59,12 @@ ReadsJitHeader bytes old status new =
 module _ (endian : Endianness) where
   -- the entry of the record with these bytes, which starts at the offset
   abbrev pub jit_entry : ℕ → List ℕ → JitRecord
-  jit_entry offset raw = record { offset = offset; timestamp = (record_header_at endian raw).timestamp; record_type = (record_header_at endian raw).record_type.0; size = (record_header_at endian raw).total_size }
+  jit_entry offset raw = record {
+    offset = offset;
+    timestamp = (record_header_at endian raw).timestamp;
+    record_type = (record_header_at endian raw).record_type.0;
+    size = (record_header_at endian raw).total_size;
+  }
 
   -- the entries of consecutive records
   abbrev pub jit_entries : ℕ → List (List ℕ) → List JitRecord
@@ -85,7 +85,8 @@ module _ (endian : Endianness) where
 
   -- These records follow one another from an offset on. Their entries are written as a prefix of an array, which has capacity for
   -- all of them. `next` is the offset after them.
-  pub record WritesJitRecords (bytes : List ℕ) (from : ℕ) (raw_records : List (List ℕ)) (old : List JitRecord) (count next : ℕ) (new : List JitRecord) : Type 0 where
+  pub record WritesJitRecords (bytes : List ℕ) (from : ℕ) (raw_records : List (List ℕ)) (old : List JitRecord) (count next : ℕ)
+      (new : List JitRecord) : Type 0 where
     pub counted : count ≡ length raw_records
     pub next_offset_is : next ≡ from + length (concat raw_records)
     pub split : drop from bytes ≡ concat raw_records ++ drop next bytes

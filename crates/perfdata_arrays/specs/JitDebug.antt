@@ -4,9 +4,9 @@ use Rattle.std.specs.IoError.{error_kind}
 use Rattle.std.specs.declared.io.Error.{Error}
 use Rattle.std.specs.declared.io.ErrorKind.{ErrorKind}
 use Rattle.std.specs.declared.io.ErrorKind.TheVariants as kind
-use Rattle.perfdata_base.specs.Endian.{number_in}
-use Rattle.perfdata_base.specs.Raw.{bytes_of}
-use Rattle.perfdata_base.specs.declared.endian.Endianness.{Endianness}
+use Rattle.perfdata_sources.specs.Endian.{number_in}
+use Rattle.perfdata_sources.specs.Raw.{bytes_of}
+use Rattle.perfdata_sources.specs.declared.endian.Endianness.{Endianness}
 use Rattle.perfdata_jit.specs.JitRecords.{IsDebugInfo, IsDebugInfoError}
 use Rattle.perfdata_jit.specs.declared.records.JitCodeDebugInfoEntry.{JitCodeDebugInfoEntry}
 use Rattle.perfdata_jit.specs.declared.records.JitCodeDebugInfoRecord.{JitCodeDebugInfoRecord}
@@ -33,11 +33,6 @@ debug_entry_at offset e = record {
 abbrev pub after_debug_entry : ℕ → JitCodeDebugInfoEntry → ℕ
 after_debug_entry offset e = offset + 16 + length (bytes_of e.file_path) + 1
 
--- the offset after consecutive source locations
-abbrev pub debug_end : ℕ → List JitCodeDebugInfoEntry → ℕ
-debug_end offset [] = offset
-debug_end offset (e ∷ es) = debug_end (after_debug_entry offset e) es
-
 -- the entries of consecutive source locations
 abbrev pub debug_entries_at : ℕ → List JitCodeDebugInfoEntry → List JitDebugEntry
 debug_entries_at offset [] = []
@@ -61,7 +56,8 @@ no_debug_info_with status = record { code_address = 0; count = 0; status = statu
 
 -- The record at an offset has this body, which is this debug info. Its entries are written, up to the capacity of the array, and
 -- counted. Its paths are at the offsets in its entries.
-pub record WritesDebugInfo (endian : Endianness) (bytes : List ℕ) (at : ℕ) (body : List ℕ) (old : List JitDebugEntry) (result : JitDebugInfoResult) (new : List JitDebugEntry) : Type 0 where
+pub record WritesDebugInfo (endian : Endianness) (bytes : List ℕ) (at : ℕ) (body : List ℕ) (old : List JitDebugEntry) (result : JitDebugInfoResult)
+    (new : List JitDebugEntry) : Type 0 where
   pub info : JitCodeDebugInfoRecord
   pub is : IsDebugInfo (number_in endian) body info
   pub address : result.code_address ≡ info.code_addr

@@ -5,7 +5,6 @@ pub mod Records
 pub mod Opening
 pub mod Metadata
 pub mod Sorting
-pub mod Walk
 pub mod Jit
 pub mod JitBodies
 pub mod JitDebug
@@ -29,3 +28,4 @@ pub mod Entries
 pub mod Tasks
 pub mod Mappings
 pub mod Counters
+pub mod steps

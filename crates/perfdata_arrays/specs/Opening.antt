@@ -1,6 +1,6 @@
 -- The opening of a recording in memory.
 use Rattle.std.specs.Prelude.{ℕ, List, Result, Ok, Err}
-use Rattle.perfdata_base.specs.Source.{at_start}
+use Rattle.perfdata_sources.specs.Source.{at_start}
 use Rattle.linux_perf_data.specs.FileOpening.{IsFileError}
 use Rattle.linux_perf_data.specs.InMemoryPositions.{ParsesFileAt}
 use Rattle.linux_perf_data.specs.InMemoryReading.{ParsesPipeInMemory}

@@ -12,4 +12,5 @@ with_entries_at at entries old = take at old ++ with_prefix entries (drop at old
 
 -- If the array contains the entries from index `first` on up to `index`, it also contains the entry of `index` afterwards.
 abbrev pub WritesOneMore : {T : Type 0} → ℕ → ℕ → T → List T → List T → Type 0
-WritesOneMore {T} start index entry old new = (entries before : List T) → index ≡ length entries → old ≡ with_prefix_from start entries before → new ≡ with_prefix_from start (entries ++ entry ∷ []) before
+WritesOneMore {T} start index entry old new = (entries before : List T) → index ≡ length entries → old ≡ with_prefix_from start entries before
+    → new ≡ with_prefix_from start (entries ++ entry ∷ []) before

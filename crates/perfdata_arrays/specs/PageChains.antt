@@ -43,7 +43,8 @@ HasMemory call = call.result.status ≢ OutOfMemory
 -- A chain writes the same entries as one call with capacity for them, and ends at the same position. If the call has capacity for
 -- more, it ends with the same status.
 abbrev pub ChainIsOnePage : Type 0
-ChainIsOnePage = (bytes : List ℕ) (from : RecordPosition) (calls : List PageCall) (last whole : PageCall) → IsChain bytes from calls last → IsCallAt bytes from whole →
+ChainIsOnePage =
+    (bytes : List ℕ) (from : RecordPosition) (calls : List PageCall) (last whole : PageCall) → IsChain bytes from calls last → IsCallAt bytes from whole →
     length (chain_entries calls last) ≤ length whole.before → HasMemory last → HasMemory whole →
     (whole.result.count ≡ length (chain_entries calls last)) × (written_entries whole ≡ chain_entries calls last) × (whole.next ≡ last.next)
     × (length (chain_entries calls last) < length whole.before → whole.result.status ≡ last.result.status)

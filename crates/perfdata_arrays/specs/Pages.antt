@@ -1,41 +1,20 @@
 -- The records of a file in pages: a call writes the records from a position on, and moves the position past them.
-use Rattle.std.specs.Prelude.{◌≡◌, ◌⊎◌, ℕ, ◌+◌, ◌^◌, ◌≤◌, ◌<◌, List, [], ◌∷◌, ◌++◌, length, Ok}
-use Rattle.perfdata_base.specs.Source.{at_start}
+use Rattle.std.specs.Prelude.{◌≡◌, ◌⊎◌, ℕ, ◌+◌, ◌^◌, ◌≤◌, ◌<◌, List, [], ◌∷◌, ◌++◌, length}
+use Rattle.perfdata_sources.specs.Source.{at_start}
 use Rattle.perfdata_base.specs.declared.header.PerfHeader.{PerfHeader}
-use Rattle.linux_perf_data.specs.declared.in_memory.InMemoryRecords.{InMemoryRecords}
 use Rattle.linux_perf_data.specs.declared.in_memory.position.RecordPosition.{RecordPosition}
 use Rattle.linux_perf_data.specs.declared.perf_file.PerfFile.{PerfFile}
 use Rattle.linux_perf_data.specs.FileOpening.{IsFileError}
-use Rattle.linux_perf_data.specs.InMemoryPositions.{FileRecordsFrom, position_of, round_at}
-use Rattle.linux_perf_data.specs.InMemoryReading.{NeedsMemoryInPipeOnly, ReturnsRecordsInMemory, first_record_offset_of, input_of}
+use Rattle.linux_perf_data.specs.InMemoryPositions.{FileRecordsFrom, round_at}
 use Rattle.linux_perf_data.specs.Layout.{LayoutEnd, LayoutError, RecordView, ends_complete, ends_with_error, truncated_header, size_below_header, end_overflows, truncated_body, compressed_record, aux_body_too_short, aux_end_overflows, truncated_aux_data}
 use Rattle.linux_perf_data.specs.OpenedFile.{DescribesFile}
 use Rattle.linux_perf_data.specs.PerfFile.{attributes_of_file, endian_of_file}
 use Rattle.linux_perf_data.specs.Reading.{end_after}
-use Rattle.linux_perf_data.specs.RecordEntries.{with_prefix, HasBodiesAt, record_entries_at}
 use Rattle.perfdata_arrays.specs.Records.{FailsWithStatus, WritesRecords}
-use Rattle.perfdata_arrays.specs.Walk.{WalkEnds}
 use Rattle.linux_perf_data.specs.declared.in_memory.entries.RecordEntry.{RecordEntry}
-use Rattle.perfdata_arrays.specs.declared.records.PageWalk.{PageWalk}
 use Rattle.perfdata_arrays.specs.declared.records.RecordsResult.{RecordsResult}
 use Rattle.perfdata_arrays.specs.declared.status.Status.{Status}
 use Rattle.perfdata_arrays.specs.declared.status.Status.TheVariants.{BadRecordSize, Compressed, Other, Success, Truncated, TruncatedRecord}
-
--- ---- a walk
-
--- The walk returns these records, and writes and counts their entries. It stops when the array is full, at the end of the records,
--- or at an error. The next position is after the last of the records.
-pub record WalksPage (old : InMemoryRecords) (file : PerfFile) (before : List RecordEntry) (walked : PageWalk) (new : InMemoryRecords) (file' : PerfFile) (after : List RecordEntry) : Type 0 where
-  pub records : List RecordView
-  pub input_at_end : InMemoryRecords
-  pub file_at_end : PerfFile
-  pub returned : ReturnsRecordsInMemory old file records input_at_end file_at_end
-  pub next : walked.next ≡ position_of input_at_end
-  pub count : walked.count ≡ length records
-  pub fits : length records ≤ length before
-  pub written : after ≡ with_prefix (record_entries_at (first_record_offset_of old) records) before
-  pub body_bytes_at : HasBodiesAt (input_of old) (first_record_offset_of old) records
-  pub ends : ((walked.end ≡ Ok tt) × (length records ≡ length before)) ⊎ ((length records < length before) × WalkEnds input_at_end.records file_at_end walked.end new.records file' × NeedsMemoryInPipeOnly input_at_end walked.end)
 
 -- ---- positions
 
@@ -69,38 +48,47 @@ layout_end_status (ends_with_error f) = layout_error_status f
 
 -- These are the records of a file from a position on, up to the position after the last of them. Either there are as many as the
 -- array has elements, or there are fewer, the records end at that position, and the status is that of their end.
-pub record IsPage (bytes : List ℕ) (base : ℕ) (from : RecordPosition) (capacity : ℕ) (records : List RecordView) (status : Status) (next : RecordPosition) : Type 0 where
+pub record IsPage (bytes : List ℕ) (base : ℕ) (from : RecordPosition) (capacity : ℕ) (records : List RecordView) (status : Status)
+    (next : RecordPosition) : Type 0 where
   pub file : PerfFile
   pub header : PerfHeader
   pub describes : DescribesFile (at_start bytes) header file
   pub first_record_at : base ≡ header.data_section.offset
   -- remaining(from) = records ++ remaining(next)
-  pub extends_remaining : (rest : List RecordView) (end : LayoutEnd) → FileRecordsFrom bytes (endian_of_file file) header next (attributes_of_file file) rest end
+  pub extends_remaining : (rest : List RecordView) (end : LayoutEnd)
+      → FileRecordsFrom bytes (endian_of_file file) header next (attributes_of_file file) rest end
       → FileRecordsFrom bytes (endian_of_file file) header from (attributes_of_file file) (records ++ rest) end
   pub ends : ((status ≡ Success) × (length records ≡ capacity))
-      ⊎ ((length records < capacity) × ((end : LayoutEnd) × FileRecordsFrom bytes (endian_of_file file) header next (attributes_of_file file) [] end × (status ≡ layout_end_status end)))
+      ⊎ ((length records < capacity) × ((end : LayoutEnd) × FileRecordsFrom bytes (endian_of_file file) header next (attributes_of_file file) [] end
+      × (status ≡ layout_end_status end)))
   pub next_position : next ≡ position_after from records
   pub next_fits : next.offset < 2 ^ 64
   pub next_round_fits : next.round ≤ next.offset
 
 -- The result for a page. If the file doesn't open, no record is written, and the position is unchanged.
-pub record ReadsFilePage (bytes : List ℕ) (from : RecordPosition) (old : List RecordEntry) (result : RecordsResult) (next : RecordPosition) (new : List RecordEntry) : Type 0 where
+pub record ReadsFilePage (bytes : List ℕ) (from : RecordPosition) (old : List RecordEntry) (result : RecordsResult) (next : RecordPosition)
+    (new : List RecordEntry) : Type 0 where
   pub records : List RecordView
   pub base : ℕ
   pub writes : WritesRecords bytes base 0 records old result new
   pub fits : length records ≤ length old
-  pub ends : ((records ≡ []) × (next ≡ from) × FailsWithStatus result.status (IsFileError (at_start bytes))) ⊎ IsPage bytes base from (length old) records result.status next
+  pub ends : ((records ≡ []) × (next ≡ from) × FailsWithStatus result.status (IsFileError (at_start bytes)))
+      ⊎ IsPage bytes base from (length old) records result.status next
 
 -- ---- laws of pages
 
 -- A full page and the next page are one page of an array for both.
 abbrev pub PagesJoin : Type 0
-PagesJoin = (bytes : List ℕ) (base later_base capacity later_capacity : ℕ) (from middle next : RecordPosition) (records later : List RecordView) (status : Status) →
-    IsPage bytes base from capacity records Success middle → length records ≡ capacity → IsPage bytes later_base middle later_capacity later status next → IsPage bytes base from (capacity + later_capacity) (records ++ later) status next
+PagesJoin =
+    (bytes : List ℕ) (base later_base capacity later_capacity : ℕ) (from middle next : RecordPosition) (records later : List RecordView) (status : Status) →
+    IsPage bytes base from capacity records Success middle → length records ≡ capacity → IsPage bytes later_base middle later_capacity later status next
+    → IsPage bytes base from (capacity + later_capacity) (records ++ later) status next
 
 -- The records from a position on, the status and the next position are determined by the capacity, or by any capacity above the
 -- number of records.
 abbrev pub PageIsUnique : Type 0
-PageIsUnique = (bytes : List ℕ) (base base' capacity capacity' : ℕ) (from next next' : RecordPosition) (records records' : List RecordView) (status status' : Status) →
+PageIsUnique =
+    (bytes : List ℕ) (base base' capacity capacity' : ℕ) (from next next' : RecordPosition) (records records' : List RecordView) (status status' : Status) →
     (capacity ≡ capacity') ⊎ ((length records < capacity) × (length records' < capacity')) →
-    IsPage bytes base from capacity records status next → IsPage bytes base' from capacity' records' status' next' → (records ≡ records') × (status ≡ status') × (base ≡ base') × (next ≡ next')
+    IsPage bytes base from capacity records status next → IsPage bytes base' from capacity' records' status' next'
+    → (records ≡ records') × (status ≡ status') × (base ≡ base') × (next ≡ next')

@@ -1,6 +1,6 @@
 -- The entries of records, and the result for the records of a whole input.
 use Rattle.std.specs.Prelude.{◌≡◌, ◌≢◌, ◌⊎◌, ℕ, ◌+◌, List, [], ◌++◌, length, drop, None}
-use Rattle.perfdata_base.specs.declared.endian.Endianness.{Endianness}
+use Rattle.perfdata_sources.specs.declared.endian.Endianness.{Endianness}
 use Rattle.perfdata_sections.specs.declared.error.Error.{Error}
 use Rattle.perfdata_sections.specs.declared.error.Error.TheVariants.{Memory}
 use Rattle.linux_perf_data.specs.declared.perf_file.PerfFile.{PerfFile}
@@ -40,13 +40,15 @@ pub record FollowedByMetadata (order : Endianness) (bytes : List ℕ) (records :
 abbrev pub EndsWithStatus : (List RecordView → LayoutEnd → Type 0) → (List RecordView → Type 0) → List RecordView → Status → Type 0
 EndsWithStatus Come MayNeedMemory records status =
     ((status ≡ Success) × Come records ends_complete)
-    ⊎ (AreFirstRecords Come records × ((e : Error) × (status ≡ error_status e) × (e ≡ Memory → MayNeedMemory records) × (e ≢ Memory → (f : LayoutError) × Come records (ends_with_error f) × IsErrorFor f e)))
+    ⊎ (AreFirstRecords Come records × ((e : Error) × (status ≡ error_status e) × (e ≡ Memory → MayNeedMemory records)
+    × (e ≢ Memory → (f : LayoutError) × Come records (ends_with_error f) × IsErrorFor f e)))
 
 -- ---- the arrays
 
 -- The entries of the records from index `first` on are written, up to the capacity of the array. `count` is the number of all
 -- records. Their bodies are at the offsets in their entries.
-pub record WritesRecords (bytes : List ℕ) (base start : ℕ) (records : List RecordView) (old : List RecordEntry) (total : RecordsResult) (new : List RecordEntry) : Type 0 where
+pub record WritesRecords (bytes : List ℕ) (base start : ℕ) (records : List RecordView) (old : List RecordEntry) (total : RecordsResult)
+    (new : List RecordEntry) : Type 0 where
   pub count : total.count ≡ length records
   pub written : new ≡ with_prefix_from start (record_entries_at base records) old
   pub body_bytes_at : HasBodiesAt bytes base records
@@ -61,7 +63,8 @@ pub record IsPipeWithRecords (bytes : List ℕ) (records : List RecordView) (fil
   pub rest : List ℕ
   pub has_opening : BeginsPipe endian metadata_records bytes rest
   pub after_opening : EndsMetadata endian rest
-  pub ends : EndsWithStatus (RemainingRecords endian rest None 0 0 (attributes_in_records endian None metadata_records)) (FollowedByMetadata endian rest) records status
+  pub ends : EndsWithStatus (RemainingRecords endian rest None 0 0 (attributes_in_records endian None metadata_records))
+      (FollowedByMetadata endian rest) records status
   pub file_matches : HoldsAllMetadata endian metadata_records records file
 
 -- a pipe whose first record after the opening is at offset `base`

@@ -1,17 +1,16 @@
 -- The samples of records and their frames.
-use Rattle.std.specs.Prelude.{◌≡◌, ℕ, ◌+◌, ◌-◌, ◌^◌, ◌<◌, ◌≤◌, ◌==◌, Bool, true, false, List, [], ◌∷◌, length, min, slice_get, if◌then◌else◌, Option, None, Some, Result, Ok, Err}
+use Rattle.std.specs.Prelude.{◌≡◌, ℕ, ◌+◌, ◌-◌, ◌^◌, ◌<◌, ◌==◌, Bool, true, false, List, [], ◌∷◌, length, min, slice_get, if◌then◌else◌, Option, None, Some}
 use Rattle.std.specs.Option.{option_map}
-use Rattle.perfdata_base.specs.Raw.{bytes_of}
-use Rattle.perfdata_base.specs.declared.endian.Endianness.{Endianness}
+use Rattle.perfdata_sources.specs.Raw.{bytes_of}
+use Rattle.perfdata_sources.specs.declared.endian.Endianness.{Endianness}
 use Rattle.linux_perf_data.specs.Attribute.{Attribute, EventRef}
 use Rattle.linux_perf_data.specs.Layout.{RecordView}
 use Rattle.linux_perf_data.specs.RecordEntries.{attr_index_or_zero}
-use Rattle.perfdata_arrays.specs.Overwrites.{with_entries_at}
 use Rattle.perfdata_events.specs.CallChain.{chain_values_of}
 use Rattle.perfdata_events.specs.EventFormat.{event_format_of}
 use Rattle.perfdata_events.specs.declared.format.EventFormat.{EventFormat}
 use Rattle.linux_perf_data.specs.declared.in_memory.position.RecordPosition.{RecordPosition}
-use Rattle.perfdata_base.specs.declared.place.parse_info.RecordParseInfo.{RecordParseInfo}
+use Rattle.perfdata_identifiers.specs.declared.place.parse_info.RecordParseInfo.{RecordParseInfo}
 use Rattle.perfdata_arrays.specs.Bodies.{IsBody}
 use Rattle.perfdata_arrays.specs.DecodedPages.{ReadsDecodedPage, ReadsDecodedPipe}
 use Rattle.perfdata_arrays.specs.Decoding.{EntryKind}
@@ -83,18 +82,6 @@ module _ (order : Endianness) (attrs : List Attribute) where
   ArePartsOf h None = sample_format_of h ≡ None
   ArePartsOf h (Some parts) = HasParts h parts
 
--- ---- the frames of a sample
-
--- The frames don't fit after `used` elements of an array with this capacity, and not all are counted.
-abbrev pub ExceedsFrames : List FrameEntry → Bool → ℕ → ℕ → Option ℕ → Type 0
-ExceedsFrames own counts_all capacity used None = counts_all ≡ false → used + length own ≤ capacity
-ExceedsFrames own counts_all capacity used (Some count) = (counts_all ≡ false) × (count ≡ length own) × (capacity < used + count)
-
--- The frames are written after the first elements, up to the capacity. If they don't fit, and not all are counted, nothing is written.
-abbrev pub AddsFrames : List FrameEntry → Bool → ℕ → List FrameEntry → Result ℕ ℕ → List FrameEntry → Type 0
-AddsFrames own counts_all used old (Ok count) new = (count ≡ length own) × (counts_all ≡ false → used + length own ≤ length old) × (new ≡ with_entries_at used own old)
-AddsFrames own counts_all used old (Err count) new = (counts_all ≡ false) × (count ≡ length own) × (length old < used + length own) × (new ≡ old)
-
 -- ---- what records add
 
 -- What a record adds to samples and frames.
@@ -111,7 +98,8 @@ after_frames count sample = record sample { frames_start = count + sample.frames
 abbrev pub sample_kind : EntryKind Sample FrameEntry
 sample_kind = record {
   Adds = λ wants order attrs base used h samples frames. AddsOf order attrs wants used h samples frames;
-  Exceeds = λ capacity frames_capacity count used samples frames needed. (needed.entries ≡ 0) × (needed.frames ≡ length frames) × (frames_capacity < used + length frames);
+  Exceeds = λ capacity frames_capacity count used samples frames needed. (needed.entries ≡ 0) × (needed.frames ≡ length frames)
+      × (frames_capacity < used + length frames);
   AlwaysFits = λ frames_capacity. frames_capacity ≡ 0;
   after_frames = after_frames;
 }

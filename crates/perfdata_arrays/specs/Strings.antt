@@ -1,7 +1,7 @@
 -- The result for a string of a feature section.
 use Rattle.std.specs.Prelude.{◌≡◌, ◌⊎◌, ℕ, ◌+◌, List, length, drop}
-use Rattle.perfdata_base.specs.Endian.{number_in}
-use Rattle.perfdata_base.specs.declared.endian.Endianness.{Endianness}
+use Rattle.perfdata_sources.specs.Endian.{number_in}
+use Rattle.perfdata_sources.specs.declared.endian.Endianness.{Endianness}
 use Rattle.linux_perf_data.specs.Values.{BeginsWithString, string_text}
 use Rattle.linux_perf_data.specs.RecordEntries.{HasBytesAt}
 use Rattle.perfdata_arrays.specs.declared.status.Status.{Status}
@@ -20,5 +20,6 @@ string_entry endian section at = record {
 -- is unchanged.
 abbrev pub ReadsString : Endianness → List ℕ → ℕ → StringEntry → Status → StringEntry → Type 0
 ReadsString endian section at old status new =
-    ((status ≡ Success) × BeginsWithString endian (drop at section) × HasBytesAt section (at + 4) (string_text endian (drop at section)) × (new ≡ string_entry endian section at))
+    ((status ≡ Success) × BeginsWithString endian (drop at section) × HasBytesAt section (at + 4) (string_text endian (drop at section))
+    × (new ≡ string_entry endian section at))
     ⊎ ((status ≡ Truncated) × (¬ BeginsWithString endian (drop at section)) × (new ≡ old))

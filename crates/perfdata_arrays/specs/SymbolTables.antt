@@ -1,16 +1,13 @@
 -- The results for simpleperf's symbol tables: files with their symbols, names and DEX offsets.
-use Rattle.std.specs.Prelude.{◌≡◌, ◌≢◌, ◌⊎◌, ℕ, ◌+◌, ◌^◌, ◌≤◌, List, [], ◌∷◌, ◌++◌, length, flat_map, map, Option, None, Some, Result, Ok, Err, Vec}
-use Rattle.std.specs.declared.alloc.Global.{Global}
+use Rattle.std.specs.Prelude.{◌≡◌, ◌≢◌, ◌⊎◌, ℕ, ◌+◌, ◌^◌, ◌≤◌, List, [], ◌∷◌, ◌++◌, length, flat_map}
 use Rattle.std.specs.declared.io.ErrorKind.{ErrorKind}
-use Rattle.perfdata_base.specs.declared.endian.Endianness.{Endianness}
+use Rattle.perfdata_sources.specs.declared.endian.Endianness.{Endianness}
 use Rattle.perfdata_sections.specs.declared.decode_error.DecodeError.{DecodeError}
 use Rattle.perfdata_sections.specs.declared.error.Error.{Error}
-use Rattle.perfdata_sections.specs.declared.error.Error.TheVariants.{Memory}
 use Rattle.perfdata_simpleperf.specs.Chunks.{ChunkError}
 use Rattle.perfdata_simpleperf.specs.File2.{IsFile2Of, File2Error, ReportsFile2Error}
-use Rattle.perfdata_simpleperf.specs.FileRecord.{FileValue, Info, SymbolValue, dex_file, elf_file, kernel_module, no_info, record_value}
+use Rattle.perfdata_simpleperf.specs.FileRecord.{FileValue, Info, SymbolValue, dex_file, elf_file, kernel_module, no_info}
 use Rattle.perfdata_simpleperf.specs.FileSection.{IsFileSectionOf, FileSectionError, ReportsFileSectionError}
-use Rattle.perfdata_simpleperf.specs.declared.simpleperf.file_record.SimpleperfFileRecord.{SimpleperfFileRecord}
 use Rattle.linux_perf_data.specs.FeatureNumbers.{simpleperf_file2}
 use Rattle.linux_perf_data.specs.RecordEntries.{with_prefix}
 use Rattle.perfdata_arrays.specs.Records.{FailsWithStatus}
@@ -24,18 +21,14 @@ use Rattle.perfdata_arrays.specs.declared.symbol_tables.SymbolTotals.{SymbolTota
 
 -- The section contains these files. It is section FILE2 if the number is that of its feature, and otherwise section FILE.
 abbrev pub IsSymbolSection : ℕ → Endianness → List ℕ → List FileValue → Type 0
-IsSymbolSection feature endian section vs = ((feature ≡ simpleperf_file2) × IsFile2Of endian section vs) ⊎ ((feature ≢ simpleperf_file2) × IsFileSectionOf endian section vs)
+IsSymbolSection feature endian section vs =
+    ((feature ≡ simpleperf_file2) × IsFile2Of endian section vs) ⊎ ((feature ≢ simpleperf_file2) × IsFileSectionOf endian section vs)
 
 -- an error reports the section's first error
 abbrev pub SymbolSectionError : ℕ → Endianness → List ℕ → Error → Type 0
 SymbolSectionError feature endian section e =
     ((feature ≡ simpleperf_file2) × ((f : ChunkError DecodeError) × File2Error endian section f × ReportsFile2Error f e))
     ⊎ ((feature ≢ simpleperf_file2) × ((f : ChunkError ErrorKind) × FileSectionError endian section f × ReportsFileSectionError f e))
-
--- the result of parsing the section; memory may run out at any file
-abbrev pub ParsesSymbolTables : ℕ → Endianness → List ℕ → Result (Vec SimpleperfFileRecord Global) Error → Type 0
-ParsesSymbolTables feature endian section (Ok v) = IsSymbolSection feature endian section (map record_value v.items)
-ParsesSymbolTables feature endian section (Err e) = (e ≡ Memory) ⊎ SymbolSectionError feature endian section e
 
 -- ---- entries
 
@@ -120,23 +113,11 @@ abbrev pub all_symbols_at : SymbolTotals → List FileValue → List Symbol
 all_symbols_at t [] = []
 all_symbols_at t (v ∷ vs) = symbol_entries_at (t.names_size + length v.path) v.symbol ++ all_symbols_at (totals_after t v) vs
 
--- ---- totals that fit
-
--- the size of the names, or `None` if it doesn't fit in 64 bits
-abbrev pub IsCheckedNamesSize : List SymbolValue → Option ℕ → Type 0
-IsCheckedNamesSize symbols (Some size) = size ≡ length (symbol_names symbols)
-IsCheckedNamesSize symbols None = 2 ^ 64 ≤ length (symbol_names symbols)
-
 -- a total with one more file doesn't fit in 64 bits
 abbrev pub ExceedsU64 : SymbolTotals → FileValue → Type 0
 ExceedsU64 t v =
     (2 ^ 64 ≤ (totals_after t v).file_count)
     ⊎ ((2 ^ 64 ≤ (totals_after t v).symbol_count) ⊎ ((2 ^ 64 ≤ (totals_after t v).names_size) ⊎ (2 ^ 64 ≤ (totals_after t v).dex_offset_count)))
-
--- the totals with one more file, or `None` if one of them doesn't fit in 64 bits
-abbrev pub AreNextTotals : SymbolTotals → FileValue → Option SymbolTotals → Type 0
-AreNextTotals t v (Some next) = next ≡ totals_after t v
-AreNextTotals t v None = ExceedsU64 t v
 
 -- ---- the arrays
 
@@ -167,7 +148,8 @@ pub record WritesFilesOrPrefix (all : List FileValue) (old : SymbolArrays) (resu
 
 -- The result for the files of a section. If the section has an error, nothing is written. The files of a valid section are written,
 -- and no others, unless memory runs out.
-pub record ReadsSymbolTables (feature : ℕ) (endian : Endianness) (section : List ℕ) (old : SymbolArrays) (result : SymbolTablesResult) (new : SymbolArrays) : Type 0 where
+pub record ReadsSymbolTables (feature : ℕ) (endian : Endianness) (section : List ℕ) (old : SymbolArrays) (result : SymbolTablesResult)
+    (new : SymbolArrays) : Type 0 where
   pub outcome : ((vs : List FileValue) × IsSymbolSection feature endian section vs × WritesFilesOrPrefix vs old result new)
       ⊎ (FailsWithStatus result.status (SymbolSectionError feature endian section) × (result.totals ≡ zero_totals) × (new ≡ old))
   pub valid : (vs : List FileValue) → IsSymbolSection feature endian section vs → WritesFilesOrPrefix vs old result new ⊎ (result.status ≡ OutOfMemory)

@@ -1,6 +1,6 @@
 -- The records on tasks, as plain numbers.
 use Rattle.std.specs.Prelude.{ℕ, ◌+◌, ◌==◌, ◌||◌, Bool, true, false, List, [], length, pos, Option, None, Some}
-use Rattle.perfdata_base.specs.Raw.{bytes_of}
+use Rattle.perfdata_sources.specs.Raw.{bytes_of}
 use Rattle.perfdata_events.specs.declared.event.EventRecord.{EventRecord}
 use Rattle.perfdata_events.specs.declared.event.EventRecord.TheVariants as event
 use Rattle.perfdata_events.specs.declared.task.CommOrExecRecord.{CommOrExecRecord}

@@ -1,6 +1,7 @@
 //! The attributes of a perf.data file or pipe, with their names and IDs.
 ghost use Rattle.std.specs.Prelude.{◌≡◌};
-ghost use Rattle.perfdata_arrays.specs.Attrs.{AreEndOffsets, ReadsAttrs, ReadsFileAttrs, ReadsPipeAttrs};
+ghost use Rattle.perfdata_arrays.specs.Attrs.{ReadsFileAttrs, ReadsPipeAttrs};
+ghost use Rattle.perfdata_arrays.specs.steps.Attrs.{AreEndOffsets, ReadsAttrs};
 ghost use Rattle.perfdata_arrays.specs.Attrs.{WritesAttrsOrPrefix, attr_entry_at, has_name_number};
 ghost use Rattle.perfdata_arrays.specs.Attrs.{name_bytes, no_attrs_with};
 

@@ -2,7 +2,7 @@
 ghost use Rattle.std.specs.Prelude.{◌≡◌};
 ghost use Rattle.std.specs.Bool.{nat_eq};
 ghost use Rattle.std.specs.List.{starts_with};
-ghost use Rattle.perfdata_base.specs.declared.endian.Endianness.TheVariants.{BigEndian};
+ghost use Rattle.perfdata_sources.specs.declared.endian.Endianness.TheVariants.{BigEndian};
 ghost use Rattle.perfdata_base.specs.Header.{magic_of};
 
 use perfdata_base::header::endian_of_magic;

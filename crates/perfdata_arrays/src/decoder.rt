@@ -2,7 +2,8 @@
 ghost use Rattle.std.specs.Prelude.{◌≡◌, ◌+◌, ◌<◌, ◌≤◌, ◌^◌, false, length};
 ghost use Rattle.linux_perf_data.specs.PerfFile.{attributes_of_file, endian_of_file};
 ghost use Rattle.linux_perf_data.specs.RecordViews.{record_view_of};
-ghost use Rattle.perfdata_arrays.specs.Decoding.{DecodesRecord, EntryKind};
+ghost use Rattle.perfdata_arrays.specs.Decoding.{EntryKind};
+ghost use Rattle.perfdata_arrays.specs.steps.Decoding.{DecodesRecord};
 
 use linux_perf_data::{PerfFile, PerfFileRecord, RecordPlace};
 

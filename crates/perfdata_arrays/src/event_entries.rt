@@ -1,12 +1,13 @@
 //! Entries of parsed records.
 ghost use Rattle.std.specs.Prelude.{◌≡◌, ℕ, ◌+◌, ◌≤◌, ◌<◌, ◌^◌, Bool, List, false, length};
 ghost use Rattle.linux_perf_data.specs.RecordEntries.{with_prefix};
-ghost use Rattle.perfdata_base.specs.Raw.{bytes_of};
+ghost use Rattle.perfdata_sources.specs.Raw.{bytes_of};
 ghost use Rattle.perfdata_base.specs.declared.event.raw_event_record.RawEventRecord.{RawEventRecord};
 ghost use Rattle.perfdata_events.specs.Event.{IsParsed};
 ghost use Rattle.perfdata_events.specs.declared.event.EventRecord.{EventRecord};
 ghost use Rattle.perfdata_events.specs.declared.format.EventFormat.{EventFormat};
-ghost use Rattle.perfdata_arrays.specs.Entries.{AddsEntries, event_kind, list_of};
+ghost use Rattle.perfdata_arrays.specs.Entries.{event_kind, list_of};
+ghost use Rattle.perfdata_arrays.specs.steps.Entries.{AddsEntries};
 ghost use Rattle.perfdata_arrays.specs.declared.envelope.EntryEnvelope.{EntryEnvelope};
 
 use crate::array::write_entry;

@@ -1,7 +1,8 @@
 //! The set of features of a perf.data file or pipe.
 ghost use Rattle.std.specs.Prelude.{◌≡◌};
 ghost use Rattle.perfdata_arrays.specs.FeatureSets.{AreBitsOf, ReadsFileFeatures, ReadsPipeFeatures};
-ghost use Rattle.perfdata_arrays.specs.FeatureSets.{ReadsFeatures, no_features_with};
+ghost use Rattle.perfdata_arrays.specs.FeatureSets.{no_features_with};
+ghost use Rattle.perfdata_arrays.specs.steps.FeatureSets.{ReadsFeatures};
 
 use crate::metadata::{Metadata, file_metadata, pipe_metadata};
 use crate::status::Status;

@@ -1,7 +1,8 @@
 //! The bytes of a feature of a perf.data file or pipe.
 ghost use Rattle.std.specs.Prelude.{◌≡◌};
 ghost use Rattle.linux_perf_data.specs.PerfFile.{feature_data_in_file};
-ghost use Rattle.perfdata_arrays.specs.Features.{CopiesFeature, ReadsFeature, ReadsFileFeature};
+ghost use Rattle.perfdata_arrays.specs.Features.{CopiesFeature, ReadsFileFeature};
+ghost use Rattle.perfdata_arrays.specs.steps.Features.{ReadsFeature};
 ghost use Rattle.perfdata_arrays.specs.Features.{ReadsPipeFeature};
 
 use crate::array::copy_prefix;

@@ -1,7 +1,8 @@
 //! The header and the records of a jitdump, as entries.
 ghost use Rattle.std.specs.Prelude.{◌≡◌, ◌+◌, ◌^◌, ◌<◌, ◌≤◌, Ok, Some, length};
 ghost use Rattle.perfdata_arrays.specs.Jit.{FindsRecord, ReadsJitHeader, ReadsJitRecords, ReadsJitLoad};
-ghost use Rattle.perfdata_arrays.specs.Jit.{ParsesLoad, ParsesJitHeader, header_window, endian_number_of};
+ghost use Rattle.perfdata_arrays.specs.Jit.{ParsesLoad, header_window, endian_number_of};
+ghost use Rattle.perfdata_arrays.specs.steps.Jit.{ParsesJitHeader};
 
 use crate::array::byte_count;
 use crate::status::{Status, status_of_jit_error};

@@ -1,7 +1,8 @@
 //! The debug info records of a jitdump: the source locations of code.
 ghost use Rattle.std.specs.Prelude.{◌≡◌, ◌+◌, ◌^◌, ◌<◌};
 ghost use Rattle.std.specs.IoError.{error_kind};
-ghost use Rattle.perfdata_arrays.specs.JitDebug.{ReadsJitDebugInfo, debug_end, debug_entries_at};
+ghost use Rattle.perfdata_arrays.specs.JitDebug.{ReadsJitDebugInfo, debug_entries_at};
+ghost use Rattle.perfdata_arrays.specs.steps.JitDebug.{debug_end};
 ghost use Rattle.perfdata_arrays.specs.JitDebug.{debug_entry_at, debug_error_status, no_debug_info_with};
 ghost use Rattle.linux_perf_data.specs.RecordEntries.{with_prefix};
 

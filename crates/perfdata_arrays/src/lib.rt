@@ -16,6 +16,7 @@ mod envelope;
 mod event_entries;
 pub mod feature_set;
 pub mod features;
+pub mod finishing;
 mod formats;
 pub mod jit;
 pub mod jit_bodies;

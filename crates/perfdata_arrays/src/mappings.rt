@@ -1,7 +1,7 @@
 //! The mappings of files into memory: those of a perf.data file in pages, and those of a pipe.
 ghost use Rattle.std.specs.Prelude.{◌≡◌, ◌+◌, ◌<◌, ◌^◌, replicate, true};
 ghost use Rattle.linux_perf_data.specs.RecordEntries.{with_prefix};
-ghost use Rattle.perfdata_base.specs.Raw.{bytes_of};
+ghost use Rattle.perfdata_sources.specs.Raw.{bytes_of};
 ghost use Rattle.perfdata_arrays.specs.Mappings.{ReadsMappingPage, ReadsPipeMappings, event_mapping};
 ghost use Rattle.perfdata_arrays.specs.Mappings.{event_mappings, identity_of, is_mapping_type, mmap_entry};
 ghost use Rattle.perfdata_arrays.specs.Mappings.{mmap2_entry};

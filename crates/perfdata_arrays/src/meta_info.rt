@@ -2,7 +2,8 @@
 ghost use Rattle.std.specs.Prelude.{◌≡◌, ◌↔◌, ◌+◌, ◌^◌, ◌<◌, IsTrue, length};
 ghost use Rattle.std.specs.Str.{IsUtf8};
 ghost use Rattle.perfdata_simpleperf.specs.MetaInfo.{IsUtf8Pair};
-ghost use Rattle.perfdata_arrays.specs.MetaPairs.{FindsPair, FindsSegment, ReadsMetaInfo, pair_entry_at};
+ghost use Rattle.perfdata_arrays.specs.MetaPairs.{ReadsMetaInfo, pair_entry_at};
+ghost use Rattle.perfdata_arrays.specs.steps.MetaPairs.{FindsPair, FindsSegment};
 
 use crate::array::{byte_count, copy_entries};
 use crate::status::Status;

@@ -1,5 +1,5 @@
 //! The metadata of recordings in memory.
-ghost use Rattle.perfdata_arrays.specs.Metadata.{ReadsFileMetadata, ReadsPipeMetadata};
+ghost use Rattle.perfdata_arrays.specs.steps.Metadata.{ReadsFileMetadata, ReadsPipeMetadata};
 
 use crate::opening::{Recording, open};
 use crate::records::walk;

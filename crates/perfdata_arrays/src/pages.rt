@@ -1,7 +1,9 @@
 //! The entries of records in memory: those of a perf.data file in pages, and those of a pipe.
 ghost use Rattle.std.specs.Prelude.{◌≡◌, ◌<◌, ◌≤◌, IsTrue, false};
-ghost use Rattle.perfdata_arrays.specs.DecodedPages.{DecodesRecords, ReadsDecodedPage, ReadsDecodedPipe};
-ghost use Rattle.perfdata_arrays.specs.DecodedPages.{page_result, result_of_end};
+ghost use Rattle.perfdata_arrays.specs.DecodedPages.{ReadsDecodedPage, ReadsDecodedPipe};
+ghost use Rattle.perfdata_arrays.specs.steps.DecodedPages.{DecodesRecords};
+ghost use Rattle.perfdata_arrays.specs.DecodedPages.{page_result};
+ghost use Rattle.perfdata_arrays.specs.steps.DecodedPages.{result_of_end};
 
 use crate::decoder::{EntryCounts, RecordDecoder};
 use crate::opening::{Recording, open};

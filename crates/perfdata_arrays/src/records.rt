@@ -1,9 +1,10 @@
 //! The records of a perf.data file or pipe, as entries.
 ghost use Rattle.std.specs.Prelude.{◌≡◌};
-ghost use Rattle.perfdata_arrays.specs.Pages.{ReadsFilePage, WalksPage};
+ghost use Rattle.perfdata_arrays.specs.Pages.{ReadsFilePage};
+ghost use Rattle.perfdata_arrays.specs.steps.Pages.{WalksPage};
 ghost use Rattle.perfdata_arrays.specs.Records.{ReadsPipeRecords};
 ghost use Rattle.perfdata_arrays.specs.Overwrites.{WritesOneMore};
-ghost use Rattle.perfdata_arrays.specs.Walk.{ReadsMoreEntries, WalksRecords};
+ghost use Rattle.perfdata_arrays.specs.steps.Walk.{ReadsMoreEntries, WalksRecords};
 
 use crate::opening::{Recording, open};
 use crate::status::{Status, status_of_end};

@@ -3,8 +3,10 @@ ghost use Rattle.std.specs.Prelude.{◌≡◌, ◌+◌, ◌^◌, ◌<◌, List, 
 ghost use Rattle.perfdata_sections.specs.declared.error.Error.TheVariants.{Memory};
 ghost use Rattle.perfdata_simpleperf.specs.FileRecord.{FileValue, info_value, record_value, symbol_value};
 ghost use Rattle.perfdata_arrays.specs.Overwrites.{with_entries_at};
-ghost use Rattle.perfdata_arrays.specs.SymbolTables.{AreNextTotals, IsCheckedNamesSize, IsSymbolSection};
-ghost use Rattle.perfdata_arrays.specs.SymbolTables.{ParsesSymbolTables, ReadsSymbolTables};
+ghost use Rattle.perfdata_arrays.specs.SymbolTables.{IsSymbolSection};
+ghost use Rattle.perfdata_arrays.specs.steps.SymbolTables.{AreNextTotals, IsCheckedNamesSize};
+ghost use Rattle.perfdata_arrays.specs.SymbolTables.{ReadsSymbolTables};
+ghost use Rattle.perfdata_arrays.specs.steps.SymbolTables.{ParsesSymbolTables};
 ghost use Rattle.perfdata_arrays.specs.SymbolTables.{WritesFilesOrPrefix, dex_offsets_in, file_entry_at};
 ghost use Rattle.perfdata_arrays.specs.SymbolTables.{info_type_of, min_vaddr_offset_of, symbol_entries_at};
 ghost use Rattle.perfdata_arrays.specs.SymbolTables.{symbol_names, zero_totals};

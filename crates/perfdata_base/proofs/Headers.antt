@@ -3,10 +3,11 @@ use Rattle.std.proofs.Common.{◌≡◌, ℕ, ◌+◌, ◌-◌, ◌^◌, ◌<◌
 use Rattle.std.specs.Prelude.{IfSome}
 use Rattle.std.specs.declared.io.Error.{Error}
 use Rattle.std.specs.declared.io.SeekFrom.TheVariants.{Current}
-use Rattle.perfdata_base.specs.Source.{State, Position, RemainsFromPosition, SizeFitsI64, advance_by, prepend, remaining_from, all_bytes_of, at_offset, Consumed, LeadsTo, SeekSucceeded, SeekOutOfRange}
-use Rattle.perfdata_base.proofs.ConsumedLemmas.{failed_later, moved_more}
-use Rattle.perfdata_base.proofs.ReadErrors.{consumed-after_seek, after_seek_more}
-use Rattle.perfdata_base.specs.Header.{file_header_of, BeginsWithFileHeader, FileHeaderParsed, FileHeaderParseError, ExtraSkipped, ExtraSeekError}
+use Rattle.perfdata_sources.specs.Source.{State, Position, RemainsFromPosition, SizeFitsI64, advance_by, prepend, remaining_from, all_bytes_of, at_offset, Consumed, LeadsTo, SeekSucceeded, SeekOutOfRange}
+use Rattle.perfdata_sources.proofs.ConsumedLemmas.{failed_later, moved_more}
+use Rattle.perfdata_sources.proofs.ReadErrors.{consumed-after_seek, after_seek_more}
+use Rattle.perfdata_base.specs.Header.{file_header_of, BeginsWithFileHeader, FileHeaderParsed, FileHeaderParseError}
+use Rattle.perfdata_base.specs.steps.Header.{ExtraSkipped, ExtraSeekError}
 use Rattle.perfdata_base.specs.declared.header.PerfHeader.{PerfHeader}
 
 went_on : (steady : Bool) (n at : ℕ) (p : Option Position) → ((q : Position) → p ≡ Some q → LeadsTo steady (Current (pos n)) q at) → at_offset at p ≡ advance_by n p

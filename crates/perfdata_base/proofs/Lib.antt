@@ -1,13 +1,2 @@
-pub mod Attrs
-pub mod Caches
-pub mod ReadErrors
-pub mod ConsumedLemmas
 pub mod Headers
-pub mod Members
-pub mod Numbers
-pub mod RawDataPieces
 pub mod PipeHeaders
-pub mod VisibleLengths
-pub mod Seeks
-pub mod Strings
-pub mod WordOffsets

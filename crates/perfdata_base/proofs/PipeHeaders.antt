@@ -1,8 +1,8 @@
 -- The result of parsing a pipe header, from the results of its steps.
 use Rattle.std.proofs.Common.{◌≡◌, ℕ, ◌-◌, ◌<◌, ◌≤◌, Bool, List, length, ap, subst, sym, ◌∙◌, arith, ◌==◌, inl, inr}
 use Rattle.std.proofs.lemmas.Bool.{cases_eq, eq-eqb, ne_eqb}
-use Rattle.perfdata_base.specs.Source.{State, Consumed, EndedOrPaused, SkippedUpTo, PartlyRead, SourceFailed}
-use Rattle.perfdata_base.proofs.ConsumedLemmas.{consumed_more, failed_later, consumed_none_later}
+use Rattle.perfdata_sources.specs.Source.{State, Consumed, EndedOrPaused, SkippedUpTo, PartlyRead, SourceFailed}
+use Rattle.perfdata_sources.proofs.ConsumedLemmas.{consumed_more, failed_later, consumed_none_later}
 use Rattle.perfdata_base.specs.PipeHeader.{pipe_header_of, PipeHeaderWithExtraParsed, IsExtraComplete, ExtraReadError}
 use Rattle.perfdata_base.specs.declared.header.pipe.PerfPipeHeader.{PerfPipeHeader}
 

@@ -2,11 +2,11 @@
 use Rattle.std.specs.Prelude.{◌≡◌, ℕ, ◌==◌, Bool, Option, Some, List}
 use Rattle.std.specs.Ordering.{nat_cmp}
 use Rattle.std.specs.declared.cmp.Ordering.{Ordering}
-use Rattle.perfdata_base.specs.declared.features.Feature.{Feature}
-use Rattle.perfdata_base.specs.contracts.features.FeaturePartialEq.TheImpl as feature_equality
-use Rattle.perfdata_base.specs.contracts.features.FeatureHash.TheImpl as feature_hash
-use Rattle.perfdata_base.specs.contracts.features.FeaturePartialOrd.TheImpl as feature_partial_order
-use Rattle.perfdata_base.specs.contracts.features.FeatureOrd.TheImpl as feature_order
+use Rattle.perfdata_identifiers.specs.declared.features.Feature.{Feature}
+use Rattle.perfdata_identifiers.specs.contracts.features.FeaturePartialEq.TheImpl as feature_equality
+use Rattle.perfdata_identifiers.specs.contracts.features.FeatureHash.TheImpl as feature_hash
+use Rattle.perfdata_identifiers.specs.contracts.features.FeaturePartialOrd.TheImpl as feature_partial_order
+use Rattle.perfdata_identifiers.specs.contracts.features.FeatureOrd.TheImpl as feature_order
 
 module _ {A : Type 0} (number : A → ℕ) where
   -- Two values are equal if and only if their numbers are.

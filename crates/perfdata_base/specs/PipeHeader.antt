@@ -1,8 +1,8 @@
 -- The header of a perf.data pipe as its bytes describe it (`perf_pipe_file_header`).
 use Rattle.std.specs.Prelude.{◌≡◌, ℕ, ◌-◌, ◌<◌, ◌≤◌, ◌+◌, ◌⊎◌, IsTrue, Bool, true, false, List, ◌++◌, length, take, drop, Result, Ok, Err}
 use Rattle.std.specs.declared.io.Error.{Error}
-use Rattle.perfdata_base.specs.Source.{State, Consumed, EndedOrPaused, SourceFailed, ReadExactError}
-use Rattle.perfdata_base.specs.Endian.{number_in}
+use Rattle.perfdata_sources.specs.Source.{State, Consumed, EndedOrPaused, SourceFailed, ReadExactError}
+use Rattle.perfdata_sources.specs.Endian.{number_in}
 use Rattle.perfdata_base.specs.Header.{endian_by_first_byte}
 use Rattle.perfdata_base.specs.declared.header.pipe.PerfPipeHeader.{PerfPipeHeader}
 

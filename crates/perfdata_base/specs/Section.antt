@@ -1,7 +1,7 @@
 -- The entry of a section: its offset and its size.
 use Rattle.std.specs.Prelude.{◌≡◌, ℕ, ◌+◌, ◌^◌, ◌<◌, ◌≤◌, List, length, drop, Result, Ok, Err}
 use Rattle.std.specs.declared.io.Error.{Error}
-use Rattle.perfdata_base.specs.Source.{State, Consumed, ReadExactError}
+use Rattle.perfdata_sources.specs.Source.{State, Consumed, ReadExactError}
 use Rattle.perfdata_base.specs.declared.section.PerfFileSection.{PerfFileSection}
 
 -- the end offset of the section fits in 64 bits

@@ -2,14 +2,15 @@
 ghost use Rattle.std.specs.Prelude.{◌≡◌, ◌≤◌, IfNone, IfSome, length};
 ghost use Rattle.std.specs.IoError.{error_kind};
 ghost use Rattle.std.specs.declared.io.ErrorKind.TheVariants.{InvalidInput};
-ghost use Rattle.perfdata_base.specs.Source.{State, PausesOnlyOnError};
-ghost use Rattle.perfdata_base.specs.Header.{file_header_of, ParsesFileHeader, SkipsExtra};
+ghost use Rattle.perfdata_sources.specs.Source.{State, PausesOnlyOnError};
+ghost use Rattle.perfdata_base.specs.Header.{file_header_of, ParsesFileHeader};
+ghost use Rattle.perfdata_base.specs.steps.Header.{SkipsExtra};
 ghost use Rattle.perfdata_base.specs.Header.{IsUnknownMagic, endian_by_first_byte, magic_of};
 
-use crate::endian::{Endianness, read_u64};
-use crate::features::FeatureSet;
 use crate::section::{PerfFileSection, section_entry};
-use crate::source::{PlacedSource, read_exact};
+use perfdata_identifiers::features::FeatureSet;
+use perfdata_sources::endian::{Endianness, read_u64};
+use perfdata_sources::source::{PlacedSource, read_exact};
 use std::io::{Error, ErrorKind, Result, SeekFrom};
 
 mod pipe;

@@ -3,8 +3,8 @@ ghost use Rattle.std.specs.Prelude.{◌≡◌};
 ghost use Rattle.perfdata_base.specs.Comparisons.{FeaturesEqualByNumber, FeaturesHashByNumber};
 ghost use Rattle.perfdata_base.specs.Comparisons.{FeaturesOrderedByNumber};
 
-use crate::event::RecordType;
-use crate::features::*;
+use perfdata_identifiers::features::*;
+use perfdata_sources::event::RecordType;
 
 /// The numbers of perf's features, and of simpleperf's from 128 on.
 pub fn header_numbers()

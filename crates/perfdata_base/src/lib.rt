@@ -2,13 +2,10 @@
 //! readers.
 #![tactic(auto)]
 
-pub mod attr;
-pub mod endian;
 pub mod event;
-pub mod features;
 pub mod header;
 pub mod laws;
-pub mod place;
-pub mod raw;
 pub mod section;
-pub mod source;
+
+pub use perfdata_identifiers::{features, place};
+pub use perfdata_sources::{attr, endian, raw, source};

@@ -1,11 +1,11 @@
 //! The entry that describes a section.
 ghost use Rattle.std.specs.Prelude.{◌≡◌, ◌≤◌, length};
-ghost use Rattle.perfdata_base.specs.Endian.{number_in};
-ghost use Rattle.perfdata_base.specs.Source.{State, PausesOnlyOnError};
+ghost use Rattle.perfdata_sources.specs.Endian.{number_in};
+ghost use Rattle.perfdata_sources.specs.Source.{State, PausesOnlyOnError};
 ghost use Rattle.perfdata_base.specs.Section.{section_entry_of, ParsesSectionEntry};
 
-use crate::endian::{Endianness, FileOrder, read_u64};
-use crate::source::{Source, read_exact};
+use perfdata_sources::endian::{Endianness, FileOrder, read_u64};
+use perfdata_sources::source::{Source, read_exact};
 use std::io::Result;
 
 /// The offset and the size of a section (`perf_file_section`).

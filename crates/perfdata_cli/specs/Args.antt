@@ -1,5 +1,5 @@
 -- The command that command-line arguments select.
-use Rattle.std.specs.Prelude.{◌≡◌, ◌≢◌, ℕ, List, [], ◌∷◌, codes, string_bytes, Option, None, Some, Result, Ok, Err, String}
+use Rattle.std.specs.Prelude.{◌≡◌, ℕ, List, [], ◌∷◌, codes, string_bytes, Option, None, Some, Result, Ok, Err, String}
 use Rattle.std.specs.declared.alloc.Global.{Global}
 use Rattle.perfdata_cli.specs.declared.args.ArgsError.{ArgsError}
 use Rattle.perfdata_cli.specs.declared.args.ArgsError.TheVariants.{Usage}
@@ -12,12 +12,6 @@ SelectsBy verb (Some path) (File p) = (verb ≡ codes "file") × (p ≡ path)
 SelectsBy verb (Some path) (Jit p) = (verb ≡ codes "jit") × (p ≡ path)
 SelectsBy verb None Pipe = verb ≡ codes "pipe"
 SelectsBy verb _ _ = ⊥
-
--- the command that the first argument and the path select, or an error if they select none
-abbrev pub ParsesVerb : List ℕ → Option (String Global) → Result Command ArgsError → Type 0
-ParsesVerb verb path (Ok command) = SelectsBy verb path command
-ParsesVerb verb (Some path) (Err e) = (e ≡ Usage) × ((verb ≢ codes "file") × (verb ≢ codes "jit"))
-ParsesVerb verb None (Err e) = (e ≡ Usage) × (verb ≢ codes "pipe")
 
 -- these arguments, of which the first is the program's name, select this command
 abbrev pub Selects : List (String Global) → Command → Type 0

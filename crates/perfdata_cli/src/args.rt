@@ -1,7 +1,8 @@
 //! The command-line arguments `file PATH | pipe | jit PATH`.
 ghost use Rattle.std.specs.Prelude.{◌≡◌, ◌↔◌, codes, Ok, Some, IsNone, IfSome, IfNone};
 ghost use Rattle.std.specs.Vec.Iter.{into_iter_items};
-ghost use Rattle.perfdata_cli.specs.Args.{ParsesArgs, ParsesVerb};
+ghost use Rattle.perfdata_cli.specs.Args.{ParsesArgs};
+ghost use Rattle.perfdata_cli.specs.steps.Args.{ParsesVerb};
 
 use std::env;
 use std::env::Args;

@@ -1,8 +1,10 @@
 //! Command lines of the form `PROGRAM [OPTIONS] [FILE]`, and the program's exit status.
+use crate::arguments::add_shared_options;
 use crate::error::print_output_error;
 use clap::error::ErrorKind;
-use clap::{Arg, Command, Error};
+use clap::{Arg, ArgMatches, Command, Error};
 use std::alloc::{AllocError, Global};
+use std::process::ExitCode;
 use std::{env, io};
 
 /// The version of all programs.
@@ -32,7 +34,22 @@ pub const RECORDING_HELP: &str =
 pub const RECORDING_OR_JITDUMP_HELP: &str =
     "A perf.data file, a pipe of perf or a jitdump; '-' is standard input [default: standard input if it is a FIFO, else perf.data]";
 
-/// Creates the command of a program: its name, what it does, `FILE` with its help, help and version.
+/// A program with a command line.
+pub trait Program {
+    /// The program's name.
+    const NAME: &'static str;
+
+    /// Returns the command with its options.
+    ///
+    /// Fails if memory runs out.
+    fn command<'a>(alloc: Global) -> Result<Command<'a>, AllocError>;
+
+    /// Runs the program with its arguments. Returns the exit status.
+    fn run(rt: &HostRuntime, matches: &ArgMatches<'_>) -> u8;
+}
+
+/// Creates the command of a program: its name, what it does, `FILE` with its help, the options that the
+/// programs share, help and version.
 pub fn command<'a>(
     alloc: Global,
     name: &'a str,
@@ -40,21 +57,16 @@ pub fn command<'a>(
     file_help: &'a str,
 ) -> Result<Command<'a>, AllocError> {
     let file = Arg::new(alloc, FILE).help(file_help);
-    Command::new(alloc, name)
+    let command = Command::new(alloc, name)
         .about(about)
         .version(VERSION)
         .after_help(AFTER_HELP)
-        .arg(file)
+        .arg(file)?;
+    add_shared_options(alloc, command)
 }
 
-/// Returns the command-line arguments, of which the first is the program's name. Fails if one isn't UTF-8,
-/// or if memory runs out.
-pub fn arguments(rt: &HostRuntime) -> io::Result<Vec<String>> {
-    Ok(env::args(rt)?.collect(rt.alloc())?)
-}
-
-/// Prints why there are no arguments. Returns the exit status.
-pub fn print_argument_error(rt: &HostRuntime, name: &str, error: &io::Error) -> u8 {
+// Prints why there are no arguments. Returns the exit status.
+fn print_argument_error(rt: &HostRuntime, name: &str, error: &io::Error) -> u8 {
     if error.kind() == io::ErrorKind::OutOfMemory {
         let _ = eprintln!(rt; "{name}: out of memory");
         return FAILURE;
@@ -63,8 +75,8 @@ pub fn print_argument_error(rt: &HostRuntime, name: &str, error: &io::Error) -> 
     USAGE_ERROR
 }
 
-/// Prints the help, the version or an error of the arguments. Returns the exit status.
-pub fn print_clap_error(rt: &HostRuntime, name: &str, error: &Error) -> u8 {
+// Prints the help, the version or an error of the arguments. Returns the exit status.
+fn print_clap_error(rt: &HostRuntime, name: &str, error: &Error) -> u8 {
     match (error.print(rt), error.kind()) {
         (Err(cause), ErrorKind::DisplayHelp | ErrorKind::DisplayVersion) => {
             print_output_error(rt, name, &cause)
@@ -73,4 +85,27 @@ pub fn print_clap_error(rt: &HostRuntime, name: &str, error: &Error) -> u8 {
         (_, ErrorKind::OutOfMemory) => FAILURE,
         _ => USAGE_ERROR,
     }
+}
+
+// Returns the command-line arguments, of which the first is the program's name. Fails if one isn't UTF-8, or
+// if memory runs out.
+fn arguments(rt: &HostRuntime) -> io::Result<Vec<String>> {
+    Ok(env::args(rt)?.collect(rt.alloc())?)
+}
+
+// Parses the arguments of a program.
+fn parse<'a, P: Program>(alloc: Global, words: &'a [String]) -> Result<ArgMatches<'a>, Error> {
+    P::command(alloc)?.try_get_matches_from(words)
+}
+
+/// Runs a program: parses its command line, and runs it with its arguments. Returns its exit status, or
+/// prints the help, the version or an error of the arguments.
+pub fn run_program<P: Program>(rt: &HostRuntime) -> ExitCode {
+    ExitCode::from(match arguments(rt) {
+        Ok(words) => match parse::<P>(rt.alloc(), &words) {
+            Ok(matches) => P::run(rt, &matches),
+            Err(error) => print_clap_error(rt, P::NAME, &error),
+        },
+        Err(error) => print_argument_error(rt, P::NAME, &error),
+    })
 }

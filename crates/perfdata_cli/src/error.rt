@@ -1,13 +1,16 @@
 //! Errors of the programs: what failed, where, and why.
 use crate::command_line::FAILURE;
 use crate::input::path_of_name;
+use crate::other_format::OtherFormat;
 use crate::position::Position;
-use crate::truncation::{OpeningPart, find_truncated_part};
 use linux_perf_data::Error;
 use linux_perf_data::jitdump::JitDumpError;
+use linux_perf_data::source::Counted;
+use linux_perf_data::truncation::{OpeningPart, find_truncated_part};
 use std::fmt::{Display, Formatter, InlineText};
+use std::fs::File;
 use std::io::ErrorKind;
-use std::{fmt, io};
+use std::{fmt, fs, io};
 
 // The maximum size in bytes of the text of an I/O error.
 const TEXT_SIZE: usize = 256;
@@ -20,6 +23,10 @@ const NUMBER_PREFIX: &str = " (os error ";
 pub enum InputError {
     /// The first bytes are those of no format that the program reads.
     UnknownFormat,
+    /// The input has a format that no program reads.
+    OtherFormat(OtherFormat),
+    /// The input is a directory of `perf record --threads`.
+    ThreadsDirectory,
     /// The input is a jitdump, which the program doesn't read.
     JitDump,
     /// The input can't be opened, or its first bytes can't be read.
@@ -44,6 +51,15 @@ pub enum InputError {
     },
     /// Number of sections that can't be read.
     Sections(u64),
+    /// The recording wasn't finished.
+    NotFinished {
+        /// The number of records that were read to the end of the file.
+        records: u64,
+        /// Whether the header names features.
+        has_features: bool,
+    },
+    /// The end of the file is missing. This many records were read.
+    Truncated(u64),
     /// Out of memory.
     OutOfMemory,
 }
@@ -79,9 +95,9 @@ impl From<InputError> for ProgramError {
     }
 }
 
-// Displays an I/O error without the system's number of it.
+/// Displays an I/O error without the system's number of it.
 #[derive(Clone, Copy)]
-struct IoCause<'a>(&'a io::Error);
+pub struct IoCause<'a>(pub &'a io::Error);
 
 impl Display for IoCause<'_> {
     fn fmt<W: fmt::Write>(&self, f: &mut Formatter<W>) -> fmt::Result {
@@ -144,6 +160,10 @@ impl Display for InputError {
     fn fmt<W: fmt::Write>(&self, f: &mut Formatter<W>) -> fmt::Result {
         match self {
             InputError::UnknownFormat => f.write_str("not a perf.data file"),
+            InputError::OtherFormat(format) => Display::fmt(format, f),
+            InputError::ThreadsDirectory => {
+                f.write_str("a directory of perf record --threads: record without --threads")
+            }
             InputError::JitDump => f.write_str("a jitdump, which perflist jit and perfinfo read"),
             InputError::Io(error) => Display::fmt(&IoCause(error), f),
             InputError::Metadata(error) => Display::fmt(&Cause(error), f),
@@ -158,6 +178,26 @@ impl Display for InputError {
             }
             InputError::OutOfMemory => f.write_str("out of memory"),
             InputError::Sections(count) => write!(f, "sections that can't be read: {count}"),
+            InputError::NotFinished {
+                records,
+                has_features,
+            } => {
+                let features = if *has_features {
+                    ""
+                } else {
+                    ": no features either"
+                };
+                write!(
+                    f,
+                    "not finished: no data size{features}; read {records} records to the end of the file"
+                )
+            }
+            InputError::Truncated(records) => {
+                write!(
+                    f,
+                    "truncated: the end of the file is missing; read {records} records"
+                )
+            }
         }
     }
 }
@@ -171,18 +211,22 @@ pub fn print_output_error(rt: &HostRuntime, program: &str, error: &io::Error) ->
     FAILURE
 }
 
-// Returns the part of an input that ends too early, if this is the error of an opening that ends so.
+// Returns the part of a regular file that ends too early, if this is the error of an opening that ends so.
 fn truncated_opening_part(
     rt: &HostRuntime,
     input: &str,
     error: &InputError,
 ) -> Option<OpeningPart> {
     match error {
-        InputError::Metadata(Error::IoError(cause)) if cause.kind() == ErrorKind::UnexpectedEof => {
-            find_truncated_part(rt, path_of_name(input))
-        }
-        _ => None,
+        InputError::Metadata(Error::IoError(cause)) if cause.kind() == ErrorKind::UnexpectedEof =>
+            {}
+        _ => return None,
     }
+    let path = path_of_name(input);
+    if !fs::metadata(rt, path).ok()?.is_file() {
+        return None;
+    }
+    find_truncated_part(&mut Counted::new(File::open(rt, path).ok()?))
 }
 
 /// Prints an error of a program that reads this input. Returns the exit status. If the metadata of a regular

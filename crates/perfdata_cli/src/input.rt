@@ -1,11 +1,12 @@
 //! The inputs of the programs: their kind, and their bytes in a buffer of 64 KiB.
 ghost use Rattle.std.specs.Prelude.{◌≡◌, ◌≢◌, [], IfOk, codes};
-ghost use Rattle.perfdata_base.specs.CountedBuffer.{buffered_state, counted_buffer_bytes};
-ghost use Rattle.perfdata_base.specs.Source.{opaque_source};
+ghost use Rattle.perfdata_sources.specs.CountedBuffer.{buffered_state, counted_buffer_bytes};
+ghost use Rattle.perfdata_sources.specs.Source.{opaque_source};
 ghost use Rattle.perfdata_cli.specs.Inputs.{OpensInMemory};
 
 use crate::error::InputError;
 use crate::input_bytes::{InputBytes, Unread};
+use crate::other_format::OtherFormat;
 use linux_perf_data::in_memory::InMemoryReader;
 pub use linux_perf_data::input_kind::InputKind;
 use linux_perf_data::input_kind::START_SIZE;
@@ -19,6 +20,12 @@ use std::{fs, result};
 
 /// The size of an input buffer in bytes.
 pub const BUFFER_SIZE: usize = 65536;
+
+// The number of bytes that tell whether an input is a text.
+const TEXT_SIZE: u64 = 512;
+
+// The file of a directory of `perf record --threads` that contains its metadata.
+const THREADS_FILE: &str = "data";
 
 // The input if the arguments name none and standard input isn't a FIFO.
 const DEFAULT_PATH: &str = "perf.data";
@@ -91,6 +98,15 @@ fn open_unread(rt: &HostRuntime, path: &str) -> Result<(Unread, Option<u64>)> {
     Ok((Unread::File(file), size))
 }
 
+// Returns whether the input at a path is a directory of `perf record --threads`.
+fn is_threads_directory(rt: &HostRuntime, path: &str) -> Result<bool> {
+    if !fs::metadata(rt, path)?.is_dir() {
+        return Ok(false);
+    }
+    let file = format!(in rt.alloc(); "{path}/{THREADS_FILE}")?;
+    Ok(fs::metadata(rt, file.as_str())?.is_file())
+}
+
 impl OpenInput {
     ghost use Rattle.perfdata_cli.specs.Inputs.{IsPipe};
 
@@ -110,6 +126,34 @@ impl OpenInput {
             start,
             unread,
         })
+    }
+
+    // Returns the format of an input that starts with no known kind, if it is known.
+    fn other_format(&mut self) -> Result<Option<OtherFormat>> {
+        if self.kind.is_some() {
+            return Ok(None);
+        }
+        self.unread
+            .by_ref()
+            .take(TEXT_SIZE)
+            .read_to_end(&mut self.start)?;
+        Ok(OtherFormat::of_start(&self.start))
+    }
+
+    /// Opens the input at a path, as `open` does.
+    ///
+    /// Fails with `ThreadsDirectory` if it is a directory of `perf record --threads`, with `OtherFormat` if
+    /// it has a format that no program reads, and with `Io` if it can't be opened or read.
+    pub fn open_recording(rt: &HostRuntime, path: &str) -> result::Result<OpenInput, InputError> {
+        if is_threads_directory(rt, path).unwrap_or(false) {
+            return Err(InputError::ThreadsDirectory);
+        }
+        let mut input = OpenInput::open(rt, path).map_err(InputError::Io)?;
+        match input.other_format() {
+            Ok(Some(format)) => Err(InputError::OtherFormat(format)),
+            Ok(None) => Ok(input),
+            Err(error) => Err(InputError::Io(error)),
+        }
     }
 
     /// Returns whether the input is a pipe, otherwise it is a perf.data file.
@@ -187,7 +231,7 @@ pub fn open_in_memory(
 }
 
 // Buffers a reader. Fails if the allocation of the buffer fails.
-fn with_buffer<R: Read + Drop>(alloc: Global, reader: R) -> Result<CountedBuffer<R>>
+pub(crate) fn with_buffer<R: Read + Drop>(alloc: Global, reader: R) -> Result<CountedBuffer<R>>
     ensures counts { IfOk result (λ s. buffered_state s ≡ opaque_source 0 0) }
     ensures empty { IfOk result (λ s. counted_buffer_bytes s ≡ []) }
 {

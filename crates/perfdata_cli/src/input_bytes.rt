@@ -1,4 +1,5 @@
 //! The bytes of an input: a file, a stream after its first bytes, or bytes in memory.
+use perfdata_base::source::CountedBuffer;
 use std::fs::File;
 use std::io::{Chain, Cursor, ErrorKind, Read, Result, Seek, SeekFrom};
 use std::rt::Stdin;
@@ -20,6 +21,9 @@ impl Read for Unread {
         }
     }
 }
+
+/// The bytes of an input in a buffer.
+pub type Source = CountedBuffer<InputBytes>;
 
 /// The bytes of an input from its start.
 #[derive(Drop)]

@@ -19,10 +19,12 @@ impl Position {
         offset: Some(0),
     };
 
-    /// Moves the position to the end of a record.
+    /// Counts a record, and moves the position to its end. Records may come in another order than that of the
+    /// input: the position stays where it is, if it is behind the record.
     pub fn add(&mut self, place: &RecordPlace, record: &PerfFileRecord<'_>) {
         self.records = self.records.saturating_add(1);
-        self.offset = Some(record_end(place, record));
+        let end = record_end(place, record);
+        self.offset = Some(self.offset.unwrap_or(0).max(end));
     }
 }
 

@@ -48,6 +48,14 @@ impl<'a> Progress<'a> {
         }
     }
 
+    /// Writes no lines, if no messages are wanted.
+    pub fn unless_quiet(self, is_quiet: bool) -> Progress<'a> {
+        Progress {
+            since: self.since.filter(|_| !is_quiet),
+            ..self
+        }
+    }
+
     /// Counts a record that ends this many bytes after the start of the records, and writes a line once a
     /// second.
     pub fn add_record(&mut self, end: u64) {

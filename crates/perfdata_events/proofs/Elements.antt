@@ -5,9 +5,9 @@ use Rattle.std.proofs.Math.Nat.{mul_assoc, mul_comm, mul-add-div}
 use Rattle.std.specs.Prelude.{◌-◌, slice_index, slice_range}
 use Rattle.std.proofs.lemmas.Nat.{div-mul-add}
 use Rattle.std.proofs.lemmas.List.{drop-take, drop-drop, length-take-le}
-use Rattle.perfdata_base.proofs.Numbers.{number_take}
-use Rattle.perfdata_base.specs.Endian.{number_in}
-use Rattle.perfdata_base.specs.declared.endian.Endianness.{Endianness}
+use Rattle.perfdata_sources.proofs.Numbers.{number_take}
+use Rattle.perfdata_sources.specs.Endian.{number_in}
+use Rattle.perfdata_sources.specs.declared.endian.Endianness.{Endianness}
 use Rattle.perfdata_events.specs.Format.{IsBlock, IsFixed}
 use Rattle.perfdata_events.specs.Words.{u64s_of, AreU64s}
 

@@ -6,10 +6,11 @@ use Rattle.std.specs.Prelude.{◌==◌, not, Result, Ok, Err, IfOk, IfErr}
 use Rattle.std.specs.IoError.{error_kind}
 use Rattle.std.specs.Result.{MatchResult, IsOkAnd}
 use Rattle.std.specs.declared.io.Error.{Error}
-use Rattle.perfdata_base.specs.Raw.{bytes_of}
+use Rattle.perfdata_sources.specs.Raw.{bytes_of}
 use Rattle.perfdata_base.specs.declared.event.raw_event_record.RawEventRecord.{RawEventRecord}
 use Rattle.perfdata_events.specs.EventFormat.{trailing_size, before_trailing}
-use Rattle.perfdata_events.specs.Event.{IsEvent, IsParsed, EventFails, DecodesEvent, ParseFails, kind_of, number, has_known_values, has_unknown_values, has_known_fields}
+use Rattle.perfdata_events.specs.Event.{IsEvent, IsParsed, EventFails, DecodesEvent, ParseFails, kind_of, number, has_known_values, has_known_fields}
+use Rattle.perfdata_events.specs.steps.Event.{has_unknown_values}
 use Rattle.perfdata_events.specs.Format.{Decodes}
 use Rattle.perfdata_events.specs.Sample.{sample, sample_of}
 use Rattle.perfdata_events.specs.declared.format.EventFormat.{EventFormat}

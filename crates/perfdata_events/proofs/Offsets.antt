@@ -5,11 +5,11 @@ use Rattle.std.specs.List.{position_or_len}
 use Rattle.std.specs.Option.{option_map, option_and_then}
 use Rattle.std.proofs.lemmas.Bool.Decides.{nat_tests}
 use Rattle.std.proofs.lemmas.List.{drop-drop}
-use Rattle.perfdata_base.proofs.Numbers.{number_take}
-use Rattle.perfdata_base.specs.Endian.{number_in}
-use Rattle.perfdata_base.specs.ParseInfo.{is_set, offset_from_start, offset_from_end}
-use Rattle.perfdata_base.specs.BodyFields.{checked_offset_from_start, checked_offset_from_end}
-use Rattle.perfdata_base.specs.declared.endian.Endianness.{Endianness}
+use Rattle.perfdata_sources.proofs.Numbers.{number_take}
+use Rattle.perfdata_sources.specs.Endian.{number_in}
+use Rattle.perfdata_identifiers.specs.ParseInfo.{is_set, offset_from_start, offset_from_end}
+use Rattle.perfdata_identifiers.specs.BodyFields.{checked_offset_from_start, checked_offset_from_end}
+use Rattle.perfdata_sources.specs.declared.endian.Endianness.{Endianness}
 use Rattle.perfdata_events.specs.Fields.{u64_at}
 use Rattle.perfdata_events.specs.Words.{words_size, word_size, word_if, after, word_after}
 

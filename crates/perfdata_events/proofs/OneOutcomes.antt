@@ -5,7 +5,7 @@ use Rattle.std.specs.declared.io.ErrorKind.{ErrorKind}
 use Rattle.std.specs.declared.io.ErrorKind.TheVariants.{UnexpectedEof, InvalidData}
 use Rattle.std.proofs.lemmas.Bool.{cases_eq, cases_lt}
 use Rattle.std.proofs.lemmas.List.Elements.{All-cons, All-tail}
-use Rattle.perfdata_base.specs.Raw.{HasNoNul, SplitsAtNul}
+use Rattle.perfdata_sources.specs.Raw.{HasNoNul, SplitsAtNul}
 use Rattle.perfdata_events.specs.Format.{Outcome, encodes, fails, IsTruncated, IsUnterminated, block, text, fixed, fixed_and_text, fixed_and_block, both, led, optional}
 use Rattle.perfdata_events.specs.Words.{u64s_of, word, word_size, word_if, fixed_and_u64s}
 use Rattle.perfdata_events.specs.OneOutcome.{HasOneOutcome}

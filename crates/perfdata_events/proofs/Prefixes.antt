@@ -2,7 +2,7 @@
 use Rattle.std.proofs.Common.{◌≡◌, ℕ, ◌++◌, ◌∷◌, [], Bool, List, take, drop, refl, sym, ap, ◌∙◌, append_assoc}
 use Rattle.std.specs.Prelude.{None, Some}
 use Rattle.std.proofs.lemmas.List.{take-append-drop}
-use Rattle.perfdata_base.specs.ParseInfo.{is_set}
+use Rattle.perfdata_identifiers.specs.ParseInfo.{is_set}
 use Rattle.perfdata_events.specs.Prefix.{ConsumesPrefix}
 use Rattle.perfdata_events.specs.Format.{Outcome, block, text, fixed, fixed_and_text, fixed_and_block, both, led, optional}
 use Rattle.perfdata_events.specs.Fields.{u32_at, u64_at}

@@ -3,7 +3,7 @@ use Rattle.std.proofs.Common.{◌≡◌, ℕ, ◌*◌, ◌<◌, ◌≤◌, ◌�
 use Rattle.std.specs.Prelude.{slice_index}
 use Rattle.std.specs.declared.io.ErrorKind.TheVariants.{UnexpectedEof, InvalidData}
 use Rattle.std.proofs.lemmas.Bool.{cases_lt}
-use Rattle.perfdata_base.specs.ParseInfo.{is_set}
+use Rattle.perfdata_identifiers.specs.ParseInfo.{is_set}
 use Rattle.perfdata_events.specs.OneOutcome.{HasOneOutcome}
 use Rattle.perfdata_events.specs.Format.{Outcome, encodes, fails, fixed}
 use Rattle.perfdata_events.specs.Fields.{u32_at, u64_at}

@@ -3,14 +3,14 @@ use Rattle.std.proofs.Common.{◌≡◌, ◌≢◌, ℕ, ◌-◌, ◌<◌, ◌�
 use Rattle.std.specs.Prelude.{◌==◌, nat_lt, cond, filter, Option, Some, None}
 use Rattle.std.specs.Option.{option_map, option_and_then, option_or}
 use Rattle.std.proofs.lemmas.Bool.Decides.{nat_tests}
-use Rattle.perfdata_base.specs.Raw.{bytes_of}
-use Rattle.perfdata_base.specs.Endian.{number_in}
-use Rattle.perfdata_base.specs.ParseInfo.{is_set, identifier_word, sample_words, trailing_words, offset_from_start, offset_from_end, parse_info_of, id_parse_info_of}
-use Rattle.perfdata_base.specs.BodyFields.{checked_offset_from_start, checked_offset_from_end, u64_field_at}
-use Rattle.perfdata_base.specs.RecordFields.{read_time, read_identifier}
-use Rattle.perfdata_base.specs.declared.attr.PerfEventAttr.{PerfEventAttr}
+use Rattle.perfdata_sources.specs.Raw.{bytes_of}
+use Rattle.perfdata_sources.specs.Endian.{number_in}
+use Rattle.perfdata_identifiers.specs.ParseInfo.{is_set, identifier_word, sample_words, trailing_words, offset_from_start, offset_from_end, parse_info_of, id_parse_info_of}
+use Rattle.perfdata_identifiers.specs.BodyFields.{checked_offset_from_start, checked_offset_from_end, u64_field_at}
+use Rattle.perfdata_identifiers.specs.RecordFields.{read_time, read_identifier}
+use Rattle.perfdata_sources.specs.declared.attr.PerfEventAttr.{PerfEventAttr}
 use Rattle.perfdata_base.specs.declared.event.raw_event_record.RawEventRecord.{RawEventRecord}
-use Rattle.perfdata_base.specs.declared.endian.Endianness.{Endianness}
+use Rattle.perfdata_sources.specs.declared.endian.Endianness.{Endianness}
 use Rattle.perfdata_events.proofs.Offsets.{set_or_not, after_length, value_from_start, value_from_end}
 use Rattle.perfdata_events.specs.EventFormat.{event_format_of, trailing_size, trailing}
 use Rattle.perfdata_events.specs.Fields.{u64_at}

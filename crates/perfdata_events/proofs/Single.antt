@@ -3,8 +3,8 @@ use Rattle.std.proofs.Common.{◌≡◌, sym, subst}
 use Rattle.std.specs.Prelude.{Result, Ok, Err, IfOk}
 use Rattle.std.specs.Result.{MatchResult, IsOkAnd}
 use Rattle.std.specs.declared.io.Error.{Error}
-use Rattle.perfdata_base.specs.Raw.{IsSingle}
-use Rattle.perfdata_base.specs.declared.raw.RawData.{RawData}
+use Rattle.perfdata_sources.specs.Raw.{IsSingle}
+use Rattle.perfdata_sources.specs.declared.raw.RawData.{RawData}
 use Rattle.perfdata_events.specs.Single.{KeepsSingle}
 use Rattle.perfdata_events.specs.SingleParts.{SingleSample, HasSingleParts}
 use Rattle.perfdata_events.specs.declared.sample.SampleRecord.{SampleRecord}

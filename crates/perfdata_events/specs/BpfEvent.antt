@@ -1,6 +1,6 @@
 -- PERF_RECORD_BPF_EVENT of Linux's `perf_event.h`: { u16 type; u16 flags; u32 id; u8 tag[8]; }
 use Rattle.std.specs.Prelude.{ℕ, List}
-use Rattle.perfdata_base.specs.Raw.{bytes_of}
+use Rattle.perfdata_sources.specs.Raw.{bytes_of}
 use Rattle.perfdata_events.specs.Format.{Outcome, fixed_and_block}
 use Rattle.perfdata_events.specs.Fields.{u16_at, u32_at}
 use Rattle.perfdata_events.specs.declared.kernel.BpfEventRecord.{BpfEventRecord}

@@ -2,8 +2,8 @@
 -- priv:3, reserved:31; }. A little-endian compiler lays out these fields from the lowest bit to the highest one, and a big-endian compiler
 -- from the highest bit to the lowest one. The numbers in the fields have the same order of bits in both.
 use Rattle.std.specs.Prelude.{ℕ, ◌+◌, ◌*◌, ◌/◌, ◌%◌, ◌^◌}
-use Rattle.perfdata_base.specs.declared.endian.Endianness.{Endianness}
-use Rattle.perfdata_base.specs.declared.endian.Endianness.TheVariants.{LittleEndian, BigEndian}
+use Rattle.perfdata_sources.specs.declared.endian.Endianness.{Endianness}
+use Rattle.perfdata_sources.specs.declared.endian.Endianness.TheVariants.{LittleEndian, BigEndian}
 
 -- The flags of a word of a record in a byte order, laid out from the lowest bit.
 abbrev pub branch_flags_in : Endianness → ℕ → ℕ

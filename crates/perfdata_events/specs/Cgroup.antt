@@ -1,6 +1,6 @@
 -- PERF_RECORD_CGROUP of Linux's `perf_event.h`: { u64 id; char path[]; }
 use Rattle.std.specs.Prelude.{ℕ, List}
-use Rattle.perfdata_base.specs.Raw.{bytes_of}
+use Rattle.perfdata_sources.specs.Raw.{bytes_of}
 use Rattle.perfdata_events.specs.Format.{Outcome, fixed_and_text}
 use Rattle.perfdata_events.specs.Fields.{u64_at}
 use Rattle.perfdata_events.specs.declared.task.CgroupRecord.{CgroupRecord}

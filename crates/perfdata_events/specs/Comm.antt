@@ -1,8 +1,8 @@
 -- PERF_RECORD_COMM of Linux's `perf_event.h`: { u32 pid, tid; char comm[]; }. The name was set by an exec if bit 13 of the record
 -- header's `misc` is set (PERF_RECORD_MISC_COMM_EXEC).
 use Rattle.std.specs.Prelude.{ℕ, ℤ, Bool, List}
-use Rattle.perfdata_base.specs.Raw.{bytes_of}
-use Rattle.perfdata_base.specs.ParseInfo.{is_set}
+use Rattle.perfdata_sources.specs.Raw.{bytes_of}
+use Rattle.perfdata_identifiers.specs.ParseInfo.{is_set}
 use Rattle.perfdata_events.specs.Misc.{COMM_EXEC}
 use Rattle.perfdata_events.specs.Format.{Outcome, fixed_and_text}
 use Rattle.perfdata_events.specs.Fields.{i32_at}

@@ -2,7 +2,7 @@
 -- task after a switch out, and the task before a switch in. The bits are those of the record header's `misc`: 13, the switch is out
 -- (PERF_RECORD_MISC_SWITCH_OUT); 14, the task was preempted (PERF_RECORD_MISC_SWITCH_OUT_PREEMPT).
 use Rattle.std.specs.Prelude.{ℕ, List, Option, None, Some}
-use Rattle.perfdata_base.specs.ParseInfo.{is_set}
+use Rattle.perfdata_identifiers.specs.ParseInfo.{is_set}
 use Rattle.perfdata_events.specs.Misc.{SWITCH_OUT, SWITCH_OUT_PREEMPT}
 use Rattle.perfdata_events.specs.Format.{Outcome, fixed}
 use Rattle.perfdata_events.specs.Fields.{i32_at}

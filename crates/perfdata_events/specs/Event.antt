@@ -1,11 +1,11 @@
 -- The parsed form of a kernel record, by its type (`enum perf_event_type` of Linux's `perf_event.h`).
-use Rattle.std.specs.Prelude.{◌≡◌, ◌≢◌, ◌==◌, ℕ, ◌^◌, ◌<◌, ◌≤◌, ◌⊎◌, ◌&&◌, ◌||◌, not, nat_lt, Bool, true, false, List, length, Result, Ok, Err}
+use Rattle.std.specs.Prelude.{◌≡◌, ◌≢◌, ℕ, ◌^◌, ◌<◌, ◌≤◌, ◌⊎◌, ◌&&◌, ◌||◌, not, nat_lt, Bool, true, false, List, length, Result, Ok, Err}
 use Rattle.std.specs.IoError.{error_kind}
 use Rattle.std.specs.declared.io.Error.{Error}
 use Rattle.std.specs.declared.io.ErrorKind.{ErrorKind}
-use Rattle.perfdata_base.specs.Raw.{bytes_of}
-use Rattle.perfdata_base.specs.Endian.{number_in}
-use Rattle.perfdata_base.specs.ParseInfo.{is_set}
+use Rattle.perfdata_sources.specs.Raw.{bytes_of}
+use Rattle.perfdata_sources.specs.Endian.{number_in}
+use Rattle.perfdata_identifiers.specs.ParseInfo.{is_set}
 use Rattle.perfdata_base.specs.declared.event.raw_event_record.RawEventRecord.{RawEventRecord}
 use Rattle.perfdata_events.specs.Format.{encodes, fails, IsTruncated}
 use Rattle.perfdata_events.specs.SampleFormat.{READ, BRANCH_STACK}
@@ -36,10 +36,6 @@ use Rattle.perfdata_events.specs.declared.event.EventRecord.TheVariants.{Mmap, L
 abbrev pub has_known_values : EventFormat → Bool
 has_known_values format = nat_lt format.read_format.0 (2 ^ 5)
 
--- A record of this type consists of counter values whose offsets aren't known.
-abbrev pub has_unknown_values : EventFormat → ℕ → Bool
-has_unknown_values format kind = (kind == 8) && not (has_known_values format)
-
 -- The offset of each field of a sample is known: no bit of the sample format from 25 on is set, each counter value is known
 -- where they are selected (bit 4), and no bit of the branch sample type from 20 on is set where a branch stack is selected (bit 11).
 abbrev pub has_known_fields : EventFormat → Bool
@@ -68,7 +64,8 @@ module _ (format : EventFormat) (raw : RawEventRecord) where
   IsEvent xs (Aux v) rest = (kind_of ≡ 11) × aux number xs (encodes v rest)
   IsEvent xs (ItraceStart v) rest = (kind_of ≡ 12) × itrace_start number xs (encodes v rest)
   IsEvent xs (LostSamples v) rest = (kind_of ≡ 13) × lost_samples number xs (encodes v rest)
-  IsEvent xs (ContextSwitch v) rest = ((kind_of ≡ 14) × switch raw.misc xs (encodes v rest)) ⊎ ((kind_of ≡ 15) × switch_cpu_wide raw.misc number xs (encodes v rest))
+  IsEvent xs (ContextSwitch v) rest =
+      ((kind_of ≡ 14) × switch raw.misc xs (encodes v rest)) ⊎ ((kind_of ≡ 15) × switch_cpu_wide raw.misc number xs (encodes v rest))
   IsEvent xs (Namespaces v) rest = (kind_of ≡ 16) × namespaces number xs (encodes (namespaces_of v) rest)
   IsEvent xs (Ksymbol v) rest = (kind_of ≡ 17) × ksymbol number xs (encodes (symbol_of v) rest)
   IsEvent xs (BpfEvent v) rest = (kind_of ≡ 18) × bpf_event number xs (encodes (bpf_event_of v) rest)

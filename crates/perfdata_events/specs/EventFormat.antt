@@ -1,16 +1,10 @@
 -- What the bodies of one attribute's records hold, and where the fields of a record end.
-use Rattle.std.specs.Prelude.{◌≡◌, Bool, ℕ, ◌-◌, ◌≤◌, List, [], ◌∷◌, length, take, drop, Result, Ok, Err, if◌then◌else◌}
-use Rattle.std.specs.IoError.{error_kind}
-use Rattle.std.specs.declared.io.Error.{Error}
-use Rattle.perfdata_base.specs.Raw.{bytes_of}
-use Rattle.perfdata_base.specs.ParseInfo.{is_set}
-use Rattle.perfdata_base.specs.declared.attr.PerfEventAttr.{PerfEventAttr}
-use Rattle.perfdata_base.specs.declared.endian.Endianness.{Endianness}
-use Rattle.perfdata_base.specs.declared.endian.Endianness.TheVariants.{LittleEndian, BigEndian}
-use Rattle.perfdata_base.specs.declared.raw.RawData.{RawData}
+use Rattle.std.specs.Prelude.{Bool, ℕ, ◌-◌, List, [], ◌∷◌, length, take, drop, if◌then◌else◌}
+use Rattle.perfdata_identifiers.specs.ParseInfo.{is_set}
+use Rattle.perfdata_sources.specs.declared.attr.PerfEventAttr.{PerfEventAttr}
+use Rattle.perfdata_sources.specs.declared.endian.Endianness.{Endianness}
 use Rattle.perfdata_events.specs.SampleFormat.{TID, TIME, ID, CPU, STREAM_ID, IDENTIFIER}
-use Rattle.perfdata_events.specs.AttributeFlags.{SAMPLE_ID_ALL}
-use Rattle.perfdata_events.specs.Format.{IsTruncated}
+use Rattle.perfdata_events.specs.AttributeFlags.{SAMPLE_ID_ALL, recorded_flags}
 use Rattle.perfdata_events.specs.Words.{words_size}
 use Rattle.perfdata_events.specs.declared.fields.registers.RegisterMasks.{RegisterMasks}
 use Rattle.perfdata_events.specs.declared.format.EventFormat.{EventFormat}
@@ -36,10 +30,9 @@ module _ (attr : PerfEventAttr) (order : Endianness) where
   abbrev pub big_endian_format_of : EventFormat
   big_endian_format_of = format_with (is_set attr.flags.0 (63 - SAMPLE_ID_ALL))
 
--- The same if a compiler of the byte order laid out the flags.
-abbrev pub native_format_of : PerfEventAttr → Endianness → EventFormat
-native_format_of attr LittleEndian = event_format_of attr LittleEndian
-native_format_of attr BigEndian = big_endian_format_of attr BigEndian
+  -- The same by the flags as they are recorded in this byte order.
+  abbrev pub native_format_of : EventFormat
+  native_format_of = format_with (is_set (recorded_flags order attr.flags.0) SAMPLE_ID_ALL)
 
 -- The masks of the registers in a sample.
 abbrev pub register_masks_of : EventFormat → RegisterMasks
@@ -55,12 +48,3 @@ before_trailing format body = take (length body - trailing_size format) body
 
 abbrev pub trailing : EventFormat → List ℕ → List ℕ
 trailing format body = drop (length body - trailing_size format) body
-
-pub record SplitsAtTrailing (format : EventFormat) (body : List ℕ) (parts : RawData × RawData) : Type 0 where
-  pub enough : trailing_size format ≤ length body
-  pub fields_are : bytes_of parts.0 ≡ before_trailing format body
-  pub trailing_is : bytes_of parts.1 ≡ trailing format body
-
-abbrev pub SplitsTrailing : EventFormat → List ℕ → Result (RawData × RawData) Error → Type 0
-SplitsTrailing format body (Ok parts) = SplitsAtTrailing format body parts
-SplitsTrailing format body (Err e) = IsTruncated (trailing_size format) body (error_kind e)

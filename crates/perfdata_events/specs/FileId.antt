@@ -1,13 +1,10 @@
 -- The identity of a mapped file in PERF_RECORD_MMAP2 of Linux's `perf_event.h`: union { struct { u32 maj; u32 min; u64 ino;
 -- u64 ino_generation; }; struct { u8 build_id_size; u8 __reserved_1; u16 __reserved_2; u8 build_id[20]; }; }. It is a build id if bit 14
 -- of the record header's `misc` is set (PERF_RECORD_MISC_MMAP_BUILD_ID).
-use Rattle.std.specs.Prelude.{◌≡◌, ℕ, ◌<◌, ◌≤◌, ◌⊎◌, Bool, true, List, length, take, drop, slice_index, Result, Ok, Err, if◌then◌else◌}
-use Rattle.std.specs.IoError.{error_kind}
-use Rattle.std.specs.declared.io.Error.{Error}
+use Rattle.std.specs.Prelude.{◌≡◌, ℕ, ◌<◌, ◌≤◌, ◌⊎◌, Bool, true, List, length, take, drop, slice_index, if◌then◌else◌}
 use Rattle.std.specs.declared.io.ErrorKind.{ErrorKind}
 use Rattle.std.specs.declared.io.ErrorKind.TheVariants.{InvalidData}
-use Rattle.perfdata_base.specs.declared.raw.RawData.{RawData}
-use Rattle.perfdata_base.specs.Raw.{bytes_of}
+use Rattle.perfdata_sources.specs.Raw.{bytes_of}
 use Rattle.perfdata_events.specs.Format.{Outcome, encodes, fails, IsTruncated}
 use Rattle.perfdata_events.specs.Fields.{u32_at, u64_at}
 use Rattle.perfdata_events.specs.declared.fields.file_id.Mmap2InodeAndVersion.{Mmap2InodeAndVersion}
@@ -17,19 +14,6 @@ use Rattle.perfdata_events.specs.declared.fields.file_id.Mmap2FileId.TheVariants
 -- The build id in 24 bytes: its size, three reserved bytes, and as many bytes as the size says.
 abbrev pub build_id_at : List ℕ → List ℕ
 build_id_at bytes = take (slice_index bytes 0) (drop 4 bytes)
-
-pub record IsBuildId (bytes build_id : List ℕ) : Type 0 where
-  pub size_fits : slice_index bytes 0 ≤ 20
-  pub bytes_are : build_id ≡ build_id_at bytes
-
-pub record HasLargeSize (bytes : List ℕ) (kind : ErrorKind) : Type 0 where
-  pub too_large : 20 < slice_index bytes 0
-  pub kind_is : kind ≡ InvalidData
-
--- What reading the build id in 24 bytes does.
-abbrev pub ReadsBuildId : List ℕ → Result RawData Error → Type 0
-ReadsBuildId bytes (Ok build_id) = IsBuildId bytes (bytes_of build_id)
-ReadsBuildId bytes (Err e) = HasLargeSize bytes (error_kind e)
 
 -- The bytes of a build id, or an inode with its device and its generation.
 pub data FileId : Type 0 where
@@ -42,7 +26,12 @@ file_id_of (BuildId bytes) = build_id (bytes_of bytes)
 
 module _ (number : ℕ → List ℕ → ℕ) where
   abbrev pub inode_at : List ℕ → Mmap2InodeAndVersion
-  inode_at bytes = record { major = u32_at number 0 bytes; minor = u32_at number 4 bytes; inode = u64_at number 8 bytes; inode_generation = u64_at number 16 bytes }
+  inode_at bytes = record {
+    major = u32_at number 0 bytes;
+    minor = u32_at number 4 bytes;
+    inode = u64_at number 8 bytes;
+    inode_generation = u64_at number 16 bytes;
+  }
 
   module _ (is_build_id : Bool) where
     -- The file id in 24 bytes.

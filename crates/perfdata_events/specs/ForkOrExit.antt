@@ -6,7 +6,13 @@ use Rattle.perfdata_events.specs.declared.task.ForkOrExitRecord.{ForkOrExitRecor
 
 module _ (number : ℕ → List ℕ → ℕ) where
   abbrev pub fork_or_exit_at : List ℕ → ForkOrExitRecord
-  fork_or_exit_at bytes = record { pid = i32_at number 0 bytes; ppid = i32_at number 4 bytes; tid = i32_at number 8 bytes; ptid = i32_at number 12 bytes; timestamp = u64_at number 16 bytes }
+  fork_or_exit_at bytes = record {
+    pid = i32_at number 0 bytes;
+    ppid = i32_at number 4 bytes;
+    tid = i32_at number 8 bytes;
+    ptid = i32_at number 12 bytes;
+    timestamp = u64_at number 16 bytes;
+  }
 
   abbrev pub fork_or_exit : List ℕ → Outcome ForkOrExitRecord → Type 0
   fork_or_exit = fixed 24 fork_or_exit_at

@@ -4,7 +4,7 @@ use Rattle.std.specs.IoError.{error_kind}
 use Rattle.std.specs.declared.io.Error.{Error}
 use Rattle.std.specs.declared.io.ErrorKind.{ErrorKind}
 use Rattle.std.specs.declared.io.ErrorKind.TheVariants.{UnexpectedEof, InvalidData}
-use Rattle.perfdata_base.specs.Raw.{HasNoNul, SplitsAtNul}
+use Rattle.perfdata_sources.specs.Raw.{HasNoNul, SplitsAtNul}
 
 -- Bytes start with the encoding of a value, which other bytes follow; or they have a first error, of this kind.
 pub data Outcome (V : Type 0) : Type 0 where
@@ -38,12 +38,14 @@ text xs (encodes string rest) = SplitsAtNul xs string rest
 text xs (fails kind) = IsUnterminated xs kind
 
 -- A value, and then one whose format depends on it. The first error is that of the first value, or of the second one.
-pub record IsBoth {A B : Type 0} (first : List ℕ → Outcome A → Type 0) (second : A → List ℕ → Outcome B → Type 0) (xs : List ℕ) (value : A × B) (rest : List ℕ) : Type 0 where
+pub record IsBoth {A B : Type 0} (first : List ℕ → Outcome A → Type 0) (second : A → List ℕ → Outcome B → Type 0) (xs : List ℕ) (value : A × B)
+    (rest : List ℕ) : Type 0 where
   pub middle : List ℕ
   pub starts : first xs (encodes value.0 middle)
   pub goes_on : second value.0 middle (encodes value.1 rest)
 
-pub record FailsSecond {A B : Type 0} (first : List ℕ → Outcome A → Type 0) (second : A → List ℕ → Outcome B → Type 0) (xs : List ℕ) (kind : ErrorKind) : Type 0 where
+pub record FailsSecond {A B : Type 0} (first : List ℕ → Outcome A → Type 0) (second : A → List ℕ → Outcome B → Type 0) (xs : List ℕ)
+    (kind : ErrorKind) : Type 0 where
   pub value : A
   pub middle : List ℕ
   pub starts : first xs (encodes value middle)
@@ -54,7 +56,8 @@ both first second xs (encodes value rest) = IsBoth first second xs value rest
 both first second xs (fails kind) = first xs (fails kind) ⊎ FailsSecond first second xs kind
 
 -- A value that only determines the format of the next one.
-pub record IsLed {A B : Type 0} (first : List ℕ → Outcome A → Type 0) (second : A → List ℕ → Outcome B → Type 0) (xs : List ℕ) (value : B) (rest : List ℕ) : Type 0 where
+pub record IsLed {A B : Type 0} (first : List ℕ → Outcome A → Type 0) (second : A → List ℕ → Outcome B → Type 0) (xs : List ℕ) (value : B)
+    (rest : List ℕ) : Type 0 where
   pub lead : A
   pub middle : List ℕ
   pub starts : first xs (encodes lead middle)

@@ -1,6 +1,6 @@
 -- PERF_RECORD_KSYMBOL of Linux's `perf_event.h`: { u64 addr; u32 len; u16 ksym_type; u16 flags; char name[]; }
 use Rattle.std.specs.Prelude.{ℕ, List}
-use Rattle.perfdata_base.specs.Raw.{bytes_of}
+use Rattle.perfdata_sources.specs.Raw.{bytes_of}
 use Rattle.perfdata_events.specs.Format.{Outcome, fixed_and_text}
 use Rattle.perfdata_events.specs.Fields.{u16_at, u32_at, u64_at}
 use Rattle.perfdata_events.specs.declared.kernel.KsymbolRecord.{KsymbolRecord}
@@ -18,7 +18,12 @@ symbol_of v = (record { address = v.address; byte_length = v.length; symbol_type
 
 module _ (number : ℕ → List ℕ → ℕ) where
   abbrev pub symbol_at : List ℕ → Symbol
-  symbol_at bytes = record { address = u64_at number 0 bytes; byte_length = u32_at number 8 bytes; symbol_type = u16_at number 12 bytes; flags = u16_at number 14 bytes }
+  symbol_at bytes = record {
+    address = u64_at number 0 bytes;
+    byte_length = u32_at number 8 bytes;
+    symbol_type = u16_at number 12 bytes;
+    flags = u16_at number 14 bytes;
+  }
 
   abbrev pub ksymbol : List ℕ → Outcome (Symbol × List ℕ) → Type 0
   ksymbol = fixed_and_text 16 symbol_at

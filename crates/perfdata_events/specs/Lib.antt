@@ -42,3 +42,4 @@ pub mod WholeBody
 pub mod RecordId
 pub mod OneOutcome
 pub mod Prefix
+pub mod steps

@@ -3,15 +3,14 @@
 -- char filename[]; }. The union is a build id if bit 14 of the record header's `misc` is set (PERF_RECORD_MISC_MMAP_BUILD_ID), and the
 -- mapping isn't executable if bit 13 is (PERF_RECORD_MISC_MMAP_DATA).
 use Rattle.std.specs.Prelude.{ℕ, List}
-use Rattle.perfdata_base.specs.Raw.{bytes_of}
-use Rattle.perfdata_base.specs.ParseInfo.{is_set}
+use Rattle.perfdata_sources.specs.Raw.{bytes_of}
+use Rattle.perfdata_identifiers.specs.ParseInfo.{is_set}
 use Rattle.perfdata_events.specs.Misc.{MMAP_BUILD_ID}
 use Rattle.perfdata_events.specs.Format.{Outcome, fixed, fixed_and_text, both}
 use Rattle.perfdata_events.specs.Fields.{u32_at}
 use Rattle.perfdata_events.specs.FileId.{FileId, file_id_of, file_id}
 use Rattle.perfdata_events.specs.Mmap.{Mapping, mapping_at}
 use Rattle.perfdata_events.specs.declared.mmap2.Mmap2Record.{Mmap2Record}
-use Rattle.perfdata_events.specs.declared.mmap2.ProtectedPath.{ProtectedPath}
 
 -- The protection and the flags of a mapping.
 pub record Protection : Type 0 where
@@ -24,9 +23,6 @@ mapping2_of v = (
   record { pid = v.pid; tid = v.tid; address = v.address; byte_length = v.length; page_offset = v.page_offset; is_data = v.is_data },
   (file_id_of v.file_id, (record { protection = v.protection; flags = v.flags }, bytes_of v.path)),
 )
-
-abbrev pub protected_path_of : ProtectedPath → Protection × List ℕ
-protected_path_of v = (record { protection = v.protection; flags = v.flags }, bytes_of v.path)
 
 module _ (number : ℕ → List ℕ → ℕ) where
   abbrev pub protection_at : List ℕ → Protection

@@ -3,7 +3,7 @@
 -- { u64 lost; } && PERF_FORMAT_LOST (4) }. With it: { u64 nr; { u64 time_enabled; } && (0) { u64 time_running; } && (1) { u64 value;
 -- { u64 id; } && (2) { u64 lost; } && (4) } cntr[nr]; }.
 use Rattle.std.specs.Prelude.{◌≡◌, ℕ, ◌+◌, ◌-◌, ◌*◌, ◌/◌, ◌≤◌, ◌⊎◌, Bool, true, false, List, [], ◌∷◌, length, slice_index, Some, None, if◌then◌else◌}
-use Rattle.perfdata_base.specs.ParseInfo.{is_set}
+use Rattle.perfdata_identifiers.specs.ParseInfo.{is_set}
 use Rattle.perfdata_events.specs.ReadFormat.{TOTAL_TIME_ENABLED, TOTAL_TIME_RUNNING, ID, GROUP, LOST}
 use Rattle.perfdata_events.specs.Fields.{u64_at}
 use Rattle.perfdata_events.specs.Format.{Outcome, encodes, fails, IsTruncated, fixed, both, led}
@@ -55,7 +55,8 @@ abbrev pub counter_at : GroupValues → ℕ → CounterValue
 counter_at v index = record {
   value = slice_index (u64s_in v.numbers) (counter_width v.has_id v.has_lost * index);
   id = if v.has_id then Some (slice_index (u64s_in v.numbers) (counter_width v.has_id v.has_lost * index + 1)) else None;
-  lost = if v.has_lost then Some (slice_index (u64s_in v.numbers) (counter_width v.has_id v.has_lost * index + (counter_width v.has_id v.has_lost - 1))) else None;
+  lost =
+      if v.has_lost then Some (slice_index (u64s_in v.numbers) (counter_width v.has_id v.has_lost * index + (counter_width v.has_id v.has_lost - 1))) else None;
 }
 
 module _ (number : ℕ → List ℕ → ℕ) (format : ℕ) where

@@ -5,8 +5,8 @@
 -- (`perf_output_sample`); a comment in `perf_event.h` puts AUX before the page sizes.
 use Rattle.std.specs.Prelude.{◌≡◌, ℕ, ◌+◌, ◌*◌, ◌/◌, ◌≤◌, ◌==◌, not, List, [], ◌∷◌, length, slice_index, Option}
 use Rattle.std.specs.Option.{option_map}
-use Rattle.perfdata_base.specs.Raw.{bytes_of}
-use Rattle.perfdata_base.specs.ParseInfo.{is_set}
+use Rattle.perfdata_sources.specs.Raw.{bytes_of}
+use Rattle.perfdata_identifiers.specs.ParseInfo.{is_set}
 use Rattle.perfdata_events.specs.SampleFormat.{IP, TID, TIME, ADDR, READ, CALLCHAIN, ID, CPU, PERIOD, STREAM_ID, RAW, BRANCH_STACK, REGS_USER, STACK_USER, IDENTIFIER}
 use Rattle.perfdata_events.specs.BranchType.{HW_INDEX, COUNTERS}
 use Rattle.perfdata_events.specs.Fields.{u32_at, u64_at}

@@ -1,6 +1,6 @@
 -- The parts of each value are in one slice each.
 use Rattle.std.specs.Prelude.{⊤, IfSome}
-use Rattle.perfdata_base.specs.Raw.{IsSingle}
+use Rattle.perfdata_sources.specs.Raw.{IsSingle}
 use Rattle.perfdata_events.specs.declared.fields.u64s.RawDataU64.{RawDataU64}
 use Rattle.perfdata_events.specs.declared.fields.call_chain.CallChain.{CallChain}
 use Rattle.perfdata_events.specs.declared.fields.file_id.Mmap2FileId.{Mmap2FileId}

@@ -1,7 +1,7 @@
 -- PERF_RECORD_TEXT_POKE of Linux's `perf_event.h`: { u64 addr; u16 old_len; u16 new_len; u8 bytes[]; }. The bytes are `old_len` old
 -- ones and then `new_len` new ones.
 use Rattle.std.specs.Prelude.{ℕ, ◌+◌, ◌++◌, List, length}
-use Rattle.perfdata_base.specs.Raw.{bytes_of}
+use Rattle.perfdata_sources.specs.Raw.{bytes_of}
 use Rattle.perfdata_events.specs.Format.{Outcome, fixed_and_block}
 use Rattle.perfdata_events.specs.Fields.{u16_at, u64_at}
 use Rattle.perfdata_events.specs.declared.kernel.TextPokeRecord.{TextPokeRecord}
@@ -14,7 +14,11 @@ pub record Poke : Type 0 where
 
 -- The parts of a record, and its old and new bytes one after the other.
 abbrev pub poke_of : TextPokeRecord → Poke × List ℕ
-poke_of v = (record { address = v.address; old_len = length (bytes_of v.old_bytes); new_len = length (bytes_of v.new_bytes) }, bytes_of v.old_bytes ++ bytes_of v.new_bytes)
+poke_of v = (
+  record { address = v.address; old_len = length (bytes_of v.old_bytes); new_len = length (bytes_of v.new_bytes) },
+  bytes_of v.old_bytes
+      ++ bytes_of v.new_bytes,
+)
 
 module _ (number : ℕ → List ℕ → ℕ) where
   abbrev pub poke_at : List ℕ → Poke

@@ -1,6 +1,6 @@
 -- The bytes of a body: the fields of the record, in order, then padding, then the sample_id fields.
 use Rattle.std.specs.Prelude.{◌≡◌, ℕ, ◌++◌, List, length, ⊤}
-use Rattle.perfdata_base.specs.Raw.{bytes_of}
+use Rattle.perfdata_sources.specs.Raw.{bytes_of}
 use Rattle.perfdata_base.specs.declared.event.raw_event_record.RawEventRecord.{RawEventRecord}
 use Rattle.perfdata_events.specs.Format.{encodes}
 use Rattle.perfdata_events.specs.EventFormat.{trailing_size, trailing}

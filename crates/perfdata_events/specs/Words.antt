@@ -1,8 +1,8 @@
 -- Numbers of eight bytes each, one after another, and optional words of eight bytes each.
 use Rattle.std.specs.Prelude.{◌≡◌, Bool, ℕ, zero, suc, ◌+◌, ◌*◌, ◌/◌, ◌≤◌, ◌⊎◌, List, [], ◌∷◌, length, take, drop, Option, None, Some, if◌then◌else◌}
-use Rattle.perfdata_base.specs.Raw.{bytes_of}
-use Rattle.perfdata_base.specs.Endian.{number_in}
-use Rattle.perfdata_base.specs.ParseInfo.{is_set}
+use Rattle.perfdata_sources.specs.Raw.{bytes_of}
+use Rattle.perfdata_sources.specs.Endian.{number_in}
+use Rattle.perfdata_identifiers.specs.ParseInfo.{is_set}
 use Rattle.perfdata_events.specs.Format.{Outcome, encodes, fails, IsTruncated, IsTruncatedAfter}
 use Rattle.perfdata_events.specs.declared.fields.u64s.RawDataU64.{RawDataU64}
 use Rattle.perfdata_events.specs.declared.fields.u64s.RawDataU64Iter.{RawDataU64Iter}
@@ -24,7 +24,8 @@ module _ (number : ℕ → List ℕ → ℕ) where
   u64s n xs (fails kind) = IsTruncated (8 * n) xs kind
 
   -- A part of n bytes, whose value is a function of them, and numbers whose count is also a function of them.
-  pub record IsFixedAndU64s {V : Type 0} (n : ℕ) (value_of : List ℕ → V) (count_of : List ℕ → ℕ) (xs : List ℕ) (value : V × List ℕ) (rest : List ℕ) : Type 0 where
+  pub record IsFixedAndU64s {V : Type 0} (n : ℕ) (value_of : List ℕ → V) (count_of : List ℕ → ℕ) (xs : List ℕ) (value : V × List ℕ)
+      (rest : List ℕ) : Type 0 where
     pub enough : n ≤ length xs
     pub value_is : value.0 ≡ value_of (take n xs)
     pub numbers_are : AreU64s (count_of (take n xs)) (drop n xs) value.1 rest

@@ -1,7 +1,7 @@
 //! The parsed bodies of kernel records.
 ghost use Rattle.std.specs.Prelude.{◌≡◌, ◌<◌, ◌≤◌, ◌≢◌, ◌||◌, ◌&&◌, nat_lt, not, IfOk, IfErr};
 ghost use Rattle.std.specs.IoError.{error_kind};
-ghost use Rattle.perfdata_base.specs.Raw.{bytes_of, IsSingle};
+ghost use Rattle.perfdata_sources.specs.Raw.{bytes_of, IsSingle};
 ghost use Rattle.perfdata_events.specs.Single.{KeepsSingle};
 ghost use Rattle.perfdata_events.specs.SingleParts.{HasSingleParts};
 
@@ -96,7 +96,8 @@ fn copy_fields<'a>(raw: &RawEventRecord<'a>) -> RawEventRecord<'a>
 // are set to zero when it is called.
 impl EventFormat {
     ghost use Rattle.perfdata_events.specs.Event.{DecodesEvent, IsParsed, ParseFails};
-    ghost use Rattle.perfdata_events.specs.Event.{has_known_fields, has_known_values, has_unknown_values};
+    ghost use Rattle.perfdata_events.specs.Event.{has_known_fields, has_known_values};
+    ghost use Rattle.perfdata_events.specs.steps.Event.{has_unknown_values};
 
     // Parses the fields of a record of type 1 to 7.
     #[inline(never)]

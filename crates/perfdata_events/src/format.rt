@@ -1,6 +1,6 @@
 //! What the bodies of one attribute's records hold.
 ghost use Rattle.std.specs.Prelude.{◌≡◌, [], ◌∷◌, IfOk};
-ghost use Rattle.perfdata_base.specs.Raw.{bytes_of, IsSingle};
+ghost use Rattle.perfdata_sources.specs.Raw.{bytes_of, IsSingle};
 ghost use Rattle.perfdata_events.specs.Words.{word_size, words_size};
 ghost use Rattle.perfdata_events.specs.SampleFormat.{TID, TIME, ID, STREAM_ID, CPU, IDENTIFIER};
 
@@ -88,7 +88,8 @@ fn sample_id_size(format: SampleFields) -> usize
 impl EventFormat {
     ghost use Rattle.perfdata_events.specs.EventFormat.{event_format_of, big_endian_format_of};
     ghost use Rattle.perfdata_events.specs.EventFormat.{native_format_of, register_masks_of};
-    ghost use Rattle.perfdata_events.specs.EventFormat.{trailing_size, SplitsTrailing};
+    ghost use Rattle.perfdata_events.specs.EventFormat.{trailing_size};
+    ghost use Rattle.perfdata_events.specs.steps.EventFormat.{SplitsTrailing};
 
     /// Returns the format of the records of an attribute whose flags a little-endian compiler laid out, with
     /// numbers in the byte order `endian`.
@@ -123,15 +124,15 @@ impl EventFormat {
         }
     }
 
-    /// Returns the format of the records of an attribute whose flags a compiler of the byte order `endian`
-    /// laid out: that of [`EventFormat::with_big_endian_flags`] in big-endian order, else that of
-    /// [`EventFormat::with_little_endian_flags`].
+    /// Returns the format of the records of an attribute of a recording in the byte order `endian`. Its flags
+    /// are those of [`EventFlags::from_attribute`].
     pub fn new(attr: &PerfEventAttr, endian: Endianness) -> EventFormat
         ensures { result ≡ native_format_of attr.now endian }
     {
-        match endian {
-            Endianness::LittleEndian => EventFormat::with_little_endian_flags(attr, endian),
-            Endianness::BigEndian => EventFormat::with_big_endian_flags(attr, endian),
+        let flags = EventFlags::from_attribute(attr, endian);
+        EventFormat {
+            sample_id_all: flags.contains(EventFlags::SAMPLE_ID_ALL),
+            ..EventFormat::with_little_endian_flags(attr, endian)
         }
     }
 

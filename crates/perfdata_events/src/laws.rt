@@ -1,12 +1,12 @@
 //! Laws on the definitions of formats.
 ghost use Rattle.std.specs.Prelude.{ℕ, List, ◌≡◌, ◌<◌, ◌++◌, not, map, filter};
 ghost use Rattle.std.specs.Option.{option_or};
-ghost use Rattle.perfdata_base.specs.Raw.{bytes_of};
-ghost use Rattle.perfdata_base.specs.ParseInfo.{parse_info_of, id_parse_info_of};
-ghost use Rattle.perfdata_base.specs.RecordFields.{read_time, read_identifier};
-ghost use Rattle.perfdata_base.specs.declared.attr.PerfEventAttr.{PerfEventAttr};
+ghost use Rattle.perfdata_sources.specs.Raw.{bytes_of};
+ghost use Rattle.perfdata_identifiers.specs.ParseInfo.{parse_info_of, id_parse_info_of};
+ghost use Rattle.perfdata_identifiers.specs.RecordFields.{read_time, read_identifier};
+ghost use Rattle.perfdata_sources.specs.declared.attr.PerfEventAttr.{PerfEventAttr};
 ghost use Rattle.perfdata_base.specs.declared.event.raw_event_record.RawEventRecord.{RawEventRecord};
-ghost use Rattle.perfdata_base.specs.declared.endian.Endianness.{Endianness};
+ghost use Rattle.perfdata_sources.specs.declared.endian.Endianness.{Endianness};
 ghost use Rattle.perfdata_events.specs.EventFormat.{event_format_of};
 ghost use Rattle.perfdata_events.specs.RecordId.{IsSampleIdOf};
 ghost use Rattle.perfdata_events.specs.declared.sample_id.SampleId.{SampleId};

@@ -1,7 +1,7 @@
 //! Records on mappings.
-ghost use Rattle.perfdata_base.specs.Raw.{bytes_of, IsSingle};
+ghost use Rattle.perfdata_sources.specs.Raw.{bytes_of, IsSingle};
 ghost use Rattle.perfdata_events.specs.Single.{KeepsSingle, NoParts};
-ghost use Rattle.perfdata_base.specs.Endian.{number_in};
+ghost use Rattle.perfdata_sources.specs.Endian.{number_in};
 ghost use Rattle.perfdata_events.specs.Format.{Decodes, fixed};
 
 use crate::fields::numbers::{field_i32, field_u64};
@@ -42,7 +42,8 @@ pub(crate) struct AddressRange {
 }
 
 impl AddressRange {
-    ghost use Rattle.perfdata_events.specs.Mmap.{address_range_of, mapping_at};
+    ghost use Rattle.perfdata_events.specs.Mmap.{mapping_at};
+    ghost use Rattle.perfdata_events.specs.steps.Mmap.{address_range_of};
 
     // Parses the start of a record's fields, and removes it. `misc` is that of the record header.
     pub(crate) fn parse(

@@ -1,8 +1,8 @@
 //! Records on mappings with the identity of the mapped file.
-ghost use Rattle.perfdata_base.specs.Raw.{bytes_of, IsSingle};
+ghost use Rattle.perfdata_sources.specs.Raw.{bytes_of, IsSingle};
 ghost use Rattle.perfdata_events.specs.Single.{KeepsSingle};
 ghost use Rattle.perfdata_events.specs.SingleParts.{SingleMapping2};
-ghost use Rattle.perfdata_base.specs.Endian.{number_in};
+ghost use Rattle.perfdata_sources.specs.Endian.{number_in};
 ghost use Rattle.perfdata_events.specs.Format.{Decodes, fixed_and_text};
 
 pub use crate::fields::file_id::{Mmap2FileId, Mmap2InodeAndVersion};
@@ -48,7 +48,8 @@ struct ProtectedPath<'a> {
 }
 
 impl<'a> ProtectedPath<'a> {
-    ghost use Rattle.perfdata_events.specs.Mmap2.{protection_at, protected_path_of};
+    ghost use Rattle.perfdata_events.specs.Mmap2.{protection_at};
+    ghost use Rattle.perfdata_events.specs.steps.Mmap2.{protected_path_of};
 
     fn parse(endian: Endianness, fields: &mut RawData<'a>) -> Result<ProtectedPath<'a>>
         ensures decodes { Decodes (fixed_and_text 8 (protection_at (number_in endian))) protected_path_of

@@ -1,8 +1,8 @@
 //! The values of counters.
-ghost use Rattle.perfdata_base.specs.Raw.{bytes_of};
+ghost use Rattle.perfdata_sources.specs.Raw.{bytes_of};
 ghost use Rattle.perfdata_events.specs.Single.{KeepsSingle};
 ghost use Rattle.perfdata_events.specs.SingleParts.{SingleValuesOf};
-ghost use Rattle.perfdata_base.specs.Endian.{number_in};
+ghost use Rattle.perfdata_sources.specs.Endian.{number_in};
 ghost use Rattle.perfdata_events.specs.Format.{Decodes};
 
 pub use crate::fields::read_values::{CounterValue, GroupValues, ReadValues, SingleValues};

@@ -1,7 +1,7 @@
 //! Who wrote a kernel record, when and where.
 ghost use Rattle.std.specs.Prelude.{IfOk, IfErr, ◌≡◌};
 ghost use Rattle.std.specs.IoError.{error_kind};
-ghost use Rattle.perfdata_base.specs.Raw.{bytes_of};
+ghost use Rattle.perfdata_sources.specs.Raw.{bytes_of};
 
 use crate::format::EventFormat;
 use crate::sample::words::{EventFields, OriginFields};

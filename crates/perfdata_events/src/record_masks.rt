@@ -2,7 +2,7 @@
 //! constant here are preserved.
 ghost use Rattle.std.specs.Prelude.{⊤, ◌≡◌, ◌/◌, ◌%◌, ◌^◌, [], ◌∷◌, codes};
 ghost use Rattle.perfdata_events.specs.BranchFlags.{branch_flags_in};
-ghost use Rattle.perfdata_base.specs.declared.endian.Endianness.TheVariants.{BigEndian};
+ghost use Rattle.perfdata_sources.specs.declared.endian.Endianness.TheVariants.{BigEndian};
 
 use bitflags::{Flag, Flags, bitflag_items};
 use perfdata_base::raw::Endianness;

@@ -1,8 +1,11 @@
 //! The bits of attributes and record headers, by their names in Linux's `perf_event.h`. Bits without a
 //! constant here are preserved.
 ghost use Rattle.std.specs.Prelude.{⊤, ◌≡◌, ◌/◌, ◌%◌, ◌^◌, [], ◌∷◌, codes};
+ghost use Rattle.perfdata_events.specs.AttributeFlags.{recorded_flags};
 
 use bitflags::{Flag, Flags, bitflag_items};
+use perfdata_base::attr::PerfEventAttr;
+use perfdata_base::raw::Endianness;
 
 /// The fields of a sample (`perf_event_sample_format`).
 #[derive(Clone, Copy, Debug, PartialEq, Eq)]
@@ -328,7 +331,25 @@ impl Flags for EventFlags {
     }
 }
 
+// What a word of flags is a multiple of if no flag is set but those that are known, of which flag n is bit
+// 63 - n: 2^26, since 38 flags are known.
+const FLAGS_FROM_TOP: u64 = 1 << 26;
+
 impl EventFlags {
+    /// Returns the flags of an attribute of a recording in the byte order `endian`.
+    ///
+    /// A big-endian compiler makes flag n bit 63 - n of the word, as on s390x. In big-endian order the word
+    /// is read so, if then a flag is set and none that isn't known. Otherwise flag n is bit n.
+    pub fn from_attribute(attr: &PerfEventAttr, endian: Endianness) -> EventFlags
+        ensures { result.0 ≡ recorded_flags endian attr.now.flags.0 }
+    {
+        let word = attr.flags.0;
+        EventFlags(match endian {
+            Endianness::BigEndian if word != 0 && word % FLAGS_FROM_TOP == 0 => word.reverse_bits(),
+            _ => word,
+        })
+    }
+
     /// Returns how exact the address of a sample is (`precise_ip`): 0 may be any later instruction, 3 is the
     /// instruction itself.
     pub fn precise_ip(&self) -> u8

@@ -1,8 +1,8 @@
 //! Records on tasks.
-ghost use Rattle.perfdata_base.specs.Raw.{bytes_of, IsSingle};
+ghost use Rattle.perfdata_sources.specs.Raw.{bytes_of, IsSingle};
 ghost use Rattle.perfdata_events.specs.Single.{KeepsSingle, NoParts};
 ghost use Rattle.perfdata_events.specs.SingleParts.{SingleNumbers};
-ghost use Rattle.perfdata_base.specs.Endian.{number_in};
+ghost use Rattle.perfdata_sources.specs.Endian.{number_in};
 ghost use Rattle.perfdata_events.specs.Format.{Decodes};
 ghost use Rattle.perfdata_events.specs.ForkOrExit.{fork_or_exit};
 

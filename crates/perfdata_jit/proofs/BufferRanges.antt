@@ -1,6 +1,6 @@
 -- Ranges of a list, and two lists that are equal up to an index.
 use borrow.Rule.Slice.PartMut.{put_mid, same_len_mid, mid_len, drop_put}
-use Rattle.perfdata_base.specs.Source.{prepend}
+use Rattle.perfdata_sources.specs.Source.{prepend}
 use Rattle.std.proofs.Common.{Option, Some, None, ◌≡◌, ℕ, zero, suc, ◌+◌, ◌-◌, ◌<◌, ◌≤◌, List, [], ◌++◌, length, take, drop, slice_range, refl, sym, ap, ap₂, ◌∙◌, arith, append_assoc, append-nil, length-take-le, take_at, length-drop, take-append-drop, take-take, drop-drop, take-take}
 use Rattle.std.proofs.lemmas.List.{drop-take, drop-append-le, take_rest, drop_all}
 use Rattle.std.proofs.Math.Seq.{take-add, take-append-add, drop-append-add}

@@ -1,8 +1,10 @@
 -- The bytes of a buffer that are in one piece.
 use Rattle.std.proofs.Common.{◌≡◌, ℕ, ◌+◌, ◌-◌, ◌<◌, ◌≤◌, ◌⊎◌, inl, inr, List, length, drop, take, slice_range, sym, ap, ◌∙◌, arith, length-append, length-drop, length-take-le}
 use Rattle.perfdata_jit.proofs.BufferRanges.{length_range}
-use Rattle.perfdata_jit.specs.Ring.{DoesNotWrap, ring_bytes, ring_len}
-use Rattle.perfdata_jit.specs.ReadBuffer.{IsContiguous, IsOverflowConsumed, IsSpanSingle, overflow_len, read_buffer_bytes}
+use Rattle.perfdata_jit.specs.Ring.{DoesNotWrap, ring_bytes}
+use Rattle.perfdata_jit.specs.steps.Ring.{ring_len}
+use Rattle.perfdata_jit.specs.ReadBuffer.{IsContiguous, IsOverflowConsumed, overflow_len, read_buffer_bytes}
+use Rattle.perfdata_jit.specs.steps.ReadBuffer.{IsSpanSingle}
 use Rattle.perfdata_jit.specs.declared.ring.Ring.{Ring}
 use Rattle.perfdata_jit.specs.declared.read_buffer.ReadBuffer.{ReadBuffer}
 use Rattle.perfdata_jit.specs.declared.read_buffer.BufferRange.{BufferRange}

@@ -4,10 +4,10 @@ use Rattle.std.proofs.lemmas.List.{take-append-le, drop-append-le}
 use Rattle.std.specs.IoError.{error_kind}
 use Rattle.std.specs.declared.io.Error.{Error}
 use Rattle.std.specs.declared.io.ErrorKind.TheVariants.{UnexpectedEof}
-use Rattle.perfdata_base.proofs.Numbers.{ReadsFirst, number_drop_prefix}
-use Rattle.perfdata_base.specs.Endian.{number_in}
-use Rattle.perfdata_base.specs.declared.endian.Endianness.{Endianness}
-use Rattle.perfdata_base.specs.declared.endian.Endianness.TheVariants.{LittleEndian, BigEndian}
+use Rattle.perfdata_sources.proofs.Numbers.{ReadsFirst, number_drop_prefix}
+use Rattle.perfdata_sources.specs.Endian.{number_in}
+use Rattle.perfdata_sources.specs.declared.endian.Endianness.{Endianness}
+use Rattle.perfdata_sources.specs.declared.endian.Endianness.TheVariants.{LittleEndian, BigEndian}
 use Rattle.perfdata_jit.specs.JitHeader.{header_after_magic, jit_magic_of, size_after_magic, IsEndianOfMagic, IsJitHeader, IsHeaderAfterMagic, IsTruncatedAfterMagic, DeclaresSize, BeginsWithJitHeader, HasTruncatedFixedPart, HasTruncatedHeader}
 use Rattle.perfdata_jit.specs.declared.header.JitDumpHeader.{JitDumpHeader}
 use Rattle.perfdata_jit.proofs.Fields.{number_at}

@@ -1,12 +1,13 @@
 -- The state of a buffered reader as bytes are read.
 use Rattle.std.proofs.Common.{◌≡◌, ℕ, ◌-◌, ◌≤◌, List, ◌++◌, length, sym, subst, ap, ◌∙◌, append_assoc, Bool, ap₂, take, arith}
-use Rattle.perfdata_base.proofs.ConsumedLemmas.{consumed_more, prepend_more}
-use Rattle.perfdata_base.specs.Source.{State, prepend, Consumed}
+use Rattle.perfdata_sources.proofs.ConsumedLemmas.{consumed_more, prepend_more}
+use Rattle.perfdata_sources.specs.Source.{State, prepend, Consumed}
 use Rattle.std.specs.Prelude.{true, false, Ok}
 use Rattle.std.proofs.lemmas.List.{length-take-le, take-append-drop}
 use Rattle.perfdata_jit.proofs.BufferRanges.{part_consumed}
 use Rattle.perfdata_jit.proofs.Contiguous.{contiguous_buffered}
-use Rattle.perfdata_jit.specs.BufferedReader.{KeepsBytes, EnsuresBuffered, BufferedEnough, BufferedTooFew, PartConsumed, HeaderConsumed, ConsumesBuffered, SkipsBytes, PartSkipped, BytesNotSkipped, reader_source_state, buffered_in, overflow_len_of, overflow_capacity_of, ring_capacity_of, source_of, has_seek_failed}
+use Rattle.perfdata_jit.specs.BufferedReader.{KeepsBytes, EnsuresBuffered, BufferedEnough, BufferedTooFew, PartConsumed, HeaderConsumed, SkipsBytes, PartSkipped, BytesNotSkipped, reader_source_state, buffered_in, overflow_len_of, overflow_capacity_of, ring_capacity_of, source_of, has_seek_failed}
+use Rattle.perfdata_jit.specs.steps.BufferedReader.{ConsumesBuffered}
 use Rattle.perfdata_jit.specs.ReadBuffer.{IsContiguous, IsOverflowConsumed}
 use Rattle.perfdata_jit.specs.declared.buffered_reader.BufferedReader.{BufferedReader}
 

@@ -2,10 +2,10 @@
 use Rattle.std.proofs.Common.{◌≡◌, ℕ, ◌+◌, ◌-◌, ◌^◌, ◌<◌, ◌≤◌, inl, inr, List, [], ◌++◌, length, refl, sym, ap, ap₂, ◌∙◌, subst, arith, append_assoc, append-nil, length-append, Option, None, Some, false}
 use Rattle.std.specs.Prelude.{IfSome}
 use Rattle.std.specs.declared.io.Error.{Error}
-use Rattle.perfdata_base.proofs.ConsumedLemmas.{consumed_none, consumed_more, prepend_more, consumed_none_later, failed_later}
-use Rattle.perfdata_base.proofs.Numbers.{number_prefix, number_drop_prefix}
-use Rattle.perfdata_base.specs.Source.{State, prepend, Consumed}
-use Rattle.perfdata_base.specs.declared.endian.Endianness.{Endianness}
+use Rattle.perfdata_sources.proofs.ConsumedLemmas.{consumed_none, consumed_more, prepend_more, consumed_none_later, failed_later}
+use Rattle.perfdata_sources.proofs.Numbers.{number_prefix, number_drop_prefix}
+use Rattle.perfdata_sources.specs.Source.{State, prepend, Consumed}
+use Rattle.perfdata_sources.specs.declared.endian.Endianness.{Endianness}
 use Rattle.perfdata_jit.proofs.Contiguous.{contiguous_buffered}
 use Rattle.perfdata_jit.proofs.KeptBytes.{unread_kept}
 use Rattle.perfdata_jit.proofs.Seeks.{same_after}
@@ -13,7 +13,7 @@ use Rattle.perfdata_jit.specs.ReadBuffer.{IsContiguous}
 use Rattle.perfdata_jit.specs.RecordBytes.{record_header_at, record_size_at, IsTruncatedRecord, HasNoWholeRecord}
 use Rattle.perfdata_jit.specs.BufferedReader.{SameCounts, KeepsBytes, ReadsOnlyFor, BufferedEnough, BufferedTooFew, BufferingError, BytesNotSkipped, HeaderConsumed, buffered_in}
 use Rattle.perfdata_jit.specs.JitDumpReader.{contiguous_after_header, pending_header_bytes, jit_endian, jit_offset, jit_buffered, jit_overflow, jit_ring_capacity, jit_seek_failed, jit_source_state, jit_unread_bytes, ReadsForHeaderAndBody, SameSetup, ReadsForRecord, KeepsPosition, RecordNotReady, RecordNotSkipped, NextJitRecordError}
-use Rattle.perfdata_jit.specs.HeaderSteps.{HeaderPeeked, ValidHeaderPeeked, RecordBuffered}
+use Rattle.perfdata_jit.specs.steps.HeaderSteps.{HeaderPeeked, ValidHeaderPeeked, RecordBuffered}
 use Rattle.perfdata_jit.specs.declared.buffered_reader.BufferedReader.{BufferedReader}
 use Rattle.perfdata_jit.specs.declared.jitdump_reader.JitDumpReader.{JitDumpReader}
 use Rattle.perfdata_jit.specs.declared.record.JitDumpRecordHeader.{JitDumpRecordHeader}

@@ -1,8 +1,8 @@
 -- Bytes that are read after the buffered ones.
 use Rattle.std.proofs.Common.{◌≡◌, ℕ, List, ◌++◌, length, take, sym, ap, ◌∙◌, subst, append_assoc}
 use Rattle.std.proofs.lemmas.List.{length-take-le}
-use Rattle.perfdata_base.specs.Source.{State, ReadInto, Consumed}
-use Rattle.perfdata_jit.specs.RingFilling.{RingFilled, FillsRing}
+use Rattle.perfdata_sources.specs.Source.{State, ReadInto, Consumed}
+use Rattle.perfdata_jit.specs.steps.RingFilling.{RingFilled, FillsRing}
 use Rattle.std.specs.Prelude.{Result, Ok, Err}
 
 -- a read into the buffer range after the buffered bytes

@@ -2,10 +2,10 @@
 use Rattle.std.proofs.Common.{◌≡◌, ℕ, ◌+◌, ◌-◌, ◌≤◌, ◌++◌, length, take, drop, replicate, List, refl, sym, ap, ◌∙◌, arith, pos, Option, None, Some, length-drop}
 use Rattle.std.proofs.lemmas.List.{length-take-le, take-append-drop, drop-drop, length-replicate}
 use Rattle.std.specs.declared.io.SeekFrom.TheVariants.{Start, End, Current}
-use Rattle.perfdata_base.specs.Source.{State, Position, prepend, remaining_from, at_offset, RemainsFromPosition, Consumed, AfterSeek, SeekSucceeded}
-use Rattle.perfdata_base.proofs.ReadErrors.{after_seek_more, consumed_all}
+use Rattle.perfdata_sources.specs.Source.{State, Position, prepend, remaining_from, at_offset, RemainsFromPosition, Consumed, AfterSeek, SeekSucceeded}
+use Rattle.perfdata_sources.proofs.ReadErrors.{after_seek_more, consumed_all}
 use Rattle.perfdata_jit.specs.BufferedReader.{SameCounts, SameSource}
-use Rattle.perfdata_jit.specs.Seeking.{SkippedBySeek, SkipsBySeek}
+use Rattle.perfdata_jit.specs.steps.Seeking.{SkippedBySeek, SkipsBySeek}
 use Rattle.std.specs.Prelude.{Bool, true, false, Ok}
 
 -- seeks don't change the bytes of the source

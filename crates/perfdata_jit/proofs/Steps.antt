@@ -3,18 +3,19 @@ use Rattle.std.proofs.Common.{◌≡◌, ℕ, ◌+◌, ◌-◌, ◌^◌, ◌<◌
 use Rattle.std.proofs.lemmas.List.{length-take-le, take-append-drop, drop-take}
 use Rattle.std.proofs.Math.Seq.{drop-append_seam}
 use Rattle.std.specs.declared.io.Error.{Error}
-use Rattle.perfdata_base.proofs.ConsumedLemmas.{prepend_more}
-use Rattle.perfdata_base.specs.Raw.{IsSingle, bytes_of}
-use Rattle.perfdata_base.specs.Source.{State, prepend, Consumed, BufferFilled}
-use Rattle.perfdata_base.specs.declared.endian.Endianness.{Endianness}
+use Rattle.perfdata_sources.proofs.ConsumedLemmas.{prepend_more}
+use Rattle.perfdata_sources.specs.Raw.{IsSingle, bytes_of}
+use Rattle.perfdata_sources.specs.Source.{State, prepend, Consumed, BufferFilled}
+use Rattle.perfdata_sources.specs.declared.endian.Endianness.{Endianness}
 use Rattle.perfdata_jit.proofs.Seeks.{same_after}
 use Rattle.perfdata_jit.proofs.RecordHeaders.{size_prefix, header_front, header_there, buffered_some, counts_on, unread_is}
 use Rattle.perfdata_jit.proofs.BufferRanges.{part_consumed, prepend-nil}
 use Rattle.perfdata_jit.specs.RecordBytes.{record_header_at, record_size_at, HasWholeRecord, IsOneRecord}
-use Rattle.perfdata_jit.specs.BufferedReader.{ConsumesBuffered, PartSkipped, buffered_in, unread_bytes}
+use Rattle.perfdata_jit.specs.BufferedReader.{PartSkipped, buffered_in, unread_bytes}
+use Rattle.perfdata_jit.specs.steps.BufferedReader.{ConsumesBuffered}
 use Rattle.perfdata_jit.specs.JitDumpReader.{IsBodyContiguous, pending_header_bytes, jit_header, jit_endian, jit_offset, jit_buffered, jit_overflow, jit_ring_capacity, jit_seek_failed, jit_source_state, jit_unread_bytes, ReadsForHeaderAndBody, ReturnsJitRecord, RecordSkipped, ReadsPrefix, ReaderOpened, OpensReader}
 use Rattle.perfdata_jit.specs.ReadBuffer.{IsContiguous}
-use Rattle.perfdata_jit.specs.HeaderSteps.{ValidHeaderPeeked, RecordBuffered, PeeksValidHeader}
+use Rattle.perfdata_jit.specs.steps.HeaderSteps.{ValidHeaderPeeked, RecordBuffered, PeeksValidHeader}
 use Rattle.perfdata_jit.specs.JitHeader.{IsEndianOfMagic, IsJitHeader, IsJitHeaderError}
 use Rattle.perfdata_jit.specs.ReadUntilEof.{CountsFill}
 use Rattle.perfdata_jit.specs.declared.error.JitDumpError.{JitDumpError}

@@ -3,8 +3,8 @@ use Rattle.std.proofs.Common.{◌≡◌, ℕ, ◌+◌, inl, inr, true, false, Li
 use Rattle.std.specs.List.{concat}
 use Rattle.std.specs.Prelude.{Ok, Err, Result}
 use Rattle.std.specs.declared.io.Error.{Error}
-use Rattle.perfdata_base.proofs.ConsumedLemmas.{prepend_more}
-use Rattle.perfdata_base.specs.Source.{State, prepend}
+use Rattle.perfdata_sources.proofs.ConsumedLemmas.{prepend_more}
+use Rattle.perfdata_sources.specs.Source.{State, prepend}
 use Rattle.perfdata_jit.proofs.BufferRanges.{prepend-nil}
 use Rattle.perfdata_jit.specs.RecordBytes.{AreRecords, IsOneRecord, IsRecordOf}
 use Rattle.perfdata_jit.specs.Trace.{ReaderStep, no_progress, skipped_record, returned_record, consumed_records, AreReturned, MakesNoProgress, Trace, InOrder}

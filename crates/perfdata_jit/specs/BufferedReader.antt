@@ -1,11 +1,11 @@
 -- The state of a `BufferedReader`, and what its calls do.
-use Rattle.std.specs.Prelude.{◌≡◌, ℕ, ◌+◌, ◌-◌, ◌<◌, ◌≤◌, ◌⊎◌, IsTrue, Bool, true, false, List, ◌++◌, length, drop, IfSome, Option, None, Some, Result, Ok, Err}
+use Rattle.std.specs.Prelude.{◌≡◌, ℕ, ◌+◌, ◌-◌, ◌<◌, ◌≤◌, ◌⊎◌, IsTrue, Bool, true, false, List, ◌++◌, length, IfSome, Option, None, Some, Result, Ok, Err}
 use Rattle.std.specs.IoError.{error_kind}
 use Rattle.std.specs.declared.io.Error.{Error}
 use Rattle.std.specs.declared.io.ErrorKind.TheVariants.{Other, OutOfMemory}
-use Rattle.perfdata_base.specs.Raw.{bytes_of}
-use Rattle.perfdata_base.specs.declared.raw.RawData.{RawData}
-use Rattle.perfdata_base.specs.Source.{State, all_bytes_of, prepend, Consumed, EndedOrPaused, SourceFailed}
+use Rattle.perfdata_sources.specs.Raw.{bytes_of}
+use Rattle.perfdata_sources.specs.declared.raw.RawData.{RawData}
+use Rattle.perfdata_sources.specs.Source.{State, all_bytes_of, prepend, Consumed, EndedOrPaused, SourceFailed}
 use Rattle.perfdata_jit.specs.ReadBuffer.{read_buffer_bytes, IsContiguous, IsOverflowConsumed, overflow_len, overflow_capacity, ring_capacity}
 use Rattle.perfdata_jit.specs.declared.buffered_reader.BufferedReader.{BufferedReader}
 
@@ -111,7 +111,8 @@ module _ {R : Type 0} (state : R → State) where
     pub keeps_bytes : KeepsBytes old new
     pub reads_only_needed : ReadsOnlyFor n old new
     pub too_few : length (buffered_in new) < n
-    pub cause : SourceFailed (reader_source_state old) (reader_source_state new) ⊎ (IsOverflowAllocError (ring_capacity_of old) n e × SameCounts (reader_source_state old) (reader_source_state new))
+    pub cause : SourceFailed (reader_source_state old) (reader_source_state new)
+        ⊎ (IsOverflowAllocError (ring_capacity_of old) n e × SameCounts (reader_source_state old) (reader_source_state new))
     pub pauses : (reader_source_state new).pauses ≡ (reader_source_state old).pauses
 
   -- what a call to buffer n bytes does
@@ -119,18 +120,6 @@ module _ {R : Type 0} (state : R → State) where
   EnsuresBuffered n old (Ok true) new = BufferedEnough n old new
   EnsuresBuffered n old (Ok false) new = BufferedTooFew n old new
   EnsuresBuffered n old (Err e) new = BufferingError n old e new
-
-  -- The first n buffered bytes are consumed, and nothing else changes. An overflow buffer no longer than n is consumed
-  -- completely.
-  pub record ConsumesBuffered (n : ℕ) (old new : BufferedReader R) : Type 0 where
-    pub buffered_bytes : buffered_in new ≡ drop n (buffered_in old)
-    pub source : source_of new ≡ source_of old
-    pub overflow_size : overflow_len_of new ≡ overflow_len_of old
-    pub overflow_consumed : overflow_len_of old ≤ n → IsOverflowConsumed new.buffer
-    pub keeps_contiguous : (m : ℕ) → n ≤ m → IsContiguous m old.buffer → IsContiguous (m - n) new.buffer
-    pub overflow_capacity : overflow_capacity_of new ≡ overflow_capacity_of old
-    pub ring_capacity : ring_capacity_of new ≡ ring_capacity_of old
-    pub seek_state_kept : has_seek_failed new ≡ has_seek_failed old
 
   -- The first n of the unread bytes are returned as this part and consumed. If they were buffered before, no byte was read;
   -- otherwise the overflow buffer is consumed completely.

@@ -3,9 +3,9 @@ use Rattle.std.specs.Prelude.{◌≡◌, ℕ, ◌+◌, ◌-◌, ◌<◌, ◌≤�
 use Rattle.std.specs.IoError.{error_kind}
 use Rattle.std.specs.declared.io.Error.{Error}
 use Rattle.std.specs.declared.io.ErrorKind.TheVariants.{InvalidData, OutOfMemory}
-use Rattle.perfdata_base.specs.Source.{State, prepend, Consumed, EndedOrPaused, SourceFailed}
-use Rattle.perfdata_base.specs.Raw.{IsSingle}
-use Rattle.perfdata_base.specs.declared.endian.Endianness.{Endianness}
+use Rattle.perfdata_sources.specs.Source.{State, prepend, Consumed, EndedOrPaused, SourceFailed}
+use Rattle.perfdata_sources.specs.Raw.{IsSingle}
+use Rattle.perfdata_sources.specs.declared.endian.Endianness.{Endianness}
 use Rattle.perfdata_jit.specs.RecordBytes.{record_header_at, record_size_at, HasInvalidSize, IsTruncatedRecord, HasNoWholeRecord, HasWholeRecord, IsOneRecord, IsRecordOf}
 use Rattle.perfdata_jit.specs.BufferedReader.{SameCounts, SameSource, FailsAfterSeekError, IsOverflowAllocError, buffered_in, unread_bytes, overflow_len_of, ring_capacity_of, source_of, has_seek_failed}
 use Rattle.perfdata_jit.specs.ReadBuffer.{IsContiguous}
@@ -105,7 +105,8 @@ pub record ReadsForHeader {R : Type 0} (old new : JitDumpReader R) : Type 0 wher
 -- the record's body if that wasn't buffered.
 pub record ReadsForRecord {R : Type 0} (size : ℕ) (old new : JitDumpReader R) : Type 0 where
   pub header_read : length (jit_buffered new) < 16 → ReadsFor (jit_ring_capacity old) 16 16 (length (jit_buffered old)) (jit_overflow old) (jit_overflow new)
-  pub header_and_body_read : 16 ≤ length (jit_buffered new) → ReadsForHeaderAndBody (jit_ring_capacity old) (size - 16) (length (jit_buffered old)) (length (jit_buffered new)) (jit_overflow old) (jit_overflow new)
+  pub header_and_body_read : 16 ≤ length (jit_buffered new)
+      → ReadsForHeaderAndBody (jit_ring_capacity old) (size - 16) (length (jit_buffered old)) (length (jit_buffered new)) (jit_overflow old) (jit_overflow new)
 
 -- a buffered record is skipped without use of the source, if no seek has failed
 pub record SkipsBuffered {R : Type 0} (old : JitDumpReader R) (r : Result Bool Error) (new : JitDumpReader R) : Type 0 where
@@ -157,7 +158,8 @@ module _ {R : Type 0} (state : R → State) where
     pub keeps_position : KeepsPosition old new
     pub reads_only_needed : ReadsForHeader old new
     pub too_few : length (jit_buffered new) < 16
-    pub cause : SourceFailed (jit_source_state old) (jit_source_state new) ⊎ (IsOverflowAllocError (jit_ring_capacity old) 16 e × SameCounts (jit_source_state old) (jit_source_state new))
+    pub cause : SourceFailed (jit_source_state old) (jit_source_state new)
+        ⊎ (IsOverflowAllocError (jit_ring_capacity old) 16 e × SameCounts (jit_source_state old) (jit_source_state new))
     pub pauses : (jit_source_state new).pauses ≡ (jit_source_state old).pauses
 
   -- what a call for the next record header does
@@ -178,7 +180,8 @@ module _ {R : Type 0} (state : R → State) where
     pub buffer_content : jit_buffered old ++ consumed_bytes ≡ bytes ++ jit_buffered new
     pub source_unchanged : HasWholeRecord (jit_endian old) (jit_offset old) (jit_buffered old) → jit_source new ≡ jit_source old
     pub same_counts : SameCounts (jit_source_state old) (jit_source_state new)
-    pub reads_for : ReadsForHeaderAndBody (jit_ring_capacity old) (length bytes - 16) (length (jit_buffered old)) (length bytes + length (jit_buffered new)) (jit_overflow old) (jit_overflow new)
+    pub reads_for : ReadsForHeaderAndBody (jit_ring_capacity old) (length bytes - 16) (length (jit_buffered old)) (length bytes + length (jit_buffered new))
+        (jit_overflow old) (jit_overflow new)
     pub same_setup : SameSetup old new
     pub seek_ok_before : jit_seek_failed old ≡ false
     pub seek_ok_after : jit_seek_failed new ≡ false
@@ -206,7 +209,9 @@ module _ {R : Type 0} (state : R → State) where
   pub record RecordReadError (old : JitDumpReader R) (e : Error) (new : JitDumpReader R) : Type 0 where
     pub keeps_position : KeepsPosition old new
     pub no_whole_record : HasNoWholeRecord (jit_endian old) (jit_offset old) (jit_buffered new)
-    pub cause : SourceFailed (jit_source_state old) (jit_source_state new) ⊎ ((part : ℕ) × IsNextPart (jit_endian old) (jit_buffered new) part × IsOverflowAllocError (jit_ring_capacity old) part e × SameCounts (jit_source_state old) (jit_source_state new))
+    pub cause : SourceFailed (jit_source_state old) (jit_source_state new)
+        ⊎ ((part : ℕ) × IsNextPart (jit_endian old) (jit_buffered new) part × IsOverflowAllocError (jit_ring_capacity old) part e
+        × SameCounts (jit_source_state old) (jit_source_state new))
     pub pauses : (jit_source_state new).pauses ≡ (jit_source_state old).pauses
     pub reads_only_needed : ReadsForRecord (record_size_at (jit_endian old) (jit_buffered new)) old new
 
@@ -269,7 +274,8 @@ module _ {R : Type 0} (state : R → State) where
   abbrev pub SkipsRecord : JitDumpReader R → Result Bool Error → JitDumpReader R → Type 0
   SkipsRecord old (Ok true) new = RecordSkipped old new
   SkipsRecord old (Ok false) new = HeaderNotReady old new ⊎ RecordNotSkipped old new
-  SkipsRecord old (Err e) new = (InvalidSizeError old e new ⊎ HeaderReadError old e new) ⊎ (SkipSeekFailed old new ⊎ FailsAfterSeekError (jit_seek_failed old) old e new)
+  SkipsRecord old (Err e) new =
+      (InvalidSizeError old e new ⊎ HeaderReadError old e new) ⊎ (SkipSeekFailed old new ⊎ FailsAfterSeekError (jit_seek_failed old) old e new)
 
   -- A prefix of the source's bytes was read. It is shorter than the buffer only if a read was empty. No read failed. If the
   -- buffer is full, no read was empty, otherwise at most one.
@@ -297,5 +303,6 @@ module _ {R : Type 0} (state : R → State) where
   -- was empty.
   abbrev pub OpensReader : R → ℕ → Result (JitDumpReader R) JitDumpError → Type 0
   OpensReader source size (Ok j) = ReaderOpened source size j
-  OpensReader source size (Err (Io e)) = (error_kind e ≡ OutOfMemory) ⊎ ((after : State) × SourceFailed (state source) after × (after.pauses ≡ (state source).pauses))
+  OpensReader source size (Err (Io e)) =
+      (error_kind e ≡ OutOfMemory) ⊎ ((after : State) × SourceFailed (state source) after × (after.pauses ≡ (state source).pauses))
   OpensReader source size (Err e) = (prefix_bytes : List ℕ) × ((after : State) × ReadsPrefix source size prefix_bytes after × IsJitHeaderError prefix_bytes e)

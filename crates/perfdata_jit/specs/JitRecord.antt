@@ -1,7 +1,7 @@
 -- The parsed form of a jitdump's record header (Linux's jitdump specification), and of a record by its type.
 use Rattle.std.specs.Prelude.{◌≡◌, ◌≢◌, ℕ, ◌≤◌, ◌⊎◌, List, length, drop}
 use Rattle.std.specs.declared.io.Error.{Error}
-use Rattle.perfdata_base.specs.Raw.{bytes_of, EndsBefore}
+use Rattle.perfdata_sources.specs.Raw.{bytes_of, EndsBefore}
 use Rattle.perfdata_jit.specs.JitRecords.{IsLoad, IsLoadError, move_of, IsDebugInfo, IsDebugInfoError, IsUnwinding, IsUnwindingError}
 use Rattle.perfdata_jit.specs.declared.record.JitDumpRecordHeader.{JitDumpRecordHeader}
 use Rattle.perfdata_jit.specs.declared.record.JitDumpRawRecord.{JitDumpRawRecord}

@@ -5,7 +5,7 @@ use Rattle.std.specs.List.{All, Contains}
 use Rattle.std.specs.IoError.{error_kind}
 use Rattle.std.specs.declared.io.Error.{Error}
 use Rattle.std.specs.declared.io.ErrorKind.TheVariants.{UnexpectedEof, OutOfMemory}
-use Rattle.perfdata_base.specs.Raw.{bytes_of, HasNoNul, SplitsAtNul}
+use Rattle.perfdata_sources.specs.Raw.{bytes_of, HasNoNul, SplitsAtNul}
 use Rattle.perfdata_jit.specs.declared.records.JitCodeLoadRecord.{JitCodeLoadRecord}
 use Rattle.perfdata_jit.specs.declared.records.JitCodeMoveRecord.{JitCodeMoveRecord}
 use Rattle.perfdata_jit.specs.declared.records.JitCodeDebugInfoRecord.{JitCodeDebugInfoRecord}
@@ -126,7 +126,8 @@ module _ (number : ℕ → List ℕ → ℕ) where
 -- bytes.
 abbrev pub CodeIsAtOffset : Type 0
 CodeIsAtOffset = (number : ℕ → List ℕ → ℕ) (header body : List ℕ) (load : JitCodeLoadRecord) → length header ≡ 16 → IsLoad number body load
-    → (let offset = 57 + length (bytes_of load.function_name) in slice_range (header ++ body) offset (offset + length (bytes_of load.code_bytes)) ≡ bytes_of load.code_bytes)
+    → (let offset = 57 + length (bytes_of load.function_name) in slice_range (header ++ body) offset (offset + length (bytes_of load.code_bytes))
+    ≡ bytes_of load.code_bytes)
 
 -- the last entry with the greatest address that is not above this address
 pub record IsGreatestBelow (entries : List JitCodeDebugInfoEntry) (address : ℕ) (entry : JitCodeDebugInfoEntry) : Type 0 where

@@ -2,13 +2,11 @@ pub mod RecordBytes
 pub mod BufferedReader
 pub mod Comparisons
 pub mod Trace
-pub mod RingFilling
 pub mod ReadBuffer
 pub mod JitDumpReader
-pub mod HeaderSteps
 pub mod JitHeader
 pub mod JitRecord
 pub mod JitRecords
 pub mod ReadUntilEof
 pub mod Ring
-pub mod Seeking
+pub mod steps

@@ -1,6 +1,6 @@
 -- Filling a buffer by reads that aren't repeated.
 use Rattle.std.specs.Prelude.{◌≡◌, ℕ, ◌+◌, ◌<◌, ◌≤◌, List, length, take, Result, Ok, Err}
-use Rattle.perfdata_base.specs.Source.{State, Consumed, SourceFailed, BufferFilled}
+use Rattle.perfdata_sources.specs.Source.{State, Consumed, SourceFailed, BufferFilled}
 
 -- the source failed, and the buffer starts with the bytes that were read before
 pub record FillUntilEofError (old : State) (buf : List ℕ) (new : State) : Type 0 where

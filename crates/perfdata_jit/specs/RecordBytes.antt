@@ -1,9 +1,9 @@
 -- The records at the start of bytes of a jitdump. A record starts with a record header of sixteen bytes, which contains the
 -- record's size (Linux's jitdump specification).
 use Rattle.std.specs.Prelude.{◌≡◌, ℕ, ◌+◌, ◌^◌, ◌<◌, ◌≤◌, ◌⊎◌, List, [], ◌∷◌, length, drop, ⊤}
-use Rattle.perfdata_base.specs.Endian.{number_in}
-use Rattle.perfdata_base.specs.Raw.{bytes_of}
-use Rattle.perfdata_base.specs.declared.endian.Endianness.{Endianness}
+use Rattle.perfdata_sources.specs.Endian.{number_in}
+use Rattle.perfdata_sources.specs.Raw.{bytes_of}
+use Rattle.perfdata_sources.specs.declared.endian.Endianness.{Endianness}
 use Rattle.perfdata_jit.specs.JitRecord.{jit_record_header_of}
 use Rattle.perfdata_jit.specs.declared.record.JitDumpRecordHeader.{JitDumpRecordHeader}
 use Rattle.perfdata_jit.specs.declared.record.JitDumpRawRecord.{JitDumpRawRecord}

@@ -6,10 +6,6 @@ use Rattle.perfdata_jit.specs.declared.ring.Ring.{Ring}
 abbrev pub ring_bytes : Ring → List ℕ
 ring_bytes r = slice_range r.buffer.items r.start r.end ++ take r.front r.buffer.items
 
--- the number of bytes
-abbrev pub ring_len : Ring → ℕ
-ring_len r = (r.end - r.start) + r.front
-
 -- the first n bytes are in one piece: none of them wraps around the end of the buffer
 abbrev pub DoesNotWrap : ℕ → Ring → Type 0
 DoesNotWrap n r = (n ≤ r.end - r.start) ⊎ ((r.start ≡ r.end) × (n ≤ r.front))

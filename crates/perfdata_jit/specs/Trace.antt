@@ -2,8 +2,8 @@
 use Rattle.std.specs.Prelude.{◌≡◌, ℕ, ◌+◌, ◌⊎◌, true, false, List, [], ◌∷◌, length, Option, None, Some, Result, Ok, Err, ⊤}
 use Rattle.std.specs.List.{concat}
 use Rattle.std.specs.declared.io.Error.{Error}
-use Rattle.perfdata_base.specs.Source.{State, prepend}
-use Rattle.perfdata_base.specs.declared.endian.Endianness.{Endianness}
+use Rattle.perfdata_sources.specs.Source.{State, prepend}
+use Rattle.perfdata_sources.specs.declared.endian.Endianness.{Endianness}
 use Rattle.perfdata_jit.specs.RecordBytes.{AreRecords, IsRecordOf}
 use Rattle.perfdata_jit.specs.JitDumpReader.{jit_unread_bytes, jit_seek_failed, jit_offset, jit_endian, ReturnsHeader, NextJitRecord, SkipsRecord}
 use Rattle.perfdata_jit.specs.declared.record.JitDumpRawRecord.{JitDumpRawRecord}
@@ -59,4 +59,5 @@ module _ {R : Type 0} (state : R → State) where
     pub same_endian : jit_endian new ≡ jit_endian old
 
   abbrev pub NothingIsLost : Type 0
-  NothingIsLost = (old : JitDumpReader R) (steps : List ReaderStep) (new : JitDumpReader R) → Trace old steps new → jit_seek_failed new ≡ false → InOrder old steps new
+  NothingIsLost =
+      (old : JitDumpReader R) (steps : List ReaderStep) (new : JitDumpReader R) → Trace old steps new → jit_seek_failed new ≡ false → InOrder old steps new

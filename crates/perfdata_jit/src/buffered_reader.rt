@@ -5,12 +5,13 @@ ghost use Rattle.std.specs.Borrow.{sem};
 ghost use Rattle.std.specs.Io.BufRead.{Rests};
 ghost use Rattle.std.specs.IoError.{error_kind};
 ghost use Rattle.std.specs.declared.io.ErrorKind.TheVariants.{Other};
-ghost use Rattle.perfdata_base.specs.Raw.{IsSingle, bytes_of};
+ghost use Rattle.perfdata_sources.specs.Raw.{IsSingle, bytes_of};
 ghost use Rattle.perfdata_jit.specs.BufferedReader.{EnsuresBuffered, ConsumesData, ConsumesHeader};
-ghost use Rattle.perfdata_jit.specs.BufferedReader.{IsNextContiguous, SkipsBytes, ConsumesBuffered};
+ghost use Rattle.perfdata_jit.specs.BufferedReader.{IsNextContiguous, SkipsBytes};
+ghost use Rattle.perfdata_jit.specs.steps.BufferedReader.{ConsumesBuffered};
 ghost use Rattle.perfdata_jit.specs.BufferedReader.{buffered_in, has_seek_failed, overflow_len_of};
 ghost use Rattle.perfdata_jit.specs.BufferedReader.{ring_capacity_of, source_of};
-ghost use Rattle.perfdata_jit.specs.Seeking.{SkipsBySeek};
+ghost use Rattle.perfdata_jit.specs.steps.Seeking.{SkipsBySeek};
 ghost use Rattle.perfdata_jit.specs.contracts.buffered_reader.BufferedReader.{the_row};
 
 use crate::read_buffer::ReadBuffer;

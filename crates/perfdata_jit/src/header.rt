@@ -2,8 +2,8 @@
 ghost use Rattle.std.specs.Prelude.{◌≡◌, ◌+◌, ◌≤◌, ◌<◌, ◌⊎◌, IfOk, IfErr, IfSome, IfNone, length};
 ghost use Rattle.std.specs.IoError.{error_kind};
 ghost use Rattle.std.specs.declared.io.ErrorKind.TheVariants.{UnexpectedEof};
-ghost use Rattle.perfdata_base.specs.Endian.{number_in};
-ghost use Rattle.perfdata_base.specs.Raw.{bytes_of};
+ghost use Rattle.perfdata_sources.specs.Endian.{number_in};
+ghost use Rattle.perfdata_sources.specs.Raw.{bytes_of};
 ghost use Rattle.perfdata_jit.specs.JitHeader.{BeginsWithJitHeader, IsEndianOfMagic, IsHeaderAfterMagic};
 ghost use Rattle.perfdata_jit.specs.JitHeader.{IsTruncatedAfterMagic, IsJitHeaderError, IsUnknownMagic};
 ghost use Rattle.perfdata_jit.specs.JitHeader.{header_after_magic, jit_magic_of};

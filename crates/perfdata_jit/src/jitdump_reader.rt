@@ -6,7 +6,7 @@ ghost use Rattle.perfdata_jit.specs.RecordBytes.{HasNoWholeRecord, HasWholeRecor
 ghost use Rattle.perfdata_jit.specs.JitDumpReader.{ReturnsHeader, NextJitRecord, OpensReader, SkipsBuffered};
 ghost use Rattle.perfdata_jit.specs.JitDumpReader.{SkipsRecord, jit_header, jit_source, jit_buffered};
 ghost use Rattle.perfdata_jit.specs.JitDumpReader.{jit_seek_failed, jit_offset, jit_endian};
-ghost use Rattle.perfdata_jit.specs.HeaderSteps.{PeeksHeader, PeeksValidHeader, BuffersRecord};
+ghost use Rattle.perfdata_jit.specs.steps.HeaderSteps.{PeeksHeader, PeeksValidHeader, BuffersRecord};
 ghost use Rattle.perfdata_jit.specs.ReadUntilEof.{CountsFill, FillsUntilEof};
 ghost use Rattle.perfdata_jit.specs.contracts.jitdump_reader.JitDumpReader.{the_row};
 

@@ -3,9 +3,9 @@ ghost use Rattle.std.specs.Prelude.{◌≡◌, ℕ, ◌+◌, ◌-◌, ◌^◌, �
 ghost use Rattle.std.specs.Prelude.{slice_range, OnErr, OnOk, vec_len};
 ghost use Rattle.std.specs.Borrow.{sem};
 ghost use Rattle.std.specs.Io.BufRead.{Rests};
-ghost use Rattle.perfdata_base.specs.Raw.{IsSingle, bytes_of};
-ghost use Rattle.perfdata_base.specs.Source.{CountsRead};
-ghost use Rattle.perfdata_jit.specs.RingFilling.{FillsRing};
+ghost use Rattle.perfdata_sources.specs.Raw.{IsSingle, bytes_of};
+ghost use Rattle.perfdata_sources.specs.Source.{CountsRead};
+ghost use Rattle.perfdata_jit.specs.steps.RingFilling.{FillsRing};
 
 use crate::ring::Ring;
 use perfdata_base::raw::RawData;
@@ -37,10 +37,13 @@ pub(crate) struct BufferRange {
 
 impl ReadBuffer {
     ghost use Rattle.perfdata_jit.specs.contracts.read_buffer.ReadBuffer.{the_row};
-    ghost use Rattle.perfdata_jit.specs.ReadBuffer.{ConsumesPrefix, IsContiguous, IsSpanSingle, IsSpanWithin};
-    ghost use Rattle.perfdata_jit.specs.ReadBuffer.{span_bytes, read_buffer_bytes, IsOverflowConsumed};
+    ghost use Rattle.perfdata_jit.specs.ReadBuffer.{IsContiguous};
+    ghost use Rattle.perfdata_jit.specs.steps.ReadBuffer.{ConsumesPrefix, IsSpanSingle, IsSpanWithin};
+    ghost use Rattle.perfdata_jit.specs.ReadBuffer.{read_buffer_bytes, IsOverflowConsumed};
+    ghost use Rattle.perfdata_jit.specs.steps.ReadBuffer.{span_bytes};
     ghost use Rattle.perfdata_jit.specs.ReadBuffer.{overflow_len, overflow_capacity, ring_capacity};
-    ghost use Rattle.perfdata_jit.specs.Ring.{ring_bytes, ring_len, ring_size};
+    ghost use Rattle.perfdata_jit.specs.Ring.{ring_bytes, ring_size};
+    ghost use Rattle.perfdata_jit.specs.steps.Ring.{ring_len};
 
     pub(crate) fn new(ring: Ring, overflow: Vec<u8>) -> ReadBuffer
         requires { vec_len overflow ≡ 0 }

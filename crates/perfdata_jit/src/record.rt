@@ -1,7 +1,7 @@
 //! A record of a jitdump, raw and parsed.
 ghost use Rattle.std.specs.Prelude.{◌≡◌, ◌≤◌, IfOk, IfErr, length};
-ghost use Rattle.perfdata_base.specs.Endian.{number_in};
-ghost use Rattle.perfdata_base.specs.Raw.{bytes_of, EndsBefore};
+ghost use Rattle.perfdata_sources.specs.Endian.{number_in};
+ghost use Rattle.perfdata_sources.specs.Raw.{bytes_of, EndsBefore};
 ghost use Rattle.perfdata_jit.specs.JitRecord.{IsJitRecord, IsJitRecordError, jit_record_header_of};
 
 use crate::records::{

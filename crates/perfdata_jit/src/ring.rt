@@ -1,8 +1,8 @@
 //! A buffer of fixed size that is used as a ring: its bytes may wrap around its end.
 ghost use Rattle.std.specs.Prelude.{◌≡◌, ℕ, ◌+◌, ◌-◌, ◌^◌, ◌<◌, ◌≤◌, ◌⊎◌, List, [], ◌++◌, length, take, drop};
 ghost use Rattle.std.specs.Prelude.{slice_range, IfOk, vec_len};
-ghost use Rattle.perfdata_base.specs.Source.{Reads, CountsRead};
-ghost use Rattle.perfdata_jit.specs.RingFilling.{FillsRing};
+ghost use Rattle.perfdata_sources.specs.Source.{Reads, CountsRead};
+ghost use Rattle.perfdata_jit.specs.steps.RingFilling.{FillsRing};
 
 use perfdata_base::source::Source;
 use std::io::Result;
@@ -23,7 +23,8 @@ pub struct Ring {
 }
 
 impl Ring {
-    ghost use Rattle.perfdata_jit.specs.Ring.{DoesNotWrap, ring_bytes, ring_len, ring_size};
+    ghost use Rattle.perfdata_jit.specs.Ring.{DoesNotWrap, ring_bytes, ring_size};
+    ghost use Rattle.perfdata_jit.specs.steps.Ring.{ring_len};
 
     // The ring contains `buffer[start..end]`.
     pub(crate) fn new(buffer: Vec<u8>, start: usize, end: usize) -> Ring

@@ -61,7 +61,7 @@ fn find_attribute(perf_file: &PerfFile, index: usize) -> Option<&AttributeDescri
 }
 
 impl<'a> EventAttribute<'a> {
-    ghost use Rattle.perfdata_json.specs.Line.{format_at, name_at};
+    ghost use Rattle.perfdata_json.specs.steps.Line.{format_at, name_at};
 
     // The attribute of a record, by its index in `perf_file`. `None` if that doesn't contain it.
     fn find(
@@ -77,7 +77,7 @@ impl<'a> EventAttribute<'a> {
         let description = find_attribute(perf_file, attr_index)?;
         Some(EventAttribute {
             name: description.name(),
-            format: EventFormat::with_little_endian_flags(description.attributes(), endian),
+            format: EventFormat::new(description.attributes(), endian),
         })
     }
 }
@@ -157,7 +157,8 @@ impl BodyWriter {
         }
     }
 
-    // The line of a kernel record that isn't a sample with known fields.
+    // The line of a kernel record that isn't a sample with known fields. The reader doesn't know its time if
+    // the flags of the attribute are those of a big-endian compiler.
     fn other_record(
         &self,
         out: &mut LineSerializer,
@@ -166,9 +167,14 @@ impl BodyWriter {
         raw: &RawEventRecord<'_>,
     ) -> Result<(), AllocError> {
         let id = format.sample_id(raw).ok();
-        let id = id.and_then(|id| SampleIdMembers::new(&id));
+        let members = id.and_then(|id| SampleIdMembers::new(&id));
+        let own_time = id.and_then(|id| id.timestamp);
         let line = Envelope {
-            sample_id: id.as_ref(),
+            place: RecordPlace {
+                timestamp: line.place.timestamp.or(own_time),
+                ..line.place
+            },
+            sample_id: members.as_ref(),
             ..*line
         };
         match format.parse(raw) {

@@ -61,7 +61,7 @@ pub(crate) struct Envelope<'a> {
 
 impl<'a> Envelope<'a> {
     ghost use Rattle.linux_perf_data.specs.RecordViews.{record_view_of};
-    ghost use Rattle.perfdata_json.specs.Line.{HasMembersOf};
+    ghost use Rattle.perfdata_json.specs.steps.Line.{HasMembersOf};
 
     /// The members of the line of a record, of which the event has the name `event`. The sample_id fields are
     /// absent.

@@ -16,7 +16,8 @@ use Rattle.perfdata_listing.specs.declared.list.ListCause.TheVariants.{Perf, Jit
 use Rattle.perfdata_order.specs.InMemoryLaws.{read_in, held_entries, ReturnsEachRecordOnce, ReadsRecordsOfInput}
 use Rattle.perfdata_order.specs.InMemoryOrder.{Entry, Step, TakesSteps, returned_in, IsNewOrder, EntryReturned}
 use Rattle.perfdata_order.specs.declared.in_memory.InMemoryOrderedRecords.{InMemoryOrderedRecords}
-use Rattle.perfdata_listing.specs.ByTime.{view_of, views_in, ListsNextByTime, ListedSteps, ListedByTime, ListingByTimeFails}
+use Rattle.perfdata_listing.specs.ByTime.{view_of, views_in, ListedSteps, ListedByTime, ListingByTimeFails}
+use Rattle.perfdata_listing.specs.steps.ByTime.{ListsNextByTime}
 
 -- ---- consecutive steps
 

@@ -1,8 +1,8 @@
 -- Two consecutive calls on a `CountingBufWriter` have the effect of one call with the bytes of both.
 use Rattle.std.proofs.Common.{ℕ, List, ◌++◌, Option, sym, ap, ◌∙◌, append_assoc, arith}
 use Rattle.std.proofs.KnownBytes.{Appends-trans}
-use Rattle.perfdata_listing.specs.CountingBufWriter.{BuffersAndForwards, pending_bytes}
-use Rattle.perfdata_listing.specs.declared.output.CountingBufWriter.{CountingBufWriter}
+use Rattle.perfdata_listing_lines.specs.CountingBufWriter.{BuffersAndForwards, pending_bytes}
+use Rattle.perfdata_listing_lines.specs.declared.output.CountingBufWriter.{CountingBufWriter}
 use Rattle.perfdata_listing.proofs.NewlineCounts.{newline_count-append}
 
 pub forwards-compose : {W : Type 0} {contents : W → Option (List ℕ)} {old mid new : CountingBufWriter W} {a b : List ℕ} → BuffersAndForwards contents old a mid → BuffersAndForwards contents mid b new → BuffersAndForwards contents old (a ++ b) new

@@ -7,10 +7,10 @@ use Rattle.std.proofs.lemmas.List.{append-nil, length-take-le}
 use Rattle.std.proofs.Math.Seq.{drop-append_seam}
 use Rattle.std.specs.Io.KnownBytes.{Appends, Keeps}
 use Rattle.std.proofs.KnownBytes.{Appends-trans, Appends-nil, Appends-kept}
-use Rattle.perfdata_base.specs.Source.{State, prepend, SourcePaused}
-use Rattle.perfdata_base.proofs.ConsumedLemmas.{consumed_none, consumed_more, consumed_none_later, failed_later, paused_later, prepend_more, prepend_none}
-use Rattle.perfdata_base.proofs.ReadErrors.{none_or_paused}
-use Rattle.perfdata_base.specs.declared.endian.Endianness.{Endianness}
+use Rattle.perfdata_sources.specs.Source.{State, prepend, SourcePaused}
+use Rattle.perfdata_sources.proofs.ConsumedLemmas.{consumed_none, consumed_more, consumed_none_later, failed_later, paused_later, prepend_more, prepend_none}
+use Rattle.perfdata_sources.proofs.ReadErrors.{none_or_paused}
+use Rattle.perfdata_sources.specs.declared.endian.Endianness.{Endianness}
 use Rattle.perfdata_jit.specs.JitHeader.{IsJitHeader}
 use Rattle.perfdata_jit.specs.RecordBytes.{record_header_at, record_size_at, AreRecords, HasInvalidSize, IsOneRecord, IsRecordOf, HasNoWholeRecord}
 use Rattle.perfdata_jit.specs.BufferedReader.{IsOverflowAllocError}
@@ -24,13 +24,15 @@ use Rattle.std.specs.declared.io.Error.{Error}
 use Rattle.std.specs.IoError.{error_kind}
 use Rattle.std.specs.declared.io.ErrorKind.TheVariants.{OutOfMemory}
 use Rattle.std.proofs.lemmas.Bool.{false≢true}
-use Rattle.perfdata_listing.specs.ListingLine.{jit_record_text}
-use Rattle.perfdata_listing.specs.Output.{AppendsPrefix, newline_count}
+use Rattle.perfdata_listing_lines.specs.ListingLine.{jit_record_text}
+use Rattle.perfdata_listing_lines.specs.Output.{AppendsPrefix, newline_count}
 use Rattle.perfdata_listing.proofs.NewlineCounts.{newline_count-append, newline_count-jit_record_text}
 use Rattle.perfdata_listing.specs.declared.list.ListFault.{ListFault}
 use Rattle.perfdata_listing.specs.declared.list.ListCause.{ListCause}
 use Rattle.perfdata_listing.specs.declared.list.ListCause.TheVariants.{Perf, Jit, Read, Write}
-use Rattle.perfdata_listing.specs.JitListing.{CalledFlushed, CallsFlushed, raw_record_text, jit_line, jit_lines, EndsWithoutWholeRecord, WroteJitPrefix, BeginsWithJitRecords, ReturnedJitRecords, ListedJitRecordsUntilFlushError, ListedJitRecords, ListedJitRecordsUntilError, ListedJitRecordsPartOfNext, JitReadError, ListsJitRecords, ListsLiveJitRecords, ListsNextJit, JitRecordListingFails, ListsJit, ListsLiveJit, JitListingFails}
+use Rattle.perfdata_listing.specs.JitListing.{CalledFlushed, CallsFlushed, jit_line, jit_lines, EndsWithoutWholeRecord, WroteJitPrefix, BeginsWithJitRecords, JitReadError, ListsNextJit, ListsJit, ListsLiveJit, JitListingFails}
+use Rattle.perfdata_listing_lines.specs.ListingLine.{raw_record_text}
+use Rattle.perfdata_listing.specs.steps.JitListing.{ReturnedJitRecords, ListedJitRecordsUntilFlushError, ListedJitRecords, ListedJitRecordsUntilError, ListedJitRecordsPartOfNext, ListsJitRecords, ListsLiveJitRecords, JitRecordListingFails}
 
 module _ (endian : Endianness) where
   -- one more line

@@ -1,6 +1,6 @@
-pub mod NewlineCounts
-pub mod CountingBufWriterLemmas
-pub mod ListingLemmas
-pub mod PipeListingLemmas
-pub mod JitListingLemmas
 pub mod ByTimeLemmas
+pub mod CountingBufWriterLemmas
+pub mod JitListingLemmas
+pub mod ListingLemmas
+pub mod NewlineCounts
+pub mod PipeListingLemmas

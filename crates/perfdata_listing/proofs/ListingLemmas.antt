@@ -1,6 +1,6 @@
 -- The result of a listing of records.
 use Rattle.std.proofs.Common.{◌≡◌, ◌≢◌, ℕ, ◌+◌, ◌++◌, List, [], ◌∷◌, length, length-append, refl, ap, ◌∙◌, sym, subst, arith, Option}
-use Rattle.perfdata_base.specs.Source.{State}
+use Rattle.perfdata_sources.specs.Source.{State}
 use Rattle.linux_perf_data.specs.declared.records.iter.PerfRecordIter.{PerfRecordIter}
 use Rattle.linux_perf_data.specs.declared.records.iter.Stage.TheVariants.{Running, Ended}
 use Rattle.linux_perf_data.specs.Layout.{RecordView}
@@ -13,7 +13,7 @@ use Rattle.std.specs.Prelude.{Bool, Result, Ok, Err, IsTrue, true, suc}
 use Rattle.std.proofs.Common.{inl, inr}
 use Rattle.std.specs.Io.KnownBytes.{Appends, Keeps}
 use Rattle.std.proofs.KnownBytes.{Appends-trans, Appends-nil, Appends-kept}
-use Rattle.perfdata_listing.specs.Output.{AppendsPrefix}
+use Rattle.perfdata_listing_lines.specs.Output.{AppendsPrefix}
 use Rattle.perfdata_listing.specs.declared.list.ListFault.{ListFault}
 use Rattle.perfdata_listing.specs.declared.list.ListCause.{ListCause}
 use Rattle.perfdata_listing.specs.declared.list.ListCause.TheVariants.{Perf, Jit, Read, Write}
@@ -22,12 +22,15 @@ use Rattle.linux_perf_data.specs.RecordFraming.{IsErrorFor}
 use Rattle.linux_perf_data.specs.OpenedFile.{FileParsed, FileOpensAt, FileParseError}
 use Rattle.linux_perf_data.specs.PerfFile.{attributes_of_file}
 use Rattle.linux_perf_data.specs.declared.perf_file.PerfFile.{PerfFile}
-use Rattle.linux_perf_data.specs.Reading.{AreFirstRecords, ReturnsRecords, HasMatchingFile, HasNotFailed}
+use Rattle.linux_perf_data.specs.Reading.{AreFirstRecords, ReturnsRecords}
+use Rattle.linux_perf_data.specs.steps.Reading.{HasMatchingFile, HasNotFailed}
 use Rattle.linux_perf_data.specs.FileReading.{HoldsForFile}
 use Rattle.linux_perf_data.proofs.FileReadings.{error_in_file, file_source_error, first_in_file, first_of, returns_records_more, holds_of, if_some_each, none_of, stops_of, whole_in_file, whole_of}
-use Rattle.perfdata_listing.specs.Listing.{AreLines, IsPlainLine, record_lines, no_lines, CalledFlushed, CallsFlushed, next_line, WritesLines, WritesRecord, WrotePrefix, ListedAll, ListedUntilError, ListedPartOfNext, ListedUntilFlushError, ListsNext, ListsRecords, ListedFileUntilError, ListsFile, ListingFails, FileListingFails}
+use Rattle.perfdata_listing.specs.Listing.{AreLines, no_lines, CalledFlushed, CallsFlushed, next_line, WritesLines, WritesRecord, WrotePrefix, ListsNext, ListedFileUntilError, ListsFile, FileListingFails}
+use Rattle.perfdata_listing_lines.specs.ListingLine.{IsPlainLine}
+use Rattle.perfdata_listing.specs.steps.Listing.{record_lines, ListedAll, ListedUntilError, ListedPartOfNext, ListedUntilFlushError, ListsRecords, ListingFails}
 use Rattle.std.proofs.lemmas.List.{flat_map_more}
-use Rattle.perfdata_listing.specs.ListingLine.{record_line}
+use Rattle.perfdata_listing_lines.specs.ListingLine.{record_line}
 
 module _ (IsLine : RecordView → List ℕ → Type 0) (allocates : Bool) where
   -- no lines, the same lines, and one more line

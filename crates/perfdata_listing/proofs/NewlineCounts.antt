@@ -4,8 +4,8 @@ use Rattle.std.proofs.lemmas.Bool.Decides.{nat_tests}
 use Rattle.std.proofs.lemmas.List.Sums.{sum_by-append}
 use Rattle.std.specs.Fmt.{digits, digits_onto, digit_glyph}
 use Rattle.linux_perf_data.specs.Layout.{RecordView}
-use Rattle.perfdata_listing.specs.ListingLine.{record_text, jit_record_text, record_line, decimal_or_dash, space_separated}
-use Rattle.perfdata_listing.specs.Output.{newline_count}
+use Rattle.perfdata_listing_lines.specs.ListingLine.{record_text, jit_record_text, record_line, decimal_or_dash, space_separated}
+use Rattle.perfdata_listing_lines.specs.Output.{newline_count}
 
 pub newline_count-append : (xs ys : List ℕ) → newline_count (xs ++ ys) ≡ newline_count xs + newline_count ys
 newline_count-append = sum_by-append (λ b. cond (b == 10) 1 0)

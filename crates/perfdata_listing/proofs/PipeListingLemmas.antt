@@ -2,8 +2,8 @@
 use Rattle.std.proofs.Common.{ℕ, ◌++◌, List, [], ◌∷◌, refl, sym, subst, Option, None, Some, Result, Ok, Err, inl, inr}
 use Rattle.std.specs.Prelude.{IfSome}
 use Rattle.perfdata_listing.proofs.ListingLemmas.{lines_none}
-use Rattle.perfdata_base.specs.Source.{State}
-use Rattle.perfdata_base.proofs.ReadErrors.{none_or_paused}
+use Rattle.perfdata_sources.specs.Source.{State}
+use Rattle.perfdata_sources.proofs.ReadErrors.{none_or_paused}
 use Rattle.perfdata_sections.specs.declared.error.Error.{Error}
 use Rattle.linux_perf_data.specs.declared.records.iter.PerfRecordIter.{PerfRecordIter}
 use Rattle.linux_perf_data.specs.declared.perf_file.PerfFile.{PerfFile}
@@ -13,7 +13,7 @@ use Rattle.linux_perf_data.specs.PerfFile.{attributes_of_file}
 use Rattle.linux_perf_data.specs.PipeReading.{HoldsForPipeRest, IsCompletePipe}
 use Rattle.linux_perf_data.specs.Reading.{AreFirstRecords}
 use Rattle.linux_perf_data.proofs.PipeReadings.{error_there, first_after, first_none, first_there, opening_prefix, holds_all, parsed_none, parsed_there, source_error_there, pauses, whole_none, whole_there}
-use Rattle.perfdata_listing.specs.Listing.{ListedAll, ListedUntilFlushError, ListsRecords, ListsLiveRecords, ListingFails}
+use Rattle.perfdata_listing.specs.steps.Listing.{ListedAll, ListedUntilFlushError, ListsRecords, ListsLiveRecords, ListingFails}
 use Rattle.perfdata_listing.specs.PipeListing.{ListedPipeUntilFlushError, ListedPipe, ListsPipe, ListsLivePipe, ListedPipeUntilError, PipeListingFails}
 use Rattle.perfdata_listing.specs.declared.list.ListFault.{ListFault}
 use Rattle.perfdata_listing.specs.declared.list.ListCause.{ListCause}

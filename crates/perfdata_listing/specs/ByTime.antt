@@ -1,15 +1,14 @@
 -- What a listing of an input in memory in order of time writes, and the causes of its errors.
-use Rattle.std.specs.Prelude.{◌≡◌, ◌⊎◌, ℕ, Bool, true, false, List, [], length, map, Option, Result, Ok, Err}
-use Rattle.std.specs.Io.KnownBytes.{Keeps}
+use Rattle.std.specs.Prelude.{◌≡◌, ◌⊎◌, ℕ, Bool, List, [], length, map, Option, Result, Ok, Err}
 use Rattle.linux_perf_data.specs.Layout.{RecordView}
 use Rattle.linux_perf_data.specs.RecordViews.{record_view_of}
 use Rattle.linux_perf_data.specs.declared.in_memory.InMemoryRecords.{InMemoryRecords}
 use Rattle.linux_perf_data.specs.declared.perf_file.PerfFile.{PerfFile}
-use Rattle.perfdata_listing.specs.Listing.{WritesLines, WritesRecord, WrotePrefix}
+use Rattle.perfdata_listing.specs.Listing.{WritesLines, WrotePrefix}
 use Rattle.perfdata_listing.specs.declared.list.ListCause.{ListCause}
 use Rattle.perfdata_listing.specs.declared.list.ListCause.TheVariants.{Perf, Write}
 use Rattle.perfdata_listing.specs.declared.list.ListFault.{ListFault}
-use Rattle.perfdata_order.specs.InMemoryOrder.{Entry, Step, TakesSteps, returned_in, IsNewOrder, EntryReturned, EndReturned, ErrorReturned, Progress}
+use Rattle.perfdata_order.specs.InMemoryOrder.{Entry, Step, TakesSteps, returned_in, IsNewOrder, EntryReturned, ErrorReturned, Progress}
 use Rattle.perfdata_order.specs.Sorter.{held_of}
 use Rattle.perfdata_order.specs.declared.in_memory.InMemoryOrderedRecords.{InMemoryOrderedRecords}
 use Rattle.perfdata_order.specs.declared.in_memory.PendingStep.TheVariants.{End}
@@ -29,20 +28,9 @@ abbrev pub CallFails : InMemoryOrderedRecords → PerfFile → Error → InMemor
 CallFails old file e new file' = ErrorReturned old file e new file' ⊎ ((e ≡ Memory) × Progress old file new file')
 
 module _ (IsLine : RecordView → List ℕ → Type 0) (allocates : Bool) where
-  -- reading the next record fails
-  abbrev pub ReadingFails : InMemoryOrderedRecords → PerfFile → Option (List ℕ) → ListCause → Option (List ℕ) → InMemoryOrderedRecords → PerfFile → Type 0
-  ReadingFails old file before (Perf e) after new file' = CallFails old file e new file' × Keeps before after
-  ReadingFails old file before _ after new file' = ⊥
-
-  -- what listing one record does: whether there is one, and its line is written
-  abbrev pub ListsNextByTime : InMemoryOrderedRecords → PerfFile → Option (List ℕ) → Result Bool ListCause → Option (List ℕ) → InMemoryOrderedRecords → PerfFile → Type 0
-  ListsNextByTime old file before (Ok true) after new file' = (entry : Entry) × EntryReturned old file entry new file' × WritesRecord IsLine allocates (view_of entry) before (Ok tt) after
-  ListsNextByTime old file before (Ok false) after new file' = EndReturned old file new file' × Keeps before after
-  ListsNextByTime old file before (Err cause) after new file' = ReadingFails old file before cause after new file'
-      ⊎ ((entry : Entry) × EntryReturned old file entry new file' × WritesRecord IsLine allocates (view_of entry) before (Err cause) after)
-
   -- the records that some steps returned are listed
-  pub record ListedSteps (old : InMemoryOrderedRecords) (file : PerfFile) (before after : Option (List ℕ)) (lines : ℕ) (new : InMemoryOrderedRecords) (file' : PerfFile) : Type 0 where
+  pub record ListedSteps (old : InMemoryOrderedRecords) (file : PerfFile) (before after : Option (List ℕ)) (lines : ℕ) (new : InMemoryOrderedRecords)
+      (file' : PerfFile) : Type 0 where
     pub steps : List Step
     pub taken : TakesSteps steps old file new file'
     pub count : lines ≡ length (returned_in steps)

@@ -6,30 +6,27 @@ use Rattle.std.specs.IoError.{error_kind}
 use Rattle.std.specs.Io.KnownBytes.{Appends, Keeps}
 use Rattle.std.specs.declared.io.Error.{Error}
 use Rattle.std.specs.declared.io.ErrorKind.TheVariants.{InvalidData, OutOfMemory}
-use Rattle.perfdata_base.specs.Source.{State, prepend, Consumed, EndedOrPaused, SourceFailed, SourcePaused}
-use Rattle.perfdata_base.specs.declared.endian.Endianness.{Endianness}
+use Rattle.perfdata_sources.specs.Source.{State, prepend, SourceFailed, SourcePaused}
+use Rattle.perfdata_sources.specs.declared.endian.Endianness.{Endianness}
 use Rattle.perfdata_jit.specs.JitHeader.{IsJitHeader}
 use Rattle.perfdata_jit.specs.RecordBytes.{record_header_at, record_size_at, HasInvalidSize, HasWholeRecord, HasNoWholeRecord, AreRecords}
-use Rattle.perfdata_jit.specs.JitDumpReader.{jit_unread_bytes, jit_buffered, jit_seek_failed, jit_offset, jit_endian, jit_ring_capacity, jit_source, jit_source_state, ReturnsJitRecord, OpensReader, NextJitRecordError, KeepsPosition, RecordNotReady}
+use Rattle.perfdata_jit.specs.JitDumpReader.{jit_buffered, jit_offset, jit_endian, jit_source, ReturnsJitRecord, OpensReader, NextJitRecordError, KeepsPosition, RecordNotReady}
 use Rattle.perfdata_jit.specs.declared.jitdump_reader.JitDumpReader.{JitDumpReader}
 use Rattle.perfdata_jit.specs.declared.header.JitDumpHeader.{JitDumpHeader}
 use Rattle.perfdata_jit.specs.declared.error.JitDumpError.{JitDumpError}
 use Rattle.perfdata_jit.specs.declared.record.JitDumpRawRecord.{JitDumpRawRecord}
-use Rattle.perfdata_listing.specs.ListingLine.{jit_record_text}
-use Rattle.perfdata_listing.specs.Output.{AppendsPrefix}
+use Rattle.perfdata_listing_lines.specs.ListingLine.{jit_record_text, raw_record_text}
+use Rattle.perfdata_listing_lines.specs.Output.{AppendsPrefix}
 use Rattle.perfdata_listing.specs.Listing.{IsWrite}
 use Rattle.perfdata_listing.specs.declared.list.ListFault.{ListFault}
 use Rattle.perfdata_listing.specs.declared.list.ListCause.{ListCause}
 use Rattle.perfdata_listing.specs.declared.list.ListCause.TheVariants.{Jit, Read, Write}
 
--- the line of a record that a reader returned
-abbrev pub raw_record_text : JitDumpRawRecord → List ℕ
-raw_record_text r = jit_record_text r.start_offset r.timestamp r.record_type.0 r.record_size
-
 module _ (endian : Endianness) where
   -- the line of the record with these bytes, at an offset in the file
   abbrev pub jit_line : ℕ → List ℕ → List ℕ
-  jit_line offset raw = jit_record_text offset (record_header_at endian raw).timestamp (record_header_at endian raw).record_type.0 (record_header_at endian raw).total_size
+  jit_line offset raw =
+      jit_record_text offset (record_header_at endian raw).timestamp (record_header_at endian raw).record_type.0 (record_header_at endian raw).total_size
 
   -- the lines of consecutive records, the first of them at this offset
   abbrev pub jit_lines : ℕ → List (List ℕ) → List ℕ
@@ -53,55 +50,17 @@ module _ (endian : Endianness) where
 abbrev pub JitReadError : State → ℕ → Endianness → ℕ → List ℕ → Error → State → Type 0
 JitReadError first size endian offset buffered e source_after =
     (HasInvalidSize endian offset buffered × (error_kind e ≡ InvalidData))
-    ⊎ (HasNoWholeRecord endian offset buffered × (SourceFailed first source_after ⊎ ((16 ≤ length buffered) × (size + 16 < record_size_at endian buffered) × (error_kind e ≡ OutOfMemory))))
+    ⊎ (HasNoWholeRecord endian offset buffered
+    × (SourceFailed first source_after ⊎ ((16 ≤ length buffered) × (size + 16 < record_size_at endian buffered) × (error_kind e ≡ OutOfMemory))))
 
 -- If the bytes of the file are known, the file starts with this header, followed by these records and then by the rest.
-pub record BeginsWithJitRecords (bytes : Option (List ℕ)) (endian : Endianness) (header : JitDumpHeader) (raw_records : List (List ℕ)) (rest : Option (List ℕ)) : Type 0 where
+pub record BeginsWithJitRecords (bytes : Option (List ℕ)) (endian : Endianness) (header : JitDumpHeader) (raw_records : List (List ℕ))
+    (rest : Option (List ℕ)) : Type 0 where
   pub has_header : IfSome bytes (λ all. IsJitHeader endian all header)
   pub split : option_map (λ all. drop header.total_size all) bytes ≡ prepend (concat raw_records) rest
   pub elements : AreRecords endian header.total_size raw_records
 
 module _ {R : Type 0} (state : R → State) where
-  -- A reader returned these records, which led from the old state to the new one. No seek failed.
-  pub record ReturnedJitRecords (old : JitDumpReader R) (raw_records : List (List ℕ)) (new : JitDumpReader R) : Type 0 where
-    pub elements : AreRecords (jit_endian old) (jit_offset old) raw_records
-    pub unread_bytes : jit_unread_bytes state old ≡ prepend (concat raw_records) (jit_unread_bytes state new)
-    pub offset : jit_offset new ≡ jit_offset old + length (concat raw_records)
-    pub same_endian : jit_endian new ≡ jit_endian old
-    pub same_capacity : jit_ring_capacity new ≡ jit_ring_capacity old
-    pub consumed_bytes : List ℕ
-    pub consumes : Consumed (jit_source_state state old) consumed_bytes (jit_source_state state new)
-    pub seek_ok : jit_seek_failed new ≡ false
-
-  -- the lines of a reader's records
-  abbrev pub jit_lines_from : JitDumpReader R → List (List ℕ) → List ℕ
-  jit_lines_from old raw_records = jit_lines (jit_endian old) (jit_offset old) raw_records
-
-  -- all complete records are listed, and a read was empty
-  pub record ListedJitRecords (old : JitDumpReader R) (before after : Option (List ℕ)) (lines : ℕ) (new : JitDumpReader R) : Type 0 where
-    pub raw_records : List (List ℕ)
-    pub count : lines ≡ length raw_records
-    pub appends : Appends before after (jit_lines_from old raw_records)
-    pub returned : ReturnedJitRecords old raw_records new
-    pub no_whole_record : HasNoWholeRecord (jit_endian new) (jit_offset new) (jit_buffered new)
-    pub ended_or_paused : EndedOrPaused (jit_source_state state old) (jit_source_state state new)
-
-  -- the first records are listed, and the read of the next one fails
-  pub record ListedJitRecordsUntilError (old : JitDumpReader R) (before after : Option (List ℕ)) (lines : ℕ) (e : Error) (new : JitDumpReader R) : Type 0 where
-    pub raw_records : List (List ℕ)
-    pub count : lines ≡ length raw_records
-    pub appends : Appends before after (jit_lines_from old raw_records)
-    pub returned : ReturnedJitRecords old raw_records new
-    pub cause : JitReadError (jit_source_state state old) (jit_ring_capacity old) (jit_endian new) (jit_offset new) (jit_buffered new) e (jit_source_state state new)
-
-  -- the first records are listed, and a proper prefix of the next record's line is written
-  pub record ListedJitRecordsPartOfNext (old : JitDumpReader R) (before after : Option (List ℕ)) (lines : ℕ) (new : JitDumpReader R) : Type 0 where
-    pub raw_records : List (List ℕ)
-    pub next : List ℕ
-    pub count : lines ≡ length raw_records
-    pub wrote : WroteJitPrefix (jit_endian old) (jit_offset old) before after raw_records next
-    pub returned : ReturnedJitRecords old (raw_records ++ next ∷ []) new
-
   -- what listing one record does: whether there is a complete one, and its line is written; if the writer fails, a proper
   -- prefix of that line is written
   abbrev pub ListsNextJit : JitDumpReader R → Option (List ℕ) → Result Bool ListCause → Option (List ℕ) → JitDumpReader R → Type 0
@@ -116,28 +75,6 @@ module _ {R : Type 0} (state : R → State) where
     pub keeps_position : KeepsPosition state old new
     pub source : jit_source new ≡ jit_source old
     pub buffered : jit_buffered new ≡ jit_buffered old
-
-  -- the first records are listed, and then the flush of their lines fails
-  pub record ListedJitRecordsUntilFlushError (old : JitDumpReader R) (before after : Option (List ℕ)) (lines : ℕ) (new : JitDumpReader R) : Type 0 where
-    pub raw_records : List (List ℕ)
-    pub count : lines ≡ length raw_records
-    pub appends : Appends before after (jit_lines_from old raw_records)
-    pub returned : ReturnedJitRecords old raw_records new
-
-  abbrev pub JitRecordListingFails : JitDumpReader R → Option (List ℕ) → Option (List ℕ) → ℕ → ListCause → JitDumpReader R → Type 0
-  JitRecordListingFails old before after lines (Read e) new = ListedJitRecordsUntilError old before after lines e new
-  JitRecordListingFails old before after lines (Write e) new = ListedJitRecordsPartOfNext old before after lines new
-  JitRecordListingFails old before after lines _ new = ⊥
-
-  -- what a listing of a reader's records does
-  abbrev pub ListsJitRecords : JitDumpReader R → Option (List ℕ) → Result ℕ ListFault → Option (List ℕ) → JitDumpReader R → Type 0
-  ListsJitRecords old before (Ok lines) after new = ListedJitRecords old before after lines new
-  ListsJitRecords old before (Err error) after new = JitRecordListingFails old before after error.lines error.cause new
-
-  -- the same for a live input, except that the flush of its lines may also fail
-  abbrev pub ListsLiveJitRecords : JitDumpReader R → Option (List ℕ) → Result ℕ ListFault → Option (List ℕ) → JitDumpReader R → Type 0
-  ListsLiveJitRecords old before (Ok lines) after new = ListedJitRecords old before after lines new
-  ListsLiveJitRecords old before (Err error) after new = JitRecordListingFails old before after error.lines error.cause new ⊎ (IsWrite error.cause × ListedJitRecordsUntilFlushError old before after error.lines new)
 
 -- the call for the next record may block only without pending bytes: either the record is buffered, or there are none
 abbrev pub MayBlock : {R : Type 0} → JitDumpReader R → List ℕ → Type 0
@@ -157,20 +94,24 @@ module _ {R W : Type 0} (state : R → State) (pending : W → List ℕ) (conten
   -- this many such calls, each of which lists a record
   abbrev pub CallsFlushed : ℕ → JitDumpReader R → W → W → JitDumpReader R → Type 0
   CallsFlushed zero old before after now = (now ≡ old) × (after ≡ before)
-  CallsFlushed (suc count) old before after now = (last : JitDumpReader R) × (last_out : W) × CallsFlushed count old before last_out last × CalledFlushed last last_out (Ok true) after now
+  CallsFlushed (suc count) old before after now =
+      (last : JitDumpReader R) × (last_out : W) × CallsFlushed count old before last_out last × CalledFlushed last last_out (Ok true) after now
 
   -- A listing calls for its records one by one. No byte is pending in a call that may block: neither in those that list a
   -- record, nor in the last, which finds no complete record or fails. If a flush fails, there is no last call.
   abbrev pub FlushesBeforeBlocking : JitDumpReader R → W → Result ℕ ListFault → W → JitDumpReader R → Type 0
-  FlushesBeforeBlocking old before (Ok lines) after new = (last : JitDumpReader R) × (last_out : W) × CallsFlushed lines old before last_out last × CalledFlushed last last_out (Ok false) after new
+  FlushesBeforeBlocking old before (Ok lines) after new =
+      (last : JitDumpReader R) × (last_out : W) × CallsFlushed lines old before last_out last × CalledFlushed last last_out (Ok false) after new
   FlushesBeforeBlocking old before (Err error) after new = (last : JitDumpReader R) × (last_out : W)
-      × CallsFlushed error.lines old before last_out last × (CalledFlushed last last_out (Err error.cause) after new ⊎ (IsWrite error.cause × ReadsNothing state last new))
+      × CallsFlushed error.lines old before last_out last
+      × (CalledFlushed last last_out (Err error.cause) after new ⊎ (IsWrite error.cause × ReadsNothing state last new))
 
   -- A jitdump is opened with a buffer of this size, and no byte is pending in a call for a record that may block. Or it isn't
   -- opened, and nothing is written.
   abbrev pub FlushesJitBeforeBlocking : R → ℕ → W → Result ℕ ListFault → W → Type 0
   FlushesJitBeforeBlocking source size before r after =
-      ((reader : JitDumpReader R) × OpensReader state source size (Ok reader) × (new : JitDumpReader R) × FlushesBeforeBlocking reader before r after new) ⊎ (IsErr r × (after ≡ before))
+      ((reader : JitDumpReader R) × OpensReader state source size (Ok reader) × (new : JitDumpReader R) × FlushesBeforeBlocking reader before r after new)
+      ⊎ (IsErr r × (after ≡ before))
 
 -- A source, and the buffer size of the reader over it.
 module _ {R : Type 0} (state : R → State) (source : R) (size : ℕ) where
@@ -239,4 +180,5 @@ module _ {R : Type 0} (state : R → State) (source : R) (size : ℕ) where
   -- what a listing of a live jitdump does: the same, except that the flush of its lines may also fail
   abbrev pub ListsLiveJit : Option (List ℕ) → Result ℕ ListFault → Option (List ℕ) → Type 0
   ListsLiveJit before (Ok lines) after = ListedJit before after lines
-  ListsLiveJit before (Err error) after = JitListingFails before after error.lines error.cause ⊎ (IsWrite error.cause × ListedJitUntilFlushError before after error.lines)
+  ListsLiveJit before (Err error) after =
+      JitListingFails before after error.lines error.cause ⊎ (IsWrite error.cause × ListedJitUntilFlushError before after error.lines)

@@ -1,8 +1,5 @@
-pub mod ListingLine
-pub mod LineText
-pub mod Output
-pub mod CountingBufWriter
-pub mod Listing
-pub mod JitListing
-pub mod PipeListing
 pub mod ByTime
+pub mod JitListing
+pub mod Listing
+pub mod PipeListing
+pub mod steps

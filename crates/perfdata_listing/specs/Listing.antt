@@ -1,20 +1,16 @@
 -- What a listing of records writes, and the causes of its errors.
-use Rattle.std.specs.Prelude.{◌≡◌, ◌≢◌, ◌⊎◌, ℕ, zero, suc, ◌<◌, Bool, true, false, List, [], ◌∷◌, ◌++◌, length, take, flat_map, Option, Result, Ok, Err, IfSome, IsTrue, ⊤}
+use Rattle.std.specs.Prelude.{◌≡◌, ◌≢◌, ◌⊎◌, ℕ, zero, suc, ◌<◌, Bool, true, false, List, [], ◌∷◌, ◌++◌, length, take, Option, Result, Ok, Err, IfSome, IsTrue, ⊤}
 use Rattle.linux_perf_data.specs.BufferedRecord.{TestsNextBuffered}
 use Rattle.linux_perf_data.specs.FileOpening.{IsFileError, SourceErrorInOpening}
 use Rattle.linux_perf_data.specs.FileReading.{HoldsForFile, SourceErrorInFile}
-use Rattle.linux_perf_data.specs.Iter.{iter_source_state, section_size_of, ReturnsRecord, ReturnsEnd, ReturnsError}
-use Rattle.linux_perf_data.specs.LateMetadata.{AccumulatesMetadata}
+use Rattle.linux_perf_data.specs.Iter.{ReturnsRecord, ReturnsEnd, ReturnsError}
 use Rattle.linux_perf_data.specs.Layout.{RecordView, ends_complete, ends_with_error, LayoutError}
-use Rattle.linux_perf_data.specs.Reading.{AreFirstRemaining, AreFirstRecords, EndsWithError, EndsComplete, SourceErrorInSomeRecord}
+use Rattle.linux_perf_data.specs.Reading.{AreFirstRecords}
 use Rattle.linux_perf_data.specs.RecordFraming.{IsErrorFor}
 use Rattle.linux_perf_data.specs.declared.perf_file.PerfFile.{PerfFile}
 use Rattle.linux_perf_data.specs.declared.records.iter.PerfRecordIter.{PerfRecordIter}
-use Rattle.linux_perf_data.specs.declared.records.iter.Stage.TheVariants.{Running, Ended}
-use Rattle.perfdata_base.specs.Source.{State}
-use Rattle.perfdata_listing.specs.ListingLine.{record_line, record_text}
-use Rattle.perfdata_listing.specs.Output.{AppendsPrefix}
-use Rattle.perfdata_listing.specs.declared.line.RecordFields.{RecordFields}
+use Rattle.perfdata_sources.specs.Source.{State}
+use Rattle.perfdata_listing_lines.specs.Output.{AppendsPrefix}
 use Rattle.perfdata_listing.specs.declared.list.ListCause.TheVariants.{Perf, Write}
 use Rattle.perfdata_listing.specs.declared.list.ListCause.{ListCause}
 use Rattle.perfdata_listing.specs.declared.list.ListFault.{ListFault}
@@ -22,22 +18,10 @@ use Rattle.perfdata_sections.specs.declared.error.Error.TheVariants.{Memory}
 use Rattle.perfdata_sections.specs.declared.error.Error.{Error}
 use Rattle.std.specs.Io.KnownBytes.{Appends, Keeps}
 
--- the line of these fields
-abbrev pub fields_text : RecordFields → List ℕ
-fields_text f = record_text f.offset f.round f.timestamp f.attr_index f.record_type f.misc f.body_length
-
--- the lines of records, in order
-abbrev pub record_lines : List RecordView → List ℕ
-record_lines records = flat_map record_line records
-
 -- whether the cause is an error of the writer
 abbrev pub IsWrite : ListCause → Type 0
 IsWrite (Write e) = ⊤
 IsWrite _ = ⊥
-
--- the plain line of a record
-abbrev pub IsPlainLine : RecordView → List ℕ → Type 0
-IsPlainLine h text = text ≡ record_line h
 
 -- the call for the next record may block only without pending bytes: either the record is buffered, or there are none
 abbrev pub MayBlock : {R : Type 0} (state : R → State) → PerfRecordIter R → List ℕ → Type 0
@@ -46,7 +30,8 @@ MayBlock state it pending = (pending ≡ []) ⊎ TestsNextBuffered state it true
 -- the lines of records, in order, each of which `IsLine` says what it may be
 pub data AreLines (IsLine : RecordView → List ℕ → Type 0) : List RecordView → List ℕ → Type 0 where
   no_lines : AreLines IsLine [] []
-  next_line : (records : List RecordView) (text : List ℕ) (h : RecordView) (line : List ℕ) → AreLines IsLine records text → IsLine h line → AreLines IsLine (records ++ h ∷ []) (text ++ line)
+  next_line : (records : List RecordView) (text : List ℕ) (h : RecordView) (line : List ℕ) → AreLines IsLine records text → IsLine h line
+      → AreLines IsLine (records ++ h ∷ []) (text ++ line)
 
 module _ (IsLine : RecordView → List ℕ → Type 0) (allocates : Bool) where
   -- the lines of these records are written
@@ -73,42 +58,6 @@ module _ (IsLine : RecordView → List ℕ → Type 0) (allocates : Bool) where
   WritesRecord h before (Err cause) after = ⊥
 
   module _ {R : Type 0} (state : R → State) where
-    -- all remaining records of an iterator are listed, none if it had ended
-    pub record ListedAll (old : PerfRecordIter R) (file : PerfFile) (before after : Option (List ℕ)) (lines : ℕ) (new : PerfRecordIter R) (file' : PerfFile) : Type 0 where
-      pub records : List RecordView
-      pub count : lines ≡ length records
-      pub appends : WritesLines before after records
-      pub prefix : AreFirstRemaining state old records
-      pub complete : old.stage ≡ Running → EndsComplete state old records new
-      pub none_if_ended : old.stage ≡ Ended → records ≡ []
-      pub file_updated : AccumulatesMetadata old.endian (section_size_of state old) records file file'
-
-    -- the first records are listed, and then reading fails
-    pub record ListedUntilError (old : PerfRecordIter R) (before after : Option (List ℕ)) (lines : ℕ) (e : Error) (new : PerfRecordIter R) : Type 0 where
-      pub was_running : old.stage ≡ Running
-      pub records : List RecordView
-      pub count : lines ≡ length records
-      pub appends : WritesLines before after records
-      pub prefix : AreFirstRemaining state old records
-      pub cause : e ≢ Memory → EndsWithError state old records e ⊎ SourceErrorInSomeRecord old.endian (section_size_of state old) (iter_source_state state old) e (iter_source_state state new)
-
-    -- the first records are listed, and a proper prefix of the next record's line is written
-    pub record ListedPartOfNext (old : PerfRecordIter R) (before after : Option (List ℕ)) (lines : ℕ) : Type 0 where
-      pub was_running : old.stage ≡ Running
-      pub records : List RecordView
-      pub next : RecordView
-      pub count : lines ≡ length records
-      pub wrote : WrotePrefix before after records next
-      pub prefix : AreFirstRemaining state old (records ++ next ∷ [])
-
-    -- the first records are listed, and then the flush of their lines before a possible wait fails
-    pub record ListedUntilFlushError (old : PerfRecordIter R) (before after : Option (List ℕ)) (lines : ℕ) : Type 0 where
-      pub was_running : old.stage ≡ Running
-      pub records : List RecordView
-      pub count : lines ≡ length records
-      pub appends : WritesLines before after records
-      pub prefix : AreFirstRemaining state old records
-
     -- reading the next record fails
     abbrev pub ReadingFails : PerfRecordIter R → PerfFile → Option (List ℕ) → ListCause → Option (List ℕ) → PerfRecordIter R → PerfFile → Type 0
     ReadingFails old file before (Perf e) after new file' = ReturnsError state old file e new file' × Keeps before after
@@ -119,30 +68,14 @@ module _ (IsLine : RecordView → List ℕ → Type 0) (allocates : Bool) where
     abbrev pub ListsNext : PerfRecordIter R → PerfFile → Option (List ℕ) → Result Bool ListCause → Option (List ℕ) → PerfRecordIter R → PerfFile → Type 0
     ListsNext old file before (Ok true) after new file' = (h : RecordView) × ReturnsRecord state old file h new file' × WritesRecord h before (Ok tt) after
     ListsNext old file before (Ok false) after new file' = ReturnsEnd state old file new file' × Keeps before after
-    ListsNext old file before (Err cause) after new file' = ReadingFails old file before cause after new file' ⊎ ((h : RecordView) × ReturnsRecord state old file h new file' × WritesRecord h before (Err cause) after)
-
-    abbrev pub ListingFails : PerfRecordIter R → Option (List ℕ) → Option (List ℕ) → ℕ → ListCause → PerfRecordIter R → Type 0
-    ListingFails old before after lines (Perf e) new = ListedUntilError old before after lines e new
-    ListingFails old before after lines (Write e) new = ListedPartOfNext old before after lines
-    ListingFails old before after lines _ new = ⊥
-
-    -- what a listing of an iterator's records does
-    abbrev pub ListsRecords : PerfRecordIter R → PerfFile → Option (List ℕ) → Result ℕ ListFault → Option (List ℕ) → PerfRecordIter R → PerfFile → Type 0
-    ListsRecords old file before (Ok lines) after new file' = ListedAll old file before after lines new file'
-    ListsRecords old file before (Err error) after new file' = ListingFails old before after error.lines error.cause new
-
-    -- the same for a live input, except that the flush of its lines may also fail
-    abbrev pub LiveListingFails : PerfRecordIter R → Option (List ℕ) → Option (List ℕ) → ℕ → ListCause → PerfRecordIter R → Type 0
-    LiveListingFails old before after lines cause new = ListingFails old before after lines cause new ⊎ (IsWrite cause × ListedUntilFlushError old before after lines)
-
-    abbrev pub ListsLiveRecords : PerfRecordIter R → PerfFile → Option (List ℕ) → Result ℕ ListFault → Option (List ℕ) → PerfRecordIter R → PerfFile → Type 0
-    ListsLiveRecords old file before (Ok lines) after new file' = ListedAll old file before after lines new file'
-    ListsLiveRecords old file before (Err error) after new file' = LiveListingFails old before after error.lines error.cause new
+    ListsNext old file before (Err cause) after new file' = ReadingFails old file before cause after new file'
+        ⊎ ((h : RecordView) × ReturnsRecord state old file h new file' × WritesRecord h before (Err cause) after)
 
   -- the calls for records of a listing of an iterator's records into a writer with pending bytes
   module _ {R W : Type 0} (state : R → State) (pending : W → List ℕ) (contents : W → Option (List ℕ)) where
     -- A call for a record, after a flush of the writer or none. If the call may block, no byte is pending.
-    pub record CalledFlushed (old : PerfRecordIter R) (file : PerfFile) (before : W) (r : Result Bool ListCause) (after : W) (new : PerfRecordIter R) (file' : PerfFile) : Type 0 where
+    pub record CalledFlushed (old : PerfRecordIter R) (file : PerfFile) (before : W) (r : Result Bool ListCause) (after : W) (new : PerfRecordIter R)
+        (file' : PerfFile) : Type 0 where
       pub flushed : W
       pub contents_kept : Keeps (contents before) (contents flushed)
       pub may_block : MayBlock state old (pending flushed)
@@ -161,7 +94,8 @@ module _ (IsLine : RecordView → List ℕ → Type 0) (allocates : Bool) where
     FlushesBeforeBlocking old file before (Ok lines) after new file' = (last : PerfRecordIter R) × (last_file : PerfFile) × (last_out : W)
         × CallsFlushed lines old file before last_out last last_file × CalledFlushed last last_file last_out (Ok false) after new file'
     FlushesBeforeBlocking old file before (Err error) after new file' = (last : PerfRecordIter R) × (last_file : PerfFile) × (last_out : W)
-        × CallsFlushed error.lines old file before last_out last last_file × (CalledFlushed last last_file last_out (Err error.cause) after new file' ⊎ (IsWrite error.cause × (new ≡ last) × (file' ≡ last_file)))
+        × CallsFlushed error.lines old file before last_out last last_file
+        × (CalledFlushed last last_file last_out (Err error.cause) after new file' ⊎ (IsWrite error.cause × (new ≡ last) × (file' ≡ last_file)))
 
   -- all records of a file are listed, and its layout is complete
   pub record ListedFile (old : State) (before after : Option (List ℕ)) (lines : ℕ) : Type 0 where
@@ -179,7 +113,8 @@ module _ (IsLine : RecordView → List ℕ → Type 0) (allocates : Bool) where
     pub source_after : State
     pub cause : ((records ≡ []) × (e ≢ Memory → IfSome old.position (λ p. IsFileError p e) ⊎ SourceErrorInOpening old e source_after))
         ⊎ (IfSome old.position (λ p. HoldsForFile p (λ Remaining. AreFirstRecords Remaining records))
-        × (e ≢ Memory → IfSome old.position (λ p. HoldsForFile p (λ Remaining. (f : LayoutError) × Remaining records (ends_with_error f) × IsErrorFor f e)) ⊎ SourceErrorInFile old e source_after))
+        × (e ≢ Memory → IfSome old.position (λ p. HoldsForFile p (λ Remaining. (f : LayoutError) × Remaining records (ends_with_error f) × IsErrorFor f e))
+        ⊎ SourceErrorInFile old e source_after))
 
   -- the first records of a file are listed, and a proper prefix of the next record's line is written
   pub record ListedFilePartOfNext (old : State) (before after : Option (List ℕ)) (lines : ℕ) : Type 0 where

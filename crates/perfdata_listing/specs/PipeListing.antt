@@ -1,7 +1,7 @@
 -- What a listing of a pipe writes, and the causes of its errors.
 use Rattle.std.specs.Prelude.{◌≡◌, Bool, ◌≢◌, ◌⊎◌, ℕ, List, [], ◌∷◌, ◌++◌, length, Option, None, Some, Result, Ok, Err, IfSome, IsErr}
-use Rattle.perfdata_base.specs.Source.{State, SourcePaused}
-use Rattle.perfdata_base.specs.declared.endian.Endianness.{Endianness}
+use Rattle.perfdata_sources.specs.Source.{State, SourcePaused}
+use Rattle.perfdata_sources.specs.declared.endian.Endianness.{Endianness}
 use Rattle.perfdata_sections.specs.declared.error.Error.{Error}
 use Rattle.perfdata_sections.specs.declared.error.Error.TheVariants.{Memory}
 use Rattle.linux_perf_data.specs.declared.perf_file.PerfFile.{PerfFile}
@@ -43,7 +43,8 @@ module _ (IsLine : RecordView → List ℕ → Type 0) (allocates : Bool) where
     pub opening : OpensWith endian metadata_records old (Some pending_header)
     pub source_after : State
     pub first : IfSome old.bytes (λ bytes. HoldsForPipe endian metadata_records bytes (λ Remaining. AreFirstRecords Remaining records))
-    pub cause : e ≢ Memory → IfSome old.bytes (λ bytes. HoldsForPipe endian metadata_records bytes (λ Remaining. (f : LayoutError) × Remaining records (ends_with_error f) × IsErrorFor f e))
+    pub cause : e ≢ Memory → IfSome old.bytes (λ bytes. HoldsForPipe endian metadata_records bytes (λ Remaining. (f : LayoutError)
+        × Remaining records (ends_with_error f) × IsErrorFor f e))
         ⊎ SourceErrorInSomeRecord endian None (without_position old) e source_after
 
   -- Some records are listed, and then the reading of the pipe fails: in its opening, with no record listed, or after it.
@@ -96,4 +97,5 @@ module _ (IsLine : RecordView → List ℕ → Type 0) (allocates : Bool) where
 
   abbrev pub ListsLivePipe : State → Option (List ℕ) → Result ℕ ListFault → Option (List ℕ) → Type 0
   ListsLivePipe old before (Ok lines) after = (file : PerfFile) × ListedPipe old before after lines file
-  ListsLivePipe old before (Err error) after = PipeListingFails old before after error.lines error.cause ⊎ (IsWrite error.cause × ListedPipeUntilFlushError old before after error.lines)
+  ListsLivePipe old before (Err error) after =
+      PipeListingFails old before after error.lines error.cause ⊎ (IsWrite error.cause × ListedPipeUntilFlushError old before after error.lines)

@@ -1,10 +1,11 @@
 //! Lists the records of an input in memory in order of time.
-ghost use Rattle.perfdata_listing.specs.ByTime.{ListsByTime, ListsNextByTime};
+ghost use Rattle.perfdata_listing.specs.ByTime.{ListsByTime};
+ghost use Rattle.perfdata_listing.specs.steps.ByTime.{ListsNextByTime};
 
-use crate::line_format::LineFormat;
 use crate::list::{ListCause, ListFault, write_record};
 use linux_perf_data::PerfFile;
 use linux_perf_data::in_memory::InMemoryReader;
+use perfdata_listing_lines::line_format::LineFormat;
 use perfdata_order::in_memory::InMemoryOrderedRecords;
 use std::alloc::Global;
 use std::io::Write;

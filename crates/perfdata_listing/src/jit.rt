@@ -4,35 +4,25 @@ ghost use Rattle.std.specs.Io.KnownBytes.{Keeps};
 ghost use Rattle.perfdata_jit.specs.RecordBytes.{HasWholeRecord};
 ghost use Rattle.perfdata_jit.specs.JitDumpReader.{jit_buffered, jit_seek_failed, jit_offset, jit_endian};
 ghost use Rattle.perfdata_jit.specs.JitDumpReader.{jit_ring_capacity};
-ghost use Rattle.perfdata_listing.specs.LineText.{text_of};
 ghost use Rattle.perfdata_listing.specs.JitListing.{FlushesBeforeBlocking, FlushesJitBeforeBlocking};
-ghost use Rattle.perfdata_listing.specs.JitListing.{raw_record_text, ListsJit, ListsJitRecords, ListsLiveJit};
-ghost use Rattle.perfdata_listing.specs.JitListing.{ListsLiveJitRecords, ListsNextJit, MayBlock};
+ghost use Rattle.perfdata_listing.specs.JitListing.{ListsJit, ListsLiveJit};
+ghost use Rattle.perfdata_listing.specs.steps.JitListing.{ListsJitRecords};
+ghost use Rattle.perfdata_listing.specs.JitListing.{ListsNextJit, MayBlock};
+ghost use Rattle.perfdata_listing.specs.steps.JitListing.{ListsLiveJitRecords};
 ghost use Rattle.perfdata_listing.specs.JitListing.{ReadsNothing};
 
-use crate::line::ListingLine;
 use crate::list::{ListCause, ListFault};
-use crate::output::{FlushPending, write_line};
-use linux_perf_data::jitdump::{JitDumpRawRecord, JitDumpReader, JitDumpRecordHeader};
+use linux_perf_data::jitdump::{JitDumpReader, JitDumpRecordHeader};
 use linux_perf_data::source::Source;
+use perfdata_listing_lines::jit_line::format_line;
+use perfdata_listing_lines::line::ListingLine;
+use perfdata_listing_lines::output::{FlushPending, write_line};
 use std::alloc::Global;
 use std::io;
 use std::io::Write;
 
 // The size in bytes of the buffer for a live input.
 const LIVE_BUFFER_SIZE: usize = 65536;
-
-// Sets the line to that of a record.
-fn format_line(line: &mut ListingLine, raw: &JitDumpRawRecord<'_>)
-    ensures { text_of line.new ≡ raw_record_text raw.now }
-{
-    line.set_jit_record(
-        raw.start_offset,
-        raw.timestamp,
-        raw.record_type.0,
-        raw.record_size as u64,
-    );
-}
 
 // Writes the line of the next record. Returns whether the record was complete.
 fn list_next<R: Source, W: Write>(

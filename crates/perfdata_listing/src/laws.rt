@@ -1,13 +1,14 @@
 //! Laws of the lines and of the buffer that counts them, for all inputs.
 ghost use Rattle.std.specs.Prelude.{◌≡◌, ℕ, ◌++◌, List, length, flat_map};
 ghost use Rattle.linux_perf_data.specs.Layout.{RecordView};
-ghost use Rattle.perfdata_base.specs.declared.endian.Endianness.{Endianness};
-ghost use Rattle.perfdata_listing.specs.ListingLine.{record_line};
+ghost use Rattle.perfdata_sources.specs.declared.endian.Endianness.{Endianness};
+ghost use Rattle.perfdata_listing_lines.specs.ListingLine.{record_line};
 ghost use Rattle.perfdata_listing.specs.JitListing.{jit_lines};
-ghost use Rattle.perfdata_listing.specs.Listing.{AreLines, IsPlainLine};
-ghost use Rattle.perfdata_listing.specs.Output.{newline_count};
-ghost use Rattle.perfdata_listing.specs.CountingBufWriter.{BuffersAndForwards};
-ghost use Rattle.perfdata_listing.specs.declared.output.CountingBufWriter.{CountingBufWriter};
+ghost use Rattle.perfdata_listing.specs.Listing.{AreLines};
+ghost use Rattle.perfdata_listing_lines.specs.ListingLine.{IsPlainLine};
+ghost use Rattle.perfdata_listing_lines.specs.Output.{newline_count};
+ghost use Rattle.perfdata_listing_lines.specs.CountingBufWriter.{BuffersAndForwards};
+ghost use Rattle.perfdata_listing_lines.specs.declared.output.CountingBufWriter.{CountingBufWriter};
 
 use std::io::Write;
 

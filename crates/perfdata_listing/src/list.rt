@@ -2,23 +2,25 @@
 ghost use Rattle.std.specs.Prelude.{◌≡◌, ◌⊎◌, [], IfOk, IfErr, IsErr, IsTrue, OnOk, OnErr, Ok, false};
 ghost use Rattle.std.specs.Io.KnownBytes.{Keeps};
 ghost use Rattle.linux_perf_data.specs.BufferedRecord.{IsFinished};
-ghost use Rattle.perfdata_listing.specs.CountingBufWriter.{pending_bytes, has_failed, lines_written};
-ghost use Rattle.perfdata_listing.specs.CountingBufWriter.{BuffersAndForwards};
+ghost use Rattle.perfdata_listing_lines.specs.CountingBufWriter.{pending_bytes, has_failed, lines_written};
+ghost use Rattle.perfdata_listing_lines.specs.CountingBufWriter.{BuffersAndForwards};
 ghost use Rattle.linux_perf_data.specs.RecordViews.{record_view_of};
-ghost use Rattle.perfdata_listing.specs.Listing.{WritesRecord, IsPlainLine};
-ghost use Rattle.linux_perf_data.specs.Reading.{HasMatchingFile, HasNotFailed};
-ghost use Rattle.perfdata_listing.specs.Listing.{ListsNext, ListsRecords, ListsLiveRecords, ListsFile};
+ghost use Rattle.perfdata_listing.specs.Listing.{WritesRecord};
+ghost use Rattle.perfdata_listing_lines.specs.ListingLine.{IsPlainLine};
+ghost use Rattle.linux_perf_data.specs.steps.Reading.{HasMatchingFile, HasNotFailed};
+ghost use Rattle.perfdata_listing.specs.Listing.{ListsNext, ListsFile};
+ghost use Rattle.perfdata_listing.specs.steps.Listing.{ListsRecords, ListsLiveRecords};
 ghost use Rattle.perfdata_listing.specs.Listing.{MayBlock, FlushesBeforeBlocking};
 ghost use Rattle.perfdata_listing.specs.PipeListing.{FlushesPipeBeforeBlocking, ListsPipe, ListsLivePipe};
 
-use crate::line::ListingLine;
-use crate::line_format::LineFormat;
-use crate::output::{CountingBufWriter, FlushPending, write_line};
 use linux_perf_data::jitdump::JitDumpError;
 use linux_perf_data::source::{PlacedSource, Source};
 use linux_perf_data::{
     Error, PerfFile, PerfFileReader, PerfFileRecord, PerfRecordIter, RecordPlace,
 };
+use perfdata_listing_lines::line::ListingLine;
+use perfdata_listing_lines::line_format::LineFormat;
+use perfdata_listing_lines::output::{CountingBufWriter, FlushPending, write_line};
 use std::alloc::Global;
 use std::io;
 use std::io::Write;

@@ -9,8 +9,9 @@ use Rattle.std.proofs.lemmas.Bool.{cases_lt}
 use Rattle.std.proofs.Math.Seq.{drop-append_seam, take-length}
 use Rattle.perfdata_order.specs.declared.bodies.Block.{Block}
 use Rattle.perfdata_order.specs.declared.bodies.Bodies.{Bodies}
-use Rattle.perfdata_order.specs.Blocks.{Appended, IsCleared, ReleasesFrom, bytes_in, held_in, bytes_by, held_by, KeepsHeld, ReleasesHeld, vacancy_of, vacancy_in, times_in, AreSpare}
-use Rattle.perfdata_order.specs.Bodies.{IsPrefix, BodyAppended, ReusesCurrent, Reused}
+use Rattle.perfdata_order.specs.Blocks.{bytes_in, held_in, bytes_by, held_by, vacancy_of, vacancy_in, times_in, AreSpare}
+use Rattle.perfdata_order.specs.steps.Blocks.{Appended, IsCleared, ReleasesFrom, KeepsHeld, ReleasesHeld}
+use Rattle.perfdata_order.specs.steps.Bodies.{IsPrefix, BodyAppended, ReusesCurrent, Reused}
 use Rattle.perfdata_order.proofs.Entries.{bit, same_or_other, use_same, use_other}
 use Rattle.perfdata_order.proofs.Counting.{few_counted}
 

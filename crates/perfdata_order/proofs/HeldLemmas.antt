@@ -15,8 +15,9 @@ use Rattle.perfdata_order.specs.declared.held_record.HeldFormat.{HeldFormat}
 use Rattle.perfdata_order.specs.declared.held_record.HeldFormat.TheVariants as held_format
 use Rattle.perfdata_order.specs.declared.held_record.HeldRecord.{HeldRecord}
 use Rattle.perfdata_order.specs.declared.sorter.Sorter.{Sorter}
-use Rattle.perfdata_order.specs.Bodies.{bytes_at, held_at, block_count, EachIsHeld, AddsBlockIfFull, KeepsBodies, IsPrefix, BodyAppended, ReleasesBody}
-use Rattle.perfdata_order.specs.ParseInfos.{KeepsFound}
+use Rattle.perfdata_order.specs.Bodies.{bytes_at, held_at, block_count}
+use Rattle.perfdata_order.specs.steps.Bodies.{EachIsHeld, AddsBlockIfFull, KeepsBodies, IsPrefix, BodyAppended, ReleasesBody}
+use Rattle.perfdata_order.specs.steps.ParseInfos.{KeepsFound}
 use Rattle.perfdata_order.specs.HeldRecord.{IsKnown, IsStored, IsCounted, count_in}
 use Rattle.perfdata_order.specs.Sorter.{held_of, slots_in, IsUnchanged, EndsRound, EndsAllRounds, ReleasesHalf}
 use Rattle.perfdata_order.proofs.Counting.{all_counted}

@@ -18,7 +18,8 @@ use Rattle.perfdata_order.specs.SorterLaws.{MakesCalls, releases_in}
 use Rattle.perfdata_order.specs.SorterLaws.Call.{inserts, ends_round, ends_all, releases, returns, keeps}
 use Rattle.perfdata_order.specs.InMemoryOrder.{Entry, Step, TakesSteps, returned_in}
 use Rattle.perfdata_order.specs.InMemoryOrder.Step.{reads, passes, reads_end, reads_error, sorts, reports}
-use Rattle.perfdata_order.specs.InMemoryLaws.{read_in, calls_in, pending_entries, held_entries, ReturnsEachRecordOnce, ReadsRecordsOfInput, CallsSorterInTurn, TimesAscendUnderRule}
+use Rattle.perfdata_order.specs.InMemoryLaws.{read_in, calls_in, pending_entries, held_entries, ReturnsEachRecordOnce, ReadsRecordsOfInput, CallsSorterInTurn}
+use Rattle.perfdata_order.specs.steps.InMemoryLaws.{TimesAscendUnderRule}
 use Rattle.perfdata_order.proofs.SorterCalls.{held_after_insert, held_before_return}
 use Rattle.perfdata_order.proofs.RoundRule.{ascends_under_rule}
 

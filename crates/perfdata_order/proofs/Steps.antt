@@ -15,7 +15,8 @@ use Rattle.perfdata_order.specs.declared.in_memory.PendingStep.TheVariants.{Noth
 use Rattle.perfdata_order.specs.declared.in_memory.InMemoryOrderedRecords.{InMemoryOrderedRecords}
 use Rattle.perfdata_order.specs.Sorter.{held_of, available_of, pending_of, IsUnchanged, Inserted, EndsAllRounds}
 use Rattle.perfdata_order.specs.SorterLaws.Call.{inserts, ends_round, ends_all, releases, returns, keeps}
-use Rattle.perfdata_order.specs.InMemoryOrder.{AfterPlacing, PlacesPending, IsPending, pending_records, EndReturned, Entry, Step, returned_in, TakesStep, TakesSteps, Progress, Places, EntryReturned, ReadsPending, PassesPending, HasNoUntimed, EndsRoundsBefore, KeepsSorter, EndsRounds, InsertsPending, ReturnsSorted, IsOneRoundLater, IsLaterOrLast}
+use Rattle.perfdata_order.specs.InMemoryOrder.{EndReturned, Entry, Step, returned_in, TakesStep, TakesSteps, Progress, EntryReturned, PassesPending, KeepsSorter, EndsRounds, InsertsPending, ReturnsSorted, IsOneRoundLater, IsLaterOrLast}
+use Rattle.perfdata_order.specs.steps.InMemoryOrder.{AfterPlacing, PlacesPending, IsPending, pending_records, Places, ReadsPending, HasNoUntimed, EndsRoundsBefore}
 use Rattle.perfdata_order.specs.InMemoryOrder.Step.{reads, passes, reads_end, reads_error, sorts, reports}
 use Rattle.perfdata_order.proofs.SorterCalls.{held_split}
 

@@ -1,7 +1,7 @@
 -- The blocks for the bodies of a source's records.
 use Rattle.std.proofs.Common.{arith}
 use Rattle.std.specs.Ordering.{nat_cmp}
-use Rattle.perfdata_base.specs.Source.{State}
+use Rattle.perfdata_sources.specs.Source.{State}
 use Rattle.perfdata_order.specs.declared.held_record.HeldRecord.{HeldRecord}
 use Rattle.perfdata_order.specs.StreamingLaws.{calls_in, HasFewBlocks}
 use Rattle.perfdata_order.proofs.SorterSlots.{has_few_slots}

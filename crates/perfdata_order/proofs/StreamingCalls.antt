@@ -5,7 +5,7 @@ use Rattle.std.proofs.Common.{◌≡◌, ℕ, ◌+◌, ◌-◌, ◌*◌, ◌^◌
 use Rattle.std.proofs.lemmas.List.Sorted.{length_permutation}
 use Rattle.std.specs.Ordering.{nat_cmp}
 use Rattle.std.specs.declared.alloc.AllocError.{AllocError}
-use Rattle.perfdata_base.specs.Source.{State}
+use Rattle.perfdata_sources.specs.Source.{State}
 use Rattle.perfdata_sections.specs.declared.error.Error.{Error}
 use Rattle.linux_perf_data.specs.declared.records.iter.PerfRecordIter.{PerfRecordIter}
 use Rattle.linux_perf_data.specs.declared.perf_file.PerfFile.{PerfFile}
@@ -21,10 +21,11 @@ use Rattle.perfdata_order.specs.declared.streaming.OrderedRecords.{OrderedRecord
 use Rattle.perfdata_order.specs.HeldRecord.{view_with, held_view, held_size}
 use Rattle.perfdata_order.specs.Sorter.{held_of, available_of, pending_of, IsUnchanged, TestsAvailable, Inserted, HalfReleased, EndsAllRounds}
 use Rattle.perfdata_order.specs.SorterLaws.Call.{inserts, ends_round, ends_all, releases, returns, keeps}
-use Rattle.perfdata_order.specs.StreamingOrder.{Unplaced, unplaced_by, unplaced_of, AfterPlacing, PlacesPending, IsUnplaced, IsOngoing, pending_records, EndReturned, RecordReturned, Step, returned_in, TakesStep, TakesSteps, Progress, Places, ReadsPending, ReadsWaiting, ReadsAndHolds, PassesPending, HasNoUntimed, EndsRoundsBefore, KeepsSorter, EndsRounds, InsertsPending, ReturnsSorted, TakesEnd, FailsInOrder, IsOneRoundLater, IsLaterOrLast, SameBudget, FitsBudget, IsAdmitted, HasAvailable, AdmitsPending, ReleasesEarly, ReleasesForPending, MayInsert, with_pending, budget_of, early_of, held_bytes_of}
+use Rattle.perfdata_order.specs.StreamingOrder.{Unplaced, unplaced_by, unplaced_of, AfterPlacing, PlacesPending, IsUnplaced, EndReturned, RecordReturned, Step, returned_in, TakesStep, TakesSteps, Progress, Places, ReadsPending, ReadsWaiting, ReadsAndHolds, PassesPending, KeepsSorter, EndsRounds, InsertsPending, ReturnsSorted, FailsInOrder, IsOneRoundLater, IsLaterOrLast, SameBudget, FitsBudget, IsAdmitted, HasAvailable, AdmitsPending, ReleasesForPending, budget_of, early_of, held_bytes_of}
+use Rattle.perfdata_order.specs.steps.StreamingOrder.{IsOngoing, pending_records, HasNoUntimed, EndsRoundsBefore, TakesEnd, ReleasesEarly, MayInsert, with_pending}
 use Rattle.perfdata_order.specs.StreamingOrder.Unplaced.{nothing, waiting, ending, failing, failed}
 use Rattle.perfdata_order.specs.StreamingOrder.Step.{reads, passes, reads_end, reads_error, sorts, reports}
-use Rattle.perfdata_order.specs.Reading.{IsUpToRound, ReadsAndInserts}
+use Rattle.perfdata_order.specs.steps.Reading.{IsUpToRound, ReadsAndInserts}
 use Rattle.perfdata_order.specs.Times.{time_key_of}
 use Rattle.perfdata_order.proofs.SorterCalls.{held_split}
 

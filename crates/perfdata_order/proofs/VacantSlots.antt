@@ -5,7 +5,8 @@ use Rattle.std.proofs.lemmas.List.{length_push, get_or_past}
 use Rattle.std.proofs.lemmas.Bool.{cases_lt}
 use Rattle.perfdata_order.specs.declared.slots.Slots.{Slots}
 use Rattle.perfdata_order.specs.declared.sorter.Sorter.{Sorter}
-use Rattle.perfdata_order.specs.Slots.{slots_of, slot_count, value_at, KeepsValues, IsVacant, AreFilled, SlotReused, SlotAdded}
+use Rattle.perfdata_order.specs.Slots.{slots_of, slot_count, value_at}
+use Rattle.perfdata_order.specs.steps.Slots.{KeepsValues, IsVacant, AreFilled, SlotReused, SlotAdded}
 use Rattle.perfdata_order.specs.Sorter.{held_of, slots_in, slots_for, AddsFewSlots, IsUnchanged}
 use Rattle.perfdata_order.specs.Entries.{entries_by, values_in, HaveKeys}
 use Rattle.perfdata_order.proofs.Counting.{all_counted, few_counted}

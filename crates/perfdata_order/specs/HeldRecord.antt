@@ -1,22 +1,21 @@
 -- Records as users see them, from their fields and their bodies, and how they are held.
-use Rattle.std.specs.Prelude.{◌≡◌, ℕ, ◌+◌, ◌≤◌, ◌==◌, List, length, Option, None, Some, Result, Ok, Err, if◌then◌else◌}
+use Rattle.std.specs.Prelude.{◌≡◌, ℕ, ◌+◌, ◌≤◌, ◌==◌, List, length, Option, None, Some, if◌then◌else◌}
 use Rattle.std.specs.List.{sum_by}
-use Rattle.std.specs.declared.alloc.AllocError.{AllocError}
-use Rattle.perfdata_base.specs.declared.endian.Endianness.{Endianness}
+use Rattle.perfdata_sources.specs.declared.endian.Endianness.{Endianness}
 use Rattle.perfdata_records.specs.UserRecordType.{user_type_number}
 use Rattle.linux_perf_data.specs.Attribute.{EventRef}
 use Rattle.linux_perf_data.specs.Layout.{RecordView}
 use Rattle.perfdata_order.specs.declared.held_record.BodyFormat.{BodyFormat}
 use Rattle.perfdata_order.specs.declared.held_record.BodyFormat.TheVariants.{Kernel, User}
 use Rattle.perfdata_order.specs.declared.held_record.RecordEnvelope.{RecordEnvelope}
-use Rattle.perfdata_base.specs.declared.place.parse_info.RecordParseInfo.{RecordParseInfo}
+use Rattle.perfdata_identifiers.specs.declared.place.parse_info.RecordParseInfo.{RecordParseInfo}
 use Rattle.perfdata_order.specs.declared.held_record.HeldFormat.{HeldFormat}
 use Rattle.perfdata_order.specs.declared.held_record.HeldFormat.TheVariants as held_format
 use Rattle.perfdata_order.specs.declared.held_record.HeldRecord.{HeldRecord}
 use Rattle.perfdata_order.specs.declared.bodies.Bodies.{Bodies}
 use Rattle.perfdata_order.specs.declared.parse_infos.ParseInfos.{ParseInfos}
 use Rattle.perfdata_order.specs.Bodies.{bytes_at, held_at, body_at, body_in}
-use Rattle.perfdata_order.specs.ParseInfos.{found_at, KeepsFound}
+use Rattle.perfdata_order.specs.ParseInfos.{found_at}
 
 abbrev pub type_by_format : BodyFormat → ℕ
 type_by_format (Kernel index kind places) = kind.0
@@ -75,7 +74,8 @@ IsKnown infos format = found_of infos format ≡ known_of format
 
 -- Its body and its parse info are found.
 abbrev pub IsStored : Bodies → ParseInfos → HeldRecord → Type 0
-IsStored bodies infos held = (body_at bodies held.body.range ≡ body_in held.body) × ((held.body.range.end ≤ length (bytes_at bodies held.body.range.block)) × IsKnown infos held.format)
+IsStored bodies infos held =
+    (body_at bodies held.body.range ≡ body_in held.body) × ((held.body.range.end ≤ length (bytes_at bodies held.body.range.block)) × IsKnown infos held.format)
 
 -- How many of the records have their bodies in this block.
 abbrev pub count_in : ℕ → List (ℕ × HeldRecord) → ℕ
@@ -84,7 +84,3 @@ count_in block held = sum_by (λ e. if e.1.body.range.block == block then 1 else
 -- The records with their bodies in a block are those that are held in it.
 abbrev pub IsCounted : Bodies → List (ℕ × HeldRecord) → Type 0
 IsCounted bodies held = (block : ℕ) → count_in block held ≡ held_at bodies block
-
-abbrev pub HoldsFormat : ParseInfos → BodyFormat → Result HeldFormat AllocError → ParseInfos → Type 0
-HoldsFormat old format (Ok held) new = (format_of held ≡ format) × (IsKnown new held × KeepsFound old new)
-HoldsFormat old format (Err e) new = KeepsFound old new

@@ -1,14 +1,8 @@
 -- Held records: what each call does to them.
-use Rattle.std.specs.Prelude.{◌≡◌, ℕ, List, [], Option, None, Some, Result, Ok, Err}
-use Rattle.std.specs.Ordering.{nat_cmp}
-use Rattle.std.specs.declared.alloc.AllocError.{AllocError}
+use Rattle.std.specs.Prelude.{ℕ, List}
 use Rattle.perfdata_order.specs.declared.bodies.BodyRange.{BodyRange}
-use Rattle.perfdata_order.specs.declared.held_record.RecordEnvelope.{RecordEnvelope}
-use Rattle.perfdata_order.specs.declared.held_record.HeldRecord.{HeldRecord}
 use Rattle.perfdata_order.specs.declared.held_records.HeldRecords.{HeldRecords}
 use Rattle.perfdata_order.specs.Bodies.{body_at, block_count}
-use Rattle.perfdata_order.specs.HeldRecord.{view_with, held_view}
-use Rattle.perfdata_order.specs.Sorter.{available_of, IsUnchanged, Inserted, Returned}
 
 -- The number of blocks for bodies.
 abbrev pub blocks_in : HeldRecords → ℕ
@@ -17,12 +11,3 @@ blocks_in s = block_count s.bodies
 -- The body in this range.
 abbrev pub body_of : HeldRecords → BodyRange → List ℕ
 body_of s range = body_at s.bodies range
-
-abbrev pub InsertsRecord : HeldRecords → ℕ → RecordEnvelope → List ℕ → Result (Unit {0}) AllocError → HeldRecords → Type 0
-InsertsRecord old key envelope body (Ok done) new = (held : HeldRecord) × (Inserted nat_cmp old.sorter key held new.sorter × (held_view held ≡ view_with envelope body))
-InsertsRecord old key envelope body (Err e) new = IsUnchanged old.sorter new.sorter
-
--- The next available record was taken. Its body is still in its range.
-abbrev pub TakesRecord : HeldRecords → Option (RecordEnvelope × BodyRange) → HeldRecords → Type 0
-TakesRecord old None new = (available_of old.sorter ≡ []) × IsUnchanged old.sorter new.sorter
-TakesRecord old (Some found) new = (key : ℕ) × ((held : HeldRecord) × (Returned old.sorter key held new.sorter × (view_with found.0 (body_of new found.1) ≡ held_view held)))

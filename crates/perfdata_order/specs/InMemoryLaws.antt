@@ -13,7 +13,7 @@ use Rattle.perfdata_order.specs.declared.in_memory.PendingStep.TheVariants.{Noth
 use Rattle.perfdata_order.specs.declared.in_memory.InMemoryOrderedRecords.{InMemoryOrderedRecords}
 use Rattle.perfdata_order.specs.Order.{Ascends}
 use Rattle.perfdata_order.specs.Sorter.{held_of, pending_of}
-use Rattle.perfdata_order.specs.SorterLaws.{Call, MakesCalls, inserted_in_rounds, returned_by, KeepsRoundRule}
+use Rattle.perfdata_order.specs.SorterLaws.{Call, MakesCalls, returned_by, KeepsRoundRule}
 use Rattle.perfdata_order.specs.InMemoryOrder.{Entry, Step, TakesSteps, returned_in, IsNewOrder}
 use Rattle.perfdata_order.specs.InMemoryOrder.Step.{reads, passes, reads_end, reads_error, sorts, reports}
 
@@ -56,18 +56,13 @@ ReturnsEachRecordOnce = (records : InMemoryRecords) (first last : InMemoryOrdere
 abbrev pub ReadsRecordsOfInput : Type 0
 ReadsRecordsOfInput = (records : InMemoryRecords) (first last : InMemoryOrderedRecords) (file file' : PerfFile) (steps : List Step) →
     IsNewOrder records first → TakesSteps steps first file last file' →
-    (now : InMemoryRecords) × ((now_file : PerfFile) × ReturnsRecordsInMemory records file (map (λ (e : Entry). record_view_of e.0 e.1) (read_in steps)) now now_file)
+    (now : InMemoryRecords) × ((now_file : PerfFile)
+    × ReturnsRecordsInMemory records file (map (λ (e : Entry). record_view_of e.0 e.1) (read_in steps)) now now_file)
 
 -- The calls of the sorter are consecutive, so its laws hold for the timed records.
 abbrev pub CallsSorterInTurn : Type 0
 CallsSorterInTurn = (first last : InMemoryOrderedRecords) (file file' : PerfFile) (steps : List Step) →
     TakesSteps steps first file last file' → MakesCalls nat_cmp (calls_in steps) first.sorter last.sorter
-
--- The timed records that were returned ascend if those that were inserted keep the rule of rounds.
-abbrev pub TimesAscendUnderRule : Type 0
-TimesAscendUnderRule = (records : InMemoryRecords) (first last : InMemoryOrderedRecords) (file file' : PerfFile) (steps : List Step) →
-    IsNewOrder records first → TakesSteps steps first file last file' → KeepsRoundRule nat_cmp (inserted_in_rounds 0 (calls_in steps)) →
-    Ascends nat_cmp (returned_by (calls_in steps))
 
 abbrev pub timed_by : Option ℕ → Entry → List (ℕ × (ℕ × Entry))
 timed_by None e = []
@@ -82,7 +77,8 @@ timed_of (e ∷ es) = timed_by (time_key_of e.0) e ++ timed_of es
 -- round n + 2 or later is older than one of round n.
 abbrev pub TimesAscendUnderPerfRule : Type 0
 TimesAscendUnderPerfRule = (records : InMemoryRecords) (first last : InMemoryOrderedRecords) (file file' : PerfFile) (steps : List Step) →
-    IsNewOrder records first → TakesSteps steps first file last file' → AreLayoutRecords (map (λ (e : Entry). record_view_of e.0 e.1) (read_in steps)) → KeepsRoundRule nat_cmp (timed_of (read_in steps)) →
+    IsNewOrder records first → TakesSteps steps first file last file' → AreLayoutRecords (map (λ (e : Entry). record_view_of e.0 e.1) (read_in steps))
+    → KeepsRoundRule nat_cmp (timed_of (read_in steps)) →
     Ascends nat_cmp (returned_by (calls_in steps))
 
 -- The current round: that of the record that was inserted last.

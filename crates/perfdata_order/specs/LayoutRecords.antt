@@ -1,6 +1,6 @@
 -- Records that are the first of a layout.
 use Rattle.std.specs.Prelude.{ℕ, List}
-use Rattle.perfdata_base.specs.declared.endian.Endianness.{Endianness}
+use Rattle.perfdata_sources.specs.declared.endian.Endianness.{Endianness}
 use Rattle.linux_perf_data.specs.Attribute.{Attribute}
 use Rattle.linux_perf_data.specs.Layout.{SectionSize, RecordView, RemainingRecords}
 use Rattle.linux_perf_data.specs.Reading.{AreFirstRecords}

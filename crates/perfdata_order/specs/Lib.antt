@@ -13,6 +13,6 @@ pub mod ParseInfos
 pub mod HeldRecord
 pub mod HeldRecords
 pub mod StreamingOrder
-pub mod Reading
 pub mod StreamingLaws
 pub mod InMemoryLaws
+pub mod steps

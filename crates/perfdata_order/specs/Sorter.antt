@@ -5,7 +5,7 @@ use Rattle.std.specs.declared.alloc.AllocFailed.{AllocFailed}
 use Rattle.std.specs.declared.alloc.AllocError.{AllocError}
 use Rattle.perfdata_order.specs.declared.sorter.Sorter.{Sorter}
 use Rattle.perfdata_order.specs.Slots.{value_at, slot_count}
-use Rattle.perfdata_order.specs.Order.{Ascends, is_within, greatest_with, SortsEntries}
+use Rattle.perfdata_order.specs.Order.{is_within, greatest_with, SortsEntries}
 use Rattle.perfdata_order.specs.Entries.{entries_by}
 
 -- As many slots as this number of values, a third more, and one.
@@ -90,18 +90,6 @@ module _ {K V : Type 0} where
     InsertsEntry old key value (Ok done) new = Inserted old key value new
     InsertsEntry old key value (Err e) new = (e.value ≡ (key, value)) × IsUnchanged old new
 
-    -- The entries that the sorter contains were sorted, and the rest is unchanged.
-    pub record HeldSorted (old new : Sorter K V) : Type 0 where
-      pub sorts : SortsEntries cmp (held_of old) (held_of new)
-      pub ascends : Ascends cmp new.order.items
-      pub limit : limit_of new ≡ limit_of old
-      pub greatest : greatest_of new ≡ greatest_of old
-      pub slots : slots_in new ≡ slots_in old
-
-    abbrev pub SortsHeld : Sorter K V → Result (Unit {0}) AllocError → Sorter K V → Type 0
-    SortsHeld old (Ok done) new = HeldSorted old new
-    SortsHeld old (Err e) new = IsUnchanged old new
-
     -- A round ended: the entries within the greatest key of the rounds before it are available.
     pub record RoundEnded (old new : Sorter K V) : Type 0 where
       pub sorts : SortsEntries cmp (held_of old) (held_of new)
@@ -130,7 +118,8 @@ module _ {K V : Type 0} where
     -- The first half of the entries is available, though their rounds haven't ended.
     pub record HalfReleased (old new : Sorter K V) : Type 0 where
       pub sorts : SortsEntries cmp (held_of old) (held_of new)
-      pub half : (length (pending_of new) + length (pending_of new) ≤ length (held_of old)) × (length (held_of old) ≤ length (pending_of new) + length (pending_of new) + 1)
+      pub half : (length (pending_of new) + length (pending_of new) ≤ length (held_of old))
+          × (length (held_of old) ≤ length (pending_of new) + length (pending_of new) + 1)
       pub limit : limit_of new ≡ limit_of old
       pub greatest : greatest_of new ≡ greatest_of old
       pub slots : slots_in new ≡ slots_in old

@@ -99,7 +99,8 @@ ReturnsEachOnce {K} V cmp = (first last : Sorter K V) (calls : List (Call K V)) 
 -- Entries whose keys are equal are returned in the order in which they were inserted.
 abbrev pub KeepsInsertionOrder : {K : Type 0} (V : Type 0) → (K → K → Ordering) → Type 0
 KeepsInsertionOrder {K} V cmp = (first last : Sorter K V) (calls : List (Call K V)) → IsNew first → MakesCalls cmp calls first last → (e : K × V) →
-    filter (ties (λ (a b : K × V). is_lt (cmp a.0 b.0)) e) (returned_by calls ++ held_of last) ≡ filter (ties (λ (a b : K × V). is_lt (cmp a.0 b.0)) e) (inserted_by calls)
+    filter (ties (λ (a b : K × V). is_lt (cmp a.0 b.0)) e) (returned_by calls ++ held_of last)
+    ≡ filter (ties (λ (a b : K × V). is_lt (cmp a.0 b.0)) e) (inserted_by calls)
 
 -- What is returned without another call between ascends.
 abbrev pub RunsAscend : {K : Type 0} (V : Type 0) → (K → K → Ordering) → Type 0

@@ -3,7 +3,7 @@ use Rattle.std.specs.Prelude.{◌≡◌, ℕ, ◌+◌, ◌^◌, ◌<◌, ◌≤�
 use Rattle.std.specs.Ordering.{nat_cmp}
 use Rattle.std.specs.List.{sum_by}
 use Rattle.std.specs.List.Sorted.{IsPermutation}
-use Rattle.perfdata_base.specs.Source.{State}
+use Rattle.perfdata_sources.specs.Source.{State}
 use Rattle.linux_perf_data.specs.declared.records.iter.PerfRecordIter.{PerfRecordIter}
 use Rattle.linux_perf_data.specs.declared.perf_file.PerfFile.{PerfFile}
 use Rattle.linux_perf_data.specs.Layout.{RecordView}
@@ -103,7 +103,8 @@ module _ {R : Type 0} (state : R → State) where
   -- keep perf's rule: no record of round n + 2 or later is older than one of round n.
   abbrev pub TimesAscendUnderPerfRule : Type 0
   TimesAscendUnderPerfRule = (records : PerfRecordIter R) (budget : ℕ) (first last : OrderedRecords R) (file file' : PerfFile) (steps : List Step) →
-      IsNewOrder records budget first → TakesSteps state steps first file last file' → early_of last ≡ 0 → AreLayoutRecords (read_in steps) → KeepsRoundRule nat_cmp (timed_of (read_in steps)) →
+      IsNewOrder records budget first → TakesSteps state steps first file last file' → early_of last ≡ 0 → AreLayoutRecords (read_in steps)
+      → KeepsRoundRule nat_cmp (timed_of (read_in steps)) →
       Ascends nat_cmp (returned_by (calls_in steps))
 
   -- The number of blocks for bodies is at most that of the most records in the sorter at once, a third more, and two.

@@ -2,7 +2,7 @@
 use Rattle.std.specs.Prelude.{◌≡◌, ℕ, ◌+◌, ◌-◌, ◌^◌, ◌<◌, ◌≤◌, ◌⊎◌, min, Bool, true, false, List, [], ◌∷◌, length, Option, None, Some, Result, Ok, Err}
 use Rattle.std.specs.Ordering.{nat_cmp}
 use Rattle.std.specs.declared.alloc.AllocError.{AllocError}
-use Rattle.perfdata_base.specs.Source.{State}
+use Rattle.perfdata_sources.specs.Source.{State}
 use Rattle.perfdata_sections.specs.declared.error.Error.{Error}
 use Rattle.perfdata_sections.specs.declared.error.Error.TheVariants as error
 use Rattle.perfdata_records.specs.declared.record.PerfFileRecord.{PerfFileRecord}
@@ -48,23 +48,6 @@ IsUnplaced (waiting key h) = Unit {0}
 IsUnplaced ending = Unit {0}
 IsUnplaced (failing e) = Unit {0}
 IsUnplaced failed = Unit {0}
-
--- Neither the end nor an error was read.
-abbrev pub IsOngoing : Unplaced → Type 0
-IsOngoing nothing = Unit {0}
-IsOngoing (waiting key h) = Unit {0}
-IsOngoing ending = ⊥
-IsOngoing (failing e) = ⊥
-IsOngoing failed = ⊥
-
--- No record without a time is pending.
-abbrev pub HasNoUntimed : Unplaced → Type 0
-HasNoUntimed nothing = Unit {0}
-HasNoUntimed (waiting None h) = ⊥
-HasNoUntimed (waiting (Some key) h) = Unit {0}
-HasNoUntimed ending = Unit {0}
-HasNoUntimed (failing e) = Unit {0}
-HasNoUntimed failed = Unit {0}
 
 -- A step of a call. A record was read, with its key if it is timed. A record without a time was returned. The end or an error was
 -- read. The sorter was called. The error was returned.
@@ -240,32 +223,6 @@ module _ {R : Type 0} where
   CallsSorter (returns key held) old new = ReturnsSorted old key held new
   CallsSorter keeps old new = KeepsSorter old new
 
-  -- The rounds before this round ended, and the rest is unchanged.
-  pub record OneRoundEnded (old : OrderedRecords R) (to : ℕ) (new : OrderedRecords R) : Type 0 where
-    pub is_next : to ≡ old.round + 1
-    pub round : new.round ≡ to
-    pub ended : RoundEnded nat_cmp old.held.sorter new.held.sorter
-    pub pending : unplaced_of new ≡ unplaced_of old
-    pub same_records : new.records ≡ old.records
-    pub same_budget : SameBudget old new
-
-  pub record RoundsEnded (old : OrderedRecords R) (to : ℕ) (new : OrderedRecords R) : Type 0 where
-    pub is_later : old.round + 2 ≤ to
-    pub round : new.round ≡ to
-    pub ended : AllRoundsEnded nat_cmp old.held.sorter new.held.sorter
-    pub pending : unplaced_of new ≡ unplaced_of old
-    pub same_records : new.records ≡ old.records
-    pub same_budget : SameBudget old new
-
-  abbrev pub EndsRoundsBefore : OrderedRecords R → ℕ → Result (Unit {0}) AllocError → OrderedRecords R → Type 0
-  EndsRoundsBefore old to (Ok done) new = ((to ≤ old.round) × (new ≡ old)) ⊎ (OneRoundEnded old to new ⊎ RoundsEnded old to new)
-  EndsRoundsBefore old to (Err e) new = KeepsSorter old new
-
-  -- A record of this size fits the budget, after a release if it exceeded it.
-  abbrev pub ReleasesEarly : OrderedRecords R → ℕ → Result (Unit {0}) AllocError → OrderedRecords R → Type 0
-  ReleasesEarly old size (Ok done) new = (FitsBudget old size × (new ≡ old)) ⊎ HalfReleasedEarly old size new
-  ReleasesEarly old size (Err e) new = KeepsSorter old new
-
   -- A new order has an empty sorter, and nothing was read.
   pub record IsNewOrder (records : PerfRecordIter R) (bytes : ℕ) (new : OrderedRecords R) : Type 0 where
     pub same_records : new.records ≡ records
@@ -276,37 +233,10 @@ module _ {R : Type 0} where
     pub none_held : held_bytes_of new ≡ 0
     pub none_early : early_of new ≡ 0
 
-  -- A record of this round may be inserted: no record is available, no round ends before it, and there is no budget.
-  pub record MayInsert (s : OrderedRecords R) (round : ℕ) : Type 0 where
-    pub in_round : round ≤ s.round
-    pub no_budget : budget_of s ≡ 0
-    pub none_available : available_of s.held.sorter ≡ []
-
-  -- The order in which this record is pending, after it was read.
-  abbrev pub with_pending : OrderedRecords R → Option ℕ → RecordEnvelope → OrderedRecords R
-  with_pending s key envelope = record s { pending = variant.Record key envelope }
-
-  -- The record without a time was taken, if one is pending.
-  abbrev pub TakesUntimed : OrderedRecords R → Option RecordEnvelope → OrderedRecords R → Type 0
-  TakesUntimed old None new = (new ≡ old) × HasNoUntimed (unplaced_of old)
-  TakesUntimed old (Some envelope) new = (unplaced_of old ≡ waiting None (view_with envelope new.body.items)) × (unplaced_of new ≡ nothing) × (new.records ≡ old.records) × SameOrder old new
-
-  -- The end or the error was taken, if one is pending. After an error, each call fails.
-  abbrev pub TakesEnd : OrderedRecords R → Option (Result (Unit {0}) Error) → OrderedRecords R → Type 0
-  TakesEnd old None new = (new ≡ old) × IsOngoing (unplaced_of old)
-  TakesEnd old (Some (Ok done)) new = (new ≡ old) × (unplaced_of old ≡ ending)
-  TakesEnd old (Some (Err e)) new = ((unplaced_of old ≡ failing e) × (unplaced_of new ≡ failed) × (new.records ≡ old.records) × SameOrder old new)
-      ⊎ ((e ≡ error.Failed) × (new ≡ old) × (unplaced_of old ≡ failed))
-
   -- The buffer that contains the body of a record to be returned.
   abbrev pub body_in : BodyBuffer → OrderedRecords R → List ℕ
   body_in Read s = s.body.items
   body_in Sorted s = body_of s.held s.returned
-
-  -- The next available record was taken from the sorter. Its body is in a buffer.
-  abbrev pub TakesSorted : OrderedRecords R → Option RecordEnvelope → OrderedRecords R → Type 0
-  TakesSorted old None new = (available_of old.held.sorter ≡ []) × KeepsSorter old new
-  TakesSorted old (Some envelope) new = (key : ℕ) × ((held : HeldRecord) × ReturnsSorted old key held new × (view_with envelope (body_in Sorted new) ≡ held_view held))
 
   module _ (state : R → State) where
     -- A body of more than 65,536 bytes was read, and memory ran out for its copy: `copy` is shorter than the body.
@@ -322,7 +252,8 @@ module _ {R : Type 0} where
     FailsToRead old file e copy new file' = ReturnsError state old file e new file' ⊎ CopyFailed old file e copy new file'
 
     -- A record was read, and is pending.
-    pub record ReadsWaiting (old : OrderedRecords R) (file : PerfFile) (key : Option ℕ) (h : RecordView) (new : OrderedRecords R) (file' : PerfFile) : Type 0 where
+    pub record ReadsWaiting (old : OrderedRecords R) (file : PerfFile) (key : Option ℕ) (h : RecordView) (new : OrderedRecords R)
+        (file' : PerfFile) : Type 0 where
       pub nothing_pending : unplaced_of old ≡ nothing
       pub returned : ReturnsRecord state old.records file h new.records file'
       pub has_time : key_of_time h.timestamp ≡ key
@@ -354,7 +285,8 @@ module _ {R : Type 0} where
     -- Consecutive steps led from one state to the other.
     abbrev pub TakesSteps : List Step → OrderedRecords R → PerfFile → OrderedRecords R → PerfFile → Type 0
     TakesSteps [] old file new file' = (new ≡ old) × (file' ≡ file)
-    TakesSteps (step ∷ steps) old file new file' = (next : OrderedRecords R) × ((next_file : PerfFile) × TakesStep step old file next next_file × TakesSteps steps next next_file new file')
+    TakesSteps (step ∷ steps) old file new file' =
+        (next : OrderedRecords R) × ((next_file : PerfFile) × TakesStep step old file next next_file × TakesSteps steps next next_file new file')
 
     -- Steps that returned nothing.
     pub record Progress (old : OrderedRecords R) (file : PerfFile) (new : OrderedRecords R) (file' : PerfFile) : Type 0 where
@@ -391,7 +323,8 @@ module _ {R : Type 0} where
       pub all_returned : held_of new.held.sorter ≡ []
 
     abbrev pub FailsInOrder : OrderedRecords R → PerfFile → Error → OrderedRecords R → PerfFile → Type 0
-    FailsInOrder old file e new file' = ErrorReturned old file e new file' ⊎ (StillFailed old file e new file' ⊎ ((e ≡ error.Memory) × Progress old file new file'))
+    FailsInOrder old file e new file' =
+        ErrorReturned old file e new file' ⊎ (StillFailed old file e new file' ⊎ ((e ≡ error.Memory) × Progress old file new file'))
 
     -- The result of a call whose record has its body in a buffer. If memory runs out for the order, nothing is lost.
     abbrev pub AdvancesInOrder : OrderedRecords R → PerfFile → Result (Option (RecordEnvelope × BodyBuffer)) Error → OrderedRecords R → PerfFile → Type 0
@@ -414,7 +347,8 @@ module _ {R : Type 0} where
       pub taken : (file : PerfFile) → TakesSteps steps old file new file
 
     -- A record was read. It is in the sorter, or still pending.
-    pub record ReadsAndHolds (old : OrderedRecords R) (file : PerfFile) (key : Option ℕ) (h : RecordView) (new : OrderedRecords R) (file' : PerfFile) : Type 0 where
+    pub record ReadsAndHolds (old : OrderedRecords R) (file : PerfFile) (key : Option ℕ) (h : RecordView) (new : OrderedRecords R)
+        (file' : PerfFile) : Type 0 where
       pub read : OrderedRecords R
       pub was_read : ReadsWaiting old file key h read file'
       pub places : Places read new
@@ -458,7 +392,8 @@ module _ {R : Type 0} where
     abbrev pub AfterPlacing : Unplaced → OrderedRecords R → Type 0
     AfterPlacing nothing new = unplaced_of new ≡ nothing
     AfterPlacing (waiting None h) new = (unplaced_of new ≡ waiting None h) × (h.round ≤ new.round)
-    AfterPlacing (waiting (Some key) h) new = (unplaced_of new ≡ nothing) ⊎ ((unplaced_of new ≡ waiting (Some key) h) × (0 < length (available_of new.held.sorter)))
+    AfterPlacing (waiting (Some key) h) new =
+        (unplaced_of new ≡ nothing) ⊎ ((unplaced_of new ≡ waiting (Some key) h) × (0 < length (available_of new.held.sorter)))
     AfterPlacing ending new = (unplaced_of new ≡ ending) × (pending_of new.held.sorter ≡ [])
     AfterPlacing (failing e) new = (unplaced_of new ≡ failing e) × (pending_of new.held.sorter ≡ [])
     AfterPlacing failed new = (unplaced_of new ≡ failed) × (pending_of new.held.sorter ≡ [])
@@ -466,11 +401,3 @@ module _ {R : Type 0} where
     abbrev pub PlacesPending : OrderedRecords R → Result (Unit {0}) AllocError → OrderedRecords R → Type 0
     PlacesPending old (Ok done) new = Places old new × AfterPlacing (unplaced_of old) new × (new.records ≡ old.records)
     PlacesPending old (Err e) new = Places old new
-
--- 1 if a record is pending.
-abbrev pub pending_records : Unplaced → ℕ
-pending_records nothing = 0
-pending_records (waiting key h) = 1
-pending_records ending = 0
-pending_records (failing e) = 0
-pending_records failed = 0

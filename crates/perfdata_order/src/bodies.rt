@@ -1,7 +1,7 @@
 //! The bodies of held records, in blocks.
 ghost use Rattle.std.specs.Prelude.{◌≡◌, ◌^◌, ◌-◌, ◌<◌, ◌≤◌, length, vec_capacity};
 ghost use Rattle.std.proofs.Props.{props};
-ghost use Rattle.perfdata_base.specs.Raw.{bytes_of};
+ghost use Rattle.perfdata_sources.specs.Raw.{bytes_of};
 ghost use Rattle.perfdata_order.specs.Blocks.{AreSpare};
 
 use linux_perf_data::raw::RawData;
@@ -20,7 +20,7 @@ pub(crate) struct Block {
 }
 
 impl Block {
-    ghost use Rattle.perfdata_order.specs.Blocks.{AppendsTo, IsCleared, ReleasesFrom, TestsCapacity};
+    ghost use Rattle.perfdata_order.specs.steps.Blocks.{AppendsTo, IsCleared, ReleasesFrom, TestsCapacity};
 
     // Whether a body of this length fits. In an empty block, each body does.
     fn has_capacity(&self, len: usize) -> bool
@@ -102,10 +102,13 @@ pub(crate) struct Bodies {
 }
 
 impl Bodies {
-    ghost use Rattle.perfdata_order.specs.Bodies.{AppendsBody, ReleasesBody, MovesOn, HoldsNone, AddsBlock};
-    ghost use Rattle.perfdata_order.specs.Bodies.{CanAppend, bytes_at, body_at, TestsCurrent, EachIsHeld};
-    ghost use Rattle.perfdata_order.specs.Bodies.{IsCurrentHeld, ReusesCurrent, ReusesSpare};
-    ghost use Rattle.perfdata_order.specs.Bodies.{AddsBlockIfFull, block_count};
+    ghost use Rattle.perfdata_order.specs.steps.Bodies.{AppendsBody, ReleasesBody, MovesOn, HoldsNone};
+    ghost use Rattle.perfdata_order.specs.steps.Bodies.{AddsBlock};
+    ghost use Rattle.perfdata_order.specs.Bodies.{bytes_at, body_at};
+    ghost use Rattle.perfdata_order.specs.steps.Bodies.{CanAppend, TestsCurrent, EachIsHeld};
+    ghost use Rattle.perfdata_order.specs.steps.Bodies.{IsCurrentHeld, ReusesCurrent, ReusesSpare};
+    ghost use Rattle.perfdata_order.specs.Bodies.{block_count};
+    ghost use Rattle.perfdata_order.specs.steps.Bodies.{AddsBlockIfFull};
 
     pub(crate) fn new(alloc: Global) -> Bodies
         ensures none_held { HoldsNone result }

@@ -1,6 +1,6 @@
 //! Records without their bodies, and held records.
 ghost use Rattle.std.specs.Prelude.{◌≡◌, ◌<◌, [], length, IfOk, OnErr, vec_capacity};
-ghost use Rattle.perfdata_base.specs.Raw.{bytes_of};
+ghost use Rattle.perfdata_sources.specs.Raw.{bytes_of};
 ghost use Rattle.perfdata_records.specs.FileRecord.{file_record_body};
 ghost use Rattle.linux_perf_data.specs.RecordViews.{record_view_of};
 
@@ -81,7 +81,7 @@ pub(crate) enum HeldFormat {
 }
 
 impl HeldFormat {
-    ghost use Rattle.perfdata_order.specs.HeldRecord.{HoldsFormat};
+    ghost use Rattle.perfdata_order.specs.steps.HeldRecord.{HoldsFormat};
 
     #[inline(always)]
     pub(crate) fn from_body_format(

@@ -2,7 +2,7 @@
 ghost use Rattle.std.specs.Prelude.{◌≡◌, ◌+◌, ◌≤◌, All};
 ghost use Rattle.std.specs.Ordering.{nat_cmp};
 ghost use Rattle.std.proofs.Props.{props};
-ghost use Rattle.perfdata_base.specs.Raw.{bytes_of};
+ghost use Rattle.perfdata_sources.specs.Raw.{bytes_of};
 ghost use Rattle.perfdata_order.specs.Sorter.{held_of, slots_in};
 ghost use Rattle.perfdata_order.specs.Bodies.{block_count};
 ghost use Rattle.perfdata_order.specs.HeldRecord.{IsStored, IsCounted};
@@ -28,7 +28,8 @@ pub(crate) struct HeldRecords {
 impl HeldRecords {
     ghost use Rattle.perfdata_order.specs.Sorter.{IsNew, TestsAvailable, TestsEmpty, EndsRound};
     ghost use Rattle.perfdata_order.specs.Sorter.{EndsAllRounds, ReleasesHalf};
-    ghost use Rattle.perfdata_order.specs.HeldRecords.{InsertsRecord, TakesRecord, body_of};
+    ghost use Rattle.perfdata_order.specs.HeldRecords.{body_of};
+    ghost use Rattle.perfdata_order.specs.steps.HeldRecords.{InsertsRecord, TakesRecord};
 
     pub(crate) fn new(alloc: Global) -> HeldRecords
         ensures { IsNew result.sorter }

@@ -53,9 +53,11 @@ pub(crate) fn time_key(place: RecordPlace) -> Option<u64>
 }
 
 impl<'a> InMemoryOrderedRecords<'a> {
-    ghost use Rattle.perfdata_order.specs.InMemoryOrder.{EndsRoundsBefore, IsNewOrder, PlacesPending};
-    ghost use Rattle.perfdata_order.specs.InMemoryOrder.{ReadsPending, ReturnsInOrder, TakesEnd};
-    ghost use Rattle.perfdata_order.specs.InMemoryOrder.{TakesUntimed};
+    ghost use Rattle.perfdata_order.specs.InMemoryOrder.{IsNewOrder};
+    ghost use Rattle.perfdata_order.specs.steps.InMemoryOrder.{EndsRoundsBefore, PlacesPending};
+    ghost use Rattle.perfdata_order.specs.InMemoryOrder.{ReturnsInOrder};
+    ghost use Rattle.perfdata_order.specs.steps.InMemoryOrder.{ReadsPending, TakesEnd};
+    ghost use Rattle.perfdata_order.specs.steps.InMemoryOrder.{TakesUntimed};
 
     /// Returns the records of `records` in order of time. The order allocates with `alloc`.
     pub fn new(alloc: Global, records: InMemoryRecords<'a>) -> InMemoryOrderedRecords<'a>

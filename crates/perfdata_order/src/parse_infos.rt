@@ -53,7 +53,8 @@ fn parse_info_key(parse_info: &RecordParseInfo) -> ParseInfoKey
 }
 
 impl ParseInfos {
-    ghost use Rattle.perfdata_order.specs.ParseInfos.{FindsIndex, IsUnchanged, found_at};
+    ghost use Rattle.perfdata_order.specs.ParseInfos.{found_at};
+    ghost use Rattle.perfdata_order.specs.steps.ParseInfos.{FindsIndex, IsUnchanged};
 
     pub(crate) fn new(alloc: Global) -> ParseInfos {
         ParseInfos {

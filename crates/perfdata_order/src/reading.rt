@@ -1,7 +1,7 @@
 //! Reads the next record of a source. Most records are held at once, and their bodies copied once.
 ghost use Rattle.std.specs.Prelude.{◌≡◌, ◌^◌, ◌+◌, ◌<◌, ◌≤◌, [], IfSome, vec_capacity};
-ghost use Rattle.perfdata_base.specs.Raw.{bytes_of};
-ghost use Rattle.perfdata_order.specs.Reading.{MayHold, HoldsOrCopies, ReadsRecord};
+ghost use Rattle.perfdata_sources.specs.Raw.{bytes_of};
+ghost use Rattle.perfdata_order.specs.steps.Reading.{MayHold, HoldsOrCopies, ReadsRecord};
 
 use crate::held_record::{RecordEnvelope, copy_body};
 use crate::held_records::HeldRecords;

@@ -14,8 +14,9 @@ pub(crate) struct Slots<V> {
 }
 
 impl<V> Slots<V> {
-    ghost use Rattle.perfdata_order.specs.Slots.{value_at, slots_of, FindsVacant, FindsVacantIn};
-    ghost use Rattle.perfdata_order.specs.Slots.{FindsAnyVacant};
+    ghost use Rattle.perfdata_order.specs.Slots.{value_at, slots_of};
+    ghost use Rattle.perfdata_order.specs.steps.Slots.{FindsVacant, FindsVacantIn};
+    ghost use Rattle.perfdata_order.specs.steps.Slots.{FindsAnyVacant};
 
     pub(crate) fn new(alloc: Global) -> Slots<V>
         ensures { slots_of result ≡ [] }

@@ -80,7 +80,8 @@ fn greatest_key<K: Ord + Copy>(greatest: Option<K>, key: K) -> K
 }
 
 impl<K: Ord + Copy, V> Sorter<K, V> {
-    ghost use Rattle.perfdata_order.specs.Sorter.{limit_of, InsertsEntry, SortsHeld, EndsRound};
+    ghost use Rattle.perfdata_order.specs.Sorter.{limit_of, InsertsEntry, EndsRound};
+    ghost use Rattle.perfdata_order.specs.steps.Sorter.{SortsHeld};
     ghost use Rattle.perfdata_order.specs.Sorter.{EndsAllRounds, ReleasesHalf, TakesNext};
 
     /// Inserts a value into the current round.

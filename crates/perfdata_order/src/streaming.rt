@@ -87,9 +87,11 @@ pub struct OrderedRecords<R> {
 }
 
 impl<R> OrderedRecords<R> {
-    ghost use Rattle.perfdata_order.specs.StreamingOrder.{IsNewOrder, EndsRoundsBefore, ReleasesEarly};
-    ghost use Rattle.perfdata_order.specs.StreamingOrder.{MayInsert, TakesEnd, TakesSorted};
-    ghost use Rattle.perfdata_order.specs.StreamingOrder.{TakesUntimed, body_in, early_of};
+    ghost use Rattle.perfdata_order.specs.StreamingOrder.{IsNewOrder};
+    ghost use Rattle.perfdata_order.specs.steps.StreamingOrder.{EndsRoundsBefore, ReleasesEarly};
+    ghost use Rattle.perfdata_order.specs.steps.StreamingOrder.{MayInsert, TakesEnd, TakesSorted};
+    ghost use Rattle.perfdata_order.specs.StreamingOrder.{body_in, early_of};
+    ghost use Rattle.perfdata_order.specs.steps.StreamingOrder.{TakesUntimed};
 
     /// Returns the records of `records` in order of time. The order allocates with `alloc`.
     pub fn new(alloc: Global, records: PerfRecordIter<R>) -> OrderedRecords<R>

@@ -7,9 +7,11 @@ use Rattle.perfdata_events.specs.declared.event.EventRecord.{EventRecord}
 use Rattle.perfdata_events.specs.declared.event.EventRecord.TheVariants.{Sample}
 use Rattle.perfdata_events.specs.declared.fields.task.Task.{Task}
 use Rattle.perfdata_events.specs.declared.sample.SampleRecord.{SampleRecord}
-use Rattle.perfdata_profile.specs.Building.{Builds, HasKey, HasStack, HasThread, IsProfileOf, options_of}
+use Rattle.perfdata_profile.specs.Building.{Builds, HasKey, IsProfileOf, options_of}
+use Rattle.perfdata_profile.specs.steps.Building.{HasStack, HasThread}
 use Rattle.perfdata_profile.specs.Interning.{Grows}
-use Rattle.perfdata_profile.specs.Locating.{CacheHolds, LocatorGrows, located_lists}
+use Rattle.perfdata_profile.specs.Locating.{CacheHolds, located_lists}
+use Rattle.perfdata_profile.specs.steps.Locating.{LocatorGrows}
 use Rattle.perfdata_profile.specs.Profiles.{lists_of, valued_entry, valued_sample}
 use Rattle.perfdata_profile.specs.Names.{number_of}
 use Rattle.perfdata_profile.specs.Resolving.{IsIdOf, Meaning}
@@ -18,7 +20,8 @@ use Rattle.perfdata_profile.specs.Samples.{AreCounted, AreRelated, IsSample, IsT
 use Rattle.perfdata_profile.specs.Interned.{stack_number}
 use Rattle.perfdata_profile.specs.Tallies.{Counted, Tallies}
 use Rattle.perfdata_profile.specs.Threads.{pid_of, tid_of}
-use Rattle.perfdata_profile.specs.Values.{AreLocations, AreOnce, AreWithin, IsKey, IsLocation, Lists, ListsGrow, location_at, sample_value, stack_at, thread_key}
+use Rattle.perfdata_profile.specs.Values.{AreLocations, AreOnce, AreWithin, IsKey, IsLocation, Lists, location_at, sample_value, stack_at, thread_key}
+use Rattle.perfdata_profile.specs.steps.Values.{ListsGrow}
 use Rattle.perfdata_profile.specs.declared.builder.ProfileBuilder.{ProfileBuilder}
 use Rattle.perfdata_profile.specs.declared.locating.Locator.{Locator}
 use Rattle.perfdata_profile.specs.declared.locations.LocationId.{LocationId}

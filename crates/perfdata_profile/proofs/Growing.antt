@@ -6,7 +6,8 @@ use Rattle.std.specs.Option.{option_map}
 use Rattle.perfdata_profile.specs.Interning.{Grows, Interns}
 use Rattle.perfdata_profile.specs.Names.{number_of}
 use Rattle.perfdata_profile.specs.Interned.{location_number, mapping_number, stack_number}
-use Rattle.perfdata_profile.specs.Values.{AreLocations, AreWithin, HasFile, HasParts, IsInMapping, IsKey, IsLocation, IsMapping, IsName, IsPlaced, IsStack, Lists, ListsGrow, RangeValue, location_at, location_value, name_at, no_location, no_range, range_at, range_value, sample_value, stack_at}
+use Rattle.perfdata_profile.specs.Values.{AreLocations, AreWithin, HasFile, HasParts, IsInMapping, IsKey, IsLocation, IsMapping, IsName, IsPlaced, IsStack, Lists, RangeValue, location_at, location_value, name_at, no_location, no_range, range_at, range_value, sample_value, stack_at}
+use Rattle.perfdata_profile.specs.steps.Values.{ListsGrow}
 use Rattle.perfdata_profile.specs.declared.locations.Location.{Location}
 use Rattle.perfdata_profile.specs.declared.locations.LocationId.{LocationId}
 use Rattle.perfdata_profile.specs.declared.mappings.MappedRange.{MappedRange}

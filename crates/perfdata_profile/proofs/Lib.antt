@@ -1,12 +1,12 @@
 mod Adding
 mod Building
 mod Caching
-mod Counting
+pub mod Counting
 mod Deciding
 pub mod Elements
 pub mod Growing
 mod Looking
 mod Resolving
-mod Searching
+pub mod Searching
 mod Summing
-mod Valuing
+pub mod Valuing

@@ -3,14 +3,17 @@ use Rattle.std.proofs.Common.{◌≡◌, ◌∙◌, ◌≤◌, ◌<◌, ◌&&◌
 use Rattle.std.proofs.lemmas.Bool.Decides.{nat_tests}
 use Rattle.std.proofs.lemmas.Option.{get_or_from_slice_get, slice_get_within}
 use Rattle.std.specs.Option.{option_map}
-use Rattle.perfdata_profile.specs.Caching.{AddsCached, AllCached}
+use Rattle.perfdata_profile.specs.Caching.{AllCached}
+use Rattle.perfdata_profile.specs.steps.Caching.{AddsCached}
 use Rattle.perfdata_profile.specs.Interning.{Grows}
-use Rattle.perfdata_profile.specs.Locating.{CacheHolds, HasMapping, IsCached, IsFoundLocation, IsFoundKey, IsFoundRange, IsNewLocation, LocatorGrows, located_lists}
+use Rattle.perfdata_profile.specs.Locating.{CacheHolds, IsCached, IsFoundLocation, IsNewLocation, located_lists}
+use Rattle.perfdata_profile.specs.steps.Locating.{HasMapping, IsFoundKey, IsFoundRange, LocatorGrows}
 use Rattle.perfdata_profile.specs.Names.{number_of}
 use Rattle.perfdata_profile.specs.Resolving.{AreAtOneAddress, AreFileIds, FrameValue, IsFunctionId, Meaning}
 use Rattle.perfdata_profile.specs.Samples.{IsLocationOf, IsPlace, IsRange, end_of, is_in_range}
 use Rattle.perfdata_profile.specs.Interned.{location_number, mapping_number}
-use Rattle.perfdata_profile.specs.Values.{AreWithin, Lists, ListsGrow, location_at, location_value, name_at, no_location, no_range, range_at, range_value}
+use Rattle.perfdata_profile.specs.Values.{AreWithin, Lists, location_at, location_value, name_at, no_location, no_range, range_at, range_value}
+use Rattle.perfdata_profile.specs.steps.Values.{ListsGrow}
 use Rattle.perfdata_profile.specs.declared.cache.LocationCache.{LocationCache}
 use Rattle.perfdata_profile.specs.declared.cache.MappedAddress.{MappedAddress}
 use Rattle.perfdata_profile.specs.declared.locating.Locator.{Locator}

@@ -3,7 +3,8 @@ use Rattle.std.proofs.Common.{◌≡◌, ◌∙◌, ◌<◌, ap, refl, sym, subs
 use Rattle.std.specs.Option.{option_map}
 use Rattle.std.specs.declared.alloc.AllocError.{AllocError}
 use Rattle.std.proofs.lemmas.Option.{slice_get_cases}
-use Rattle.perfdata_profile.specs.Locating.{CacheHolds, HasMapping, LooksUp, located_lists}
+use Rattle.perfdata_profile.specs.Locating.{CacheHolds, LooksUp, located_lists}
+use Rattle.perfdata_profile.specs.steps.Locating.{HasMapping}
 use Rattle.perfdata_profile.specs.Resolving.{FrameValue, Meaning}
 use Rattle.perfdata_profile.specs.Samples.{IsLocationOf, Locates}
 use Rattle.perfdata_profile.specs.Values.{LocationValue, location_at}

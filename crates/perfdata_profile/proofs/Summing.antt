@@ -1,5 +1,5 @@
 -- Sums of samples as one more is counted.
-use Rattle.std.proofs.Common.{◌≡◌, ◌∙◌, ◌<◌, ◌^◌, ap, refl, sym, subst, arith, ℕ, List, [], ◌∷◌, ◌++◌, length, length-append, slice_get, position, None, Some}
+use Rattle.std.proofs.Common.{◌≡◌, ◌∙◌, ◌+◌, ◌<◌, ◌≤◌, ◌^◌, ap, refl, sym, subst, arith, ℕ, List, [], ◌∷◌, ◌++◌, length, length-append, slice_get, position, None, Some}
 use Rattle.std.specs.List.{sum_by}
 use Rattle.std.specs.Bool.{Decides}
 use Rattle.indexmap.specs.IndexMap.{set_value_at}
@@ -8,12 +8,13 @@ use Rattle.std.proofs.Common.{true≢false}
 use Rattle.std.proofs.lemmas.List.Sums.{sum_by-cons, sum_by_push}
 use Rattle.std.specs.Prelude.{Bool}
 use Rattle.perfdata_profile.specs.SampleSums.{TalliesSamples, entries_of, then_counted, total_of}
-use Rattle.perfdata_profile.specs.Sums.{sums_after}
+use Rattle.perfdata_profile.specs.Sums.{entry_samples, entry_weight, sums_after}
 use Rattle.perfdata_profile.specs.Tallies.{Counted, IsUnder, Tallies, one_sample, weight_of}
 use Rattle.perfdata_profile.specs.declared.sums.SampleKey.{SampleKey}
 use Rattle.perfdata_profile.specs.declared.sums.SampleSums.{SampleSums}
 use Rattle.perfdata_profile.specs.declared.sums.Sums.{Sums}
 use Rattle.perfdata_profile.proofs.Adding.{sum_at_most, tally_first, tally_raised}
+use Rattle.perfdata_profile.proofs.Elements.{sum_set}
 use Rattle.perfdata_profile.proofs.Searching.{found_at, map_at, none_found}
 
 sum_of_ones : {K : Type 0} → (counted : List (Counted K)) → sum_by one_sample counted ≡ length counted
@@ -59,3 +60,53 @@ module _ (eq : SampleKey → SampleKey → Bool) (same : (key other : SampleKey)
         samples = total_samples;
         weight = total_weight;
       }
+
+-- The sums of all entries, as one more sample is counted under a key that has an entry.
+module _ (es : List (SampleKey × Sums)) (index : ℕ) (key : SampleKey) (old : Sums) (at : slice_get es index ≡ Some (key, old)) where
+  abbrev none : Sums
+  none = record { samples = 0; weight = 0 }
+
+  within_samples : old.samples ≤ sum_by entry_samples es
+  within_samples =
+      let without : sum_by entry_samples (set_value_at es index none) + old.samples ≡ sum_by entry_samples es + 0 = sum_set (λ (s : Sums). s.samples) es index key old none at in
+      omega (arith, without)
+
+  within_weight : old.weight ≤ sum_by entry_weight es
+  within_weight =
+      let without : sum_by entry_weight (set_value_at es index none) + old.weight ≡ sum_by entry_weight es + 0 = sum_set (λ (s : Sums). s.weight) es index key old none at in
+      omega (arith, without)
+
+  pub raised_totals : (new : List (SampleKey × Sums)) (before total : Sums) (weight : ℕ) → before.samples ≡ sum_by entry_samples es → before.weight ≡ sum_by entry_weight es → total ≡ sums_after before weight → total.samples < 2 ^ 63 → total.weight < 2 ^ 63
+      → ((sums_after old weight).samples < 2 ^ 63 → (sums_after old weight).weight < 2 ^ 63 → new ≡ set_value_at es index (sums_after old weight))
+      → (total.samples ≡ sum_by entry_samples new) × (total.weight ≡ sum_by entry_weight new)
+  raised_totals new before total weight samples_are weight_is total_is samples_fit weight_fits raises =
+      let samples_total : total.samples ≡ before.samples + 1 = ap (λ (s : Sums). s.samples) total_is in
+      let weight_total : total.weight ≡ before.weight + weight = ap (λ (s : Sums). s.weight) total_is in
+      let is = raises (omega (arith, within_samples)) (omega (arith, within_weight)) in
+      let samples_after : sum_by entry_samples (set_value_at es index (sums_after old weight)) + old.samples ≡ sum_by entry_samples es + (old.samples + 1) = sum_set (λ (s : Sums). s.samples) es index key old (sums_after old weight) at in
+      let weight_after : sum_by entry_weight (set_value_at es index (sums_after old weight)) + old.weight ≡ sum_by entry_weight es + (old.weight + weight) = sum_set (λ (s : Sums). s.weight) es index key old (sums_after old weight) at in (
+        omega (arith, samples_after, ap (sum_by entry_samples) is),
+        omega (arith, weight_after, ap (sum_by entry_weight) is),
+      )
+
+-- The same for a key that has no entry.
+pub first_totals : (es new : List (SampleKey × Sums)) (key : SampleKey) (before total : Sums) (weight : ℕ) → before.samples ≡ sum_by entry_samples es → before.weight ≡ sum_by entry_weight es → total ≡ sums_after before weight
+    → new ≡ es ++ (key, record { samples = 1; weight = weight }) ∷ []
+    → (total.samples ≡ sum_by entry_samples new) × (total.weight ≡ sum_by entry_weight new)
+first_totals es new key before total weight samples_are weight_is total_is is =
+    let samples_total : total.samples ≡ before.samples + 1 = ap (λ (s : Sums). s.samples) total_is in
+    let weight_total : total.weight ≡ before.weight + weight = ap (λ (s : Sums). s.weight) total_is in
+    let one : SampleKey × Sums = (key, record { samples = 1; weight = weight }) in (
+      omega (arith, sum_by_push entry_samples es one, ap (sum_by entry_samples) is),
+      omega (arith, sum_by_push entry_weight es one, ap (sum_by entry_weight) is),
+    )
+
+-- The totals after an entry with a new key.
+pub pushed_totals : (es new : List (SampleKey × Sums)) (key : SampleKey) (sums before total : Sums) → before.samples ≡ sum_by entry_samples es
+    → before.weight ≡ sum_by entry_weight es → total.samples ≡ before.samples + sums.samples → total.weight ≡ before.weight + sums.weight
+    → new ≡ es ++ (key, sums) ∷ [] → (total.samples ≡ sum_by entry_samples new) × (total.weight ≡ sum_by entry_weight new)
+pushed_totals es new key sums before total samples_are weight_is samples_total weight_total is =
+    let one : SampleKey × Sums = (key, sums) in (
+      omega (arith, samples_are, samples_total, sum_by_push entry_samples es one, ap (sum_by entry_samples) is),
+      omega (arith, weight_is, weight_total, sum_by_push entry_weight es one, ap (sum_by entry_weight) is),
+    )

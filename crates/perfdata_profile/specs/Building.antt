@@ -1,43 +1,28 @@
 -- A profile as it is built.
-use Rattle.std.specs.Prelude.{◌≡◌, ℕ, ℤ, List, filter, length, map, slice_get, Option, Some}
+use Rattle.std.specs.Prelude.{◌≡◌, ℕ, List, filter, length, map, slice_get, Some}
 use Rattle.perfdata_events.specs.declared.sample.SampleRecord.{SampleRecord}
 use Rattle.perfdata_profile.specs.Locating.{CacheHolds, located_lists}
 use Rattle.perfdata_profile.specs.Profiles.{lists_of, valued_entry}
 use Rattle.perfdata_profile.specs.Resolving.{Meaning}
 use Rattle.perfdata_profile.specs.SampleSums.{TalliesSamples, entries_of}
-use Rattle.perfdata_profile.specs.Samples.{AreCounted, AreRelated, Given, IsSample, IsThread, Locates, applied_in, is_selected}
+use Rattle.perfdata_profile.specs.Samples.{AreCounted, Given, IsSample, applied_in, is_selected}
 use Rattle.perfdata_profile.specs.Tallies.{Counted, Tallies}
-use Rattle.perfdata_profile.specs.Values.{AreLocations, IsKey, IsName, Lists, SampleValue, location_at, sample_value, thread_key}
+use Rattle.perfdata_profile.specs.Values.{IsKey, Lists, SampleValue, sample_value}
 use Rattle.perfdata_profile.specs.declared.builder.ProfileBuilder.{ProfileBuilder}
-use Rattle.perfdata_profile.specs.declared.locations.LocationId.{LocationId}
-use Rattle.perfdata_profile.specs.declared.options.Detail.{Detail}
 use Rattle.perfdata_profile.specs.declared.options.ProfileOptions.{ProfileOptions}
-use Rattle.perfdata_profile.specs.declared.options.ThreadIds.{ThreadIds}
 use Rattle.perfdata_profile.specs.declared.profile.Profile.{Profile}
 use Rattle.perfdata_profile.specs.declared.sums.SampleKey.{SampleKey}
 use Rattle.perfdata_profile.specs.declared.sums.Sums.{Sums}
-use Rattle.perfdata_profile.specs.declared.sums.Thread.{Thread}
-use Rattle.perfdata_events.specs.declared.fields.task.Task.{Task}
 use Rattle.perfdata_spaces.specs.AddressSpaces.{Follows, mapping_values}
 use Rattle.perfdata_spaces.specs.Effects.{Applied}
-use Rattle.perfdata_stacks.specs.declared.frames.SampleFrame.{SampleFrame}
 
 abbrev pub options_of : {R : Type 0} → ProfileBuilder R → ProfileOptions
 options_of builder = record { detail = builder.locator.detail; thread_ids = builder.thread_ids }
 
 module _ (meaning : Meaning) where
-  -- A stack has the ids of locations of frames.
-  pub record HasStack (lists : Lists) (detail : Detail) (before : List Applied) (pid : ℤ) (time : Option ℕ) (frames : List SampleFrame) (stack : List LocationId) : Type 0 where
-    pub within : AreLocations lists stack
-    pub are : AreRelated (Locates meaning detail before pid time) frames (map (location_at lists) stack)
-
-  -- A thread has the id of a name of a thread.
-  pub record HasThread (lists : Lists) (ids : ThreadIds) (before : List Applied) (task : Task) (thread : Thread) : Type 0 where
-    pub within : IsName lists thread.name
-    pub is : IsThread meaning ids before task (thread_key lists thread)
-
   -- A key has the ids of the thread and the stack of a sample.
-  pub record HasKey (lists : Lists) (options : ProfileOptions) (before : List Applied) (misc : ℕ) (sample : SampleRecord) (column : ℕ) (key : SampleKey) : Type 0 where
+  pub record HasKey (lists : Lists) (options : ProfileOptions) (before : List Applied) (misc : ℕ) (sample : SampleRecord) (column : ℕ)
+      (key : SampleKey) : Type 0 where
     pub within : IsKey lists key
     pub is : IsSample meaning options before misc sample column (sample_value lists key)
 

@@ -1,5 +1,5 @@
 -- What is cached.
-use Rattle.std.specs.Prelude.{◌≡◌, ℕ, ◌⊎◌, List, slice_get, Some}
+use Rattle.std.specs.Prelude.{◌≡◌, ℕ, List, slice_get, Some}
 use Rattle.perfdata_profile.specs.declared.cache.LocationCache.{LocationCache}
 use Rattle.perfdata_profile.specs.declared.cache.MappedAddress.{MappedAddress}
 use Rattle.perfdata_profile.specs.declared.locations.LocationId.{LocationId}
@@ -11,12 +11,3 @@ cached_in cache = cache.ids.entries
 -- Something holds of each address that is cached, and of its location.
 abbrev pub AllCached : (MappedAddress → LocationId → Type 0) → LocationCache → Type 0
 AllCached holds cache = (index : ℕ) (at : MappedAddress) (id : LocationId) → slice_get (cached_in cache) index ≡ Some (at, id) → holds at id
-
--- A location is cached for an address.
-abbrev pub IsCachedAt : LocationCache → MappedAddress → LocationId → Type 0
-IsCachedAt cache at id = ((index : ℕ) × (slice_get (cached_in cache) index ≡ Some (at, id)))
-
--- What is cached was cached before, or is the location of an address.
-abbrev pub AddsCached : LocationCache → MappedAddress → LocationId → LocationCache → Type 0
-AddsCached old at id new = (index : ℕ) (key : MappedAddress) (value : LocationId) → slice_get (cached_in new) index ≡ Some (key, value)
-    → (slice_get (cached_in old) index ≡ Some (key, value)) ⊎ ((key ≡ at) × (value ≡ id))

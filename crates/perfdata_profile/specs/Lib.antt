@@ -13,3 +13,4 @@ pub mod Interned
 pub mod Tallies
 pub mod Threads
 pub mod Values
+pub mod steps

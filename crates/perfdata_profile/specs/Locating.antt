@@ -1,17 +1,14 @@
 -- The locations of frames as they are looked up.
-use Rattle.std.specs.Prelude.{◌≡◌, ℕ, true, List, Option, Some, slice_get}
-use Rattle.std.specs.Option.{option_map}
+use Rattle.std.specs.Prelude.{◌≡◌, true, List, Some, slice_get}
 use Rattle.perfdata_profile.specs.Caching.{AllCached}
 use Rattle.perfdata_profile.specs.Profiles.{lists_of}
 use Rattle.perfdata_profile.specs.Resolving.{AreAtOneAddress, FrameValue, Meaning}
-use Rattle.perfdata_profile.specs.Samples.{IsLocationOf, IsPlace, IsRangeAt}
-use Rattle.perfdata_profile.specs.Values.{IsLocation, IsPlaced, Lists, ListsGrow, location_at, range_at}
+use Rattle.perfdata_profile.specs.Samples.{IsLocationOf}
+use Rattle.perfdata_profile.specs.Values.{IsLocation, Lists, location_at}
 use Rattle.perfdata_profile.specs.declared.cache.MappedAddress.{MappedAddress}
 use Rattle.perfdata_profile.specs.declared.locating.Locator.{Locator}
 use Rattle.perfdata_profile.specs.declared.locating.NewLocation.{NewLocation}
-use Rattle.perfdata_profile.specs.declared.locating.LocationKey.{LocationKey}
 use Rattle.perfdata_profile.specs.declared.locations.LocationId.{LocationId}
-use Rattle.perfdata_profile.specs.declared.mappings.MappingId.{MappingId}
 use Rattle.perfdata_profile.specs.declared.options.Detail.{Detail}
 use Rattle.perfdata_spaces.specs.Mappings.{MappingValue}
 use Rattle.perfdata_stacks.specs.Frames.{lookup_address}
@@ -19,27 +16,8 @@ use Rattle.perfdata_stacks.specs.Frames.{lookup_address}
 abbrev pub located_lists : Locator → Lists
 located_lists locator = lists_of locator.tables
 
--- Entries may be added to the tables.
-pub record LocatorGrows (old new : Locator) : Type 0 where
-  pub lists : ListsGrow (located_lists old) (located_lists new)
-  pub detail : new.detail ≡ old.detail
-
--- A frame has the mapping with its index, if it has an index.
-abbrev pub HasMapping : List MappingValue → FrameValue → Type 0
-HasMapping mappings frame = (index : ℕ) → frame.index ≡ Some index
-    → ((mapping : MappingValue) × (slice_get mappings index ≡ Some mapping) × (frame.mapping ≡ Some mapping))
-
 module _ (meaning : Meaning) where
-  -- A range that was looked up for an address of a mapping.
-  pub record IsFoundRange (lists : Lists) (mapping : MappingValue) (address : ℕ) (id : Option MappingId) : Type 0 where
-    pub placed : IsPlaced lists id address
-    pub is : IsRangeAt meaning (Some mapping) address (option_map (range_at lists) id)
-
   module _ (detail : Detail) where
-    pub record IsFoundKey (lists : Lists) (frame : FrameValue) (place : LocationKey) : Type 0 where
-      pub placed : IsPlaced lists place.mapping place.address
-      pub is : IsPlace meaning detail frame.mapping (lookup_address frame.frame) (option_map (range_at lists) place.mapping) place.address
-
     -- An id is that of a location of a frame.
     pub record IsFoundLocation (lists : Lists) (frame : FrameValue) (id : LocationId) : Type 0 where
       pub within : IsLocation lists id

@@ -2,7 +2,7 @@
 use Rattle.std.specs.Prelude.{◌≡◌, ℕ, ℤ, ◌+◌, ◌-◌, ◌%◌, ◌^◌, ◌&&◌, min, nat_le, nat_lt, Bool, true, false, List, [], ◌∷◌, ◌++◌, negsuc, Option, None, Some}
 use Rattle.std.specs.List.{flat_map}
 use Rattle.std.specs.Option.{option_map, unwrap_or}
-use Rattle.perfdata_base.specs.CpuMode.{cpu_mode_of}
+use Rattle.perfdata_sources.specs.CpuMode.{cpu_mode_of}
 use Rattle.perfdata_events.specs.declared.event.EventRecord.{EventRecord}
 use Rattle.perfdata_events.specs.declared.event.EventRecord.TheVariants.{Sample}
 use Rattle.perfdata_events.specs.declared.fields.task.Task.{Task}
@@ -102,7 +102,13 @@ module _ (meaning : Meaning) where
     pub record Locates (before : List Applied) (pid : ℤ) (time : Option ℕ) (frame : SampleFrame) (location : LocationValue) : Type 0 where
       pub found : Option IndexedMapping
       pub is_found : IsFound (space_effects before) pid (lookup_address frame) frame.frame.context found
-      pub is_location : IsLocationOf (record { pid = pid; time = time; frame = frame; index = option_map (λ (f : IndexedMapping). f.index) found; mapping = option_map (λ (f : IndexedMapping). f.mapping) found }) location
+      pub is_location : IsLocationOf (record {
+        pid = pid;
+        time = time;
+        frame = frame;
+        index = option_map (λ (f : IndexedMapping). f.index) found;
+        mapping = option_map (λ (f : IndexedMapping). f.mapping) found;
+      }) location
 
   -- A thread after records: its name is one for what the records call it.
   pub record IsThread (ids : ThreadIds) (before : List Applied) (task : Task) (thread : ThreadKey) : Type 0 where

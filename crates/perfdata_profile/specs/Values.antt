@@ -1,7 +1,7 @@
 -- What the ids of a profile stand for.
 use Rattle.std.specs.Prelude.{◌≡◌, ℕ, ℤ, ◌≤◌, ◌<◌, List, [], length, map, slice_get, slice_index_or, Option, None, Some}
 use Rattle.std.specs.Option.{option_map}
-use Rattle.perfdata_profile.specs.Interning.{Grows, IsOnce}
+use Rattle.perfdata_profile.specs.Interning.{IsOnce}
 use Rattle.perfdata_profile.specs.Names.{names_of, number_of}
 use Rattle.perfdata_profile.specs.Interned.{location_number, locations_of, mapping_number, ranges_of, stack_number, stacks_of}
 use Rattle.perfdata_profile.specs.declared.locations.Location.{Location}
@@ -25,7 +25,12 @@ pub record Lists : Type 0 where
   pub stacks : List (List LocationId)
 
 abbrev pub lists_in : Names → Mappings → Locations → Stacks → Lists
-lists_in names mappings locations stacks = record { names = names_of names; ranges = ranges_of mappings; locations = locations_of locations; stacks = stacks_of stacks }
+lists_in names mappings locations stacks = record {
+  names = names_of names;
+  ranges = ranges_of mappings;
+  locations = locations_of locations;
+  stacks = stacks_of stacks;
+}
 
 -- A range of addresses to which a part of a file is mapped.
 pub record RangeValue : Type 0 where
@@ -103,7 +108,13 @@ module _ (lists : Lists) where
   name_at id = slice_index_or lists.names (number_of id) []
 
   abbrev pub range_value : MappedRange → RangeValue
-  range_value range = record { start = range.start; end = range.end; page_offset = range.page_offset; path = name_at range.path; build_id = name_at range.build_id }
+  range_value range = record {
+    start = range.start;
+    end = range.end;
+    page_offset = range.page_offset;
+    path = name_at range.path;
+    build_id = name_at range.build_id;
+  }
 
   abbrev pub range_at : MappingId → RangeValue
   range_at id = slice_index_or (map range_value lists.ranges) (mapping_number id) no_range
@@ -129,10 +140,3 @@ pub record AreOnce (lists : Lists) : Type 0 where
   pub ranges : IsOnce lists.ranges
   pub locations : IsOnce lists.locations
   pub stacks : IsOnce lists.stacks
-
--- Entries are added after those that were there.
-pub record ListsGrow (old new : Lists) : Type 0 where
-  pub names : Grows old.names new.names
-  pub ranges : Grows old.ranges new.ranges
-  pub locations : Grows old.locations new.locations
-  pub stacks : Grows old.stacks new.stacks

@@ -3,13 +3,16 @@
 ghost use Rattle.std.specs.Prelude.{◌≡◌, [], ◌∷◌, ◌++◌, ℕ, List, Option, Some, OnErr, OnOk, IfOk};
 ghost use Rattle.perfdata_profile.specs.Samples.{sample_task};
 ghost use Rattle.perfdata_profile.specs.Values.{AreLocations, IsKey, IsName};
-ghost use Rattle.perfdata_profile.specs.Building.{HasKey, HasStack, HasThread};
-ghost use Rattle.perfdata_profile.specs.Locating.{CacheHolds, LocatorGrows, located_lists};
+ghost use Rattle.perfdata_profile.specs.Building.{HasKey};
+ghost use Rattle.perfdata_profile.specs.steps.Building.{HasStack, HasThread};
+ghost use Rattle.perfdata_profile.specs.Locating.{CacheHolds, located_lists};
+ghost use Rattle.perfdata_profile.specs.steps.Locating.{LocatorGrows};
 ghost use Rattle.perfdata_profile.specs.SampleSums.{KeepsSums};
 ghost use Rattle.perfdata_spaces.specs.AddressSpaces.{Follows, mapping_values};
 ghost use Rattle.perfdata_spaces.specs.Effects.{Applied};
 
 use crate::error::ProfileError;
+use crate::interned::Interned;
 use crate::locating::{Locator, Origin, indexed_mapping};
 use crate::locations::LocationId;
 use crate::options::{ProfileOptions, ThreadIds};
@@ -19,6 +22,7 @@ use crate::sums::{SampleKey, SampleSums, SampleWeight, Thread};
 use perfdata_events::event::EventRecord;
 use perfdata_events::sample::SampleRecord;
 use perfdata_events::sample_id::Task;
+use perfdata_selection::filter::{SampleFilter, SampleOrigin};
 use perfdata_spaces::address_spaces::AddressSpaces;
 use perfdata_stacks::frames::SampleFrame;
 use std::alloc::{AllocError, Global};
@@ -229,12 +233,78 @@ impl<R: Resolver> ProfileBuilder<R> {
         }
     }
 
+    // Returns what a filter compares of a sample.
+    fn origin<'a>(&'a self, sample: &SampleRecord<'_>) -> SampleOrigin<'a> {
+        let task = sample_task(sample);
+        SampleOrigin {
+            comm: self.spaces.comm(task.tid),
+            pid: task.pid,
+            tid: task.tid,
+            cpu: sample.cpu,
+            time: sample.timestamp,
+        }
+    }
+
+    // Returns whether a filter selects a sample.
+    fn selects(&self, filter: &SampleFilter<'_>, sample: &SampleRecord<'_>) -> bool {
+        filter.selects(&self.origin(sample))
+    }
+
+    // Returns the weight of a record: that of a sample that isn't selected is `None`.
+    fn selected_weight(
+        &self,
+        filter: &SampleFilter<'_>,
+        event: &EventRecord<'_>,
+        weight: Option<SampleWeight>,
+    ) -> Option<SampleWeight> {
+        match event {
+            EventRecord::Sample(sample) => {
+                if self.selects(filter, sample) {
+                    weight
+                } else {
+                    None
+                }
+            }
+            _ => weight,
+        }
+    }
+
+    /// Counts a sample with its weight, if it has one and a filter selects it, or applies another record.
+    /// Returns whether a sample was counted. `misc` is that of the record's header. All records are added
+    /// with the same filter.
+    ///
+    /// Fails with [`ProfileError::Overflow`] if the number of all samples or the sum of all weights exceeds
+    /// 2^63 - 1, and with [`ProfileError::Memory`] if memory runs out. Then nothing is counted.
+    pub fn add_selected(
+        &mut self,
+        filter: &SampleFilter<'_>,
+        misc: u16,
+        event: &EventRecord<'_>,
+        weight: Option<SampleWeight>,
+    ) -> Result<bool, ProfileError>
+        ensures err { OnErr result (KeepsSums self.old.sums self.new.sums) }
+    {
+        let selected = self.selected_weight(filter, event, weight);
+        self.add_record(misc, event, selected)?;
+        Ok(selected.is_some())
+    }
+
     /// Returns what the records so far map, and the names of threads.
     pub fn spaces(&self) -> &AddressSpaces
         ensures { (options : ProfileOptions) (given : List Given) → Builds R.meaning options given self.now →
             Follows (applied_in given) result.now }
     {
         &self.spaces
+    }
+
+    /// Returns the stack of the sample that was counted last, the leaf's location first.
+    pub fn last_stack(&self) -> &[LocationId] {
+        self.stack.as_slice()
+    }
+
+    /// Returns what the ids so far stand for.
+    pub fn tables(&self) -> &Interned {
+        &self.locator.tables
     }
 
     /// Returns the profile of the samples that were counted, and the resolver.

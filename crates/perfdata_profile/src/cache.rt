@@ -20,7 +20,8 @@ pub(crate) struct LocationCache {
 }
 
 impl LocationCache {
-    ghost use Rattle.perfdata_profile.specs.Caching.{AddsCached, IsCachedAt, cached_in};
+    ghost use Rattle.perfdata_profile.specs.Caching.{cached_in};
+    ghost use Rattle.perfdata_profile.specs.steps.Caching.{AddsCached, IsCachedAt};
 
     // Nothing is cached.
     pub(crate) fn new(alloc: Global) -> LocationCache

@@ -9,10 +9,12 @@
 pub mod builder;
 mod cache;
 pub mod error;
+pub mod function_kinds;
 pub mod interned;
 pub mod laws;
 mod locating;
 pub mod locations;
+pub mod mapping_order;
 pub mod mappings;
 pub mod names;
 pub mod options;

@@ -64,8 +64,10 @@ pub(crate) fn indexed_mapping(spaces: &AddressSpaces, index: Option<usize>) -> O
 }
 
 impl Locator {
-    ghost use Rattle.perfdata_profile.specs.Locating.{CacheHolds, HasMapping, IsFoundLocation, IsFoundKey};
-    ghost use Rattle.perfdata_profile.specs.Locating.{IsFoundRange, IsNewLocation, LocatorGrows, LooksUp};
+    ghost use Rattle.perfdata_profile.specs.Locating.{CacheHolds, IsFoundLocation};
+    ghost use Rattle.perfdata_profile.specs.steps.Locating.{HasMapping, IsFoundKey};
+    ghost use Rattle.perfdata_profile.specs.Locating.{IsNewLocation, LooksUp};
+    ghost use Rattle.perfdata_profile.specs.steps.Locating.{IsFoundRange, LocatorGrows};
     ghost use Rattle.perfdata_profile.specs.Locating.{located_lists};
 
     // Nothing was looked up.

@@ -1,6 +1,7 @@
 //! The names of functions and threads, each stored once.
 
-ghost use Rattle.std.specs.Prelude.{◌≡◌, [], length, map, slice_get, IfOk, OnErr};
+ghost use Rattle.std.specs.Prelude.{◌≡◌, ◌<◌, ◌≤◌, [], length, map, slice_get};
+ghost use Rattle.std.specs.Prelude.{IfNone, IfOk, IfSome, OnErr, OnSome};
 ghost use Rattle.std.specs.Option.{option_map};
 ghost use Rattle.perfdata_profile.specs.Interning.{Interns, IsOnce};
 
@@ -66,6 +67,19 @@ impl Names {
         match self.names.get_index(id.0) {
             Some(name) => Some(name.as_slice()),
             None => None,
+        }
+    }
+
+    /// Returns the id with a number, or `None` from [`Names::len`] on.
+    pub fn id(&self, number: usize) -> Option<NameId>
+        ensures some { IfSome result (λ id. number_of id ≡ number) }
+        ensures within { OnSome result (number < length (names_of self.now)) }
+        ensures none { IfNone result (length (names_of self.now) ≤ number) }
+    {
+        if number < self.names.len() {
+            Some(NameId(number))
+        } else {
+            None
         }
     }
 

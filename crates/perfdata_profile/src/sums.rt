@@ -4,7 +4,8 @@ ghost use Rattle.std.specs.Prelude.{◌≡◌, ◌+◌, ◌≤◌, ◌<◌, ◌^
 ghost use Rattle.std.specs.Prelude.{length, IfErr, IfSome, IfNone, OnErr, OnOk};
 ghost use Rattle.indexmap.specs.IndexMap.{set_value_at};
 ghost use Rattle.indexmap.specs.IndexMap.{get, index_map_len};
-ghost use Rattle.perfdata_profile.specs.Sums.{sums_after};
+ghost use Rattle.std.specs.List.{sum_by};
+ghost use Rattle.perfdata_profile.specs.Sums.{entry_samples, entry_weight, sums_after};
 
 use crate::error::ProfileError;
 use crate::names::NameId;
@@ -57,6 +58,8 @@ pub struct Sums {
 pub struct SampleSums {
     entries: IndexMap<SampleKey, Sums>,
     total: Sums,
+    ghost samples_summed: { total.samples ≡ sum_by entry_samples entries.entries },
+    ghost weights_summed: { total.weight ≡ sum_by entry_weight entries.entries },
 }
 
 // The number from which on no sum is counted.
@@ -96,6 +99,28 @@ impl Sums {
             weight: checked_sum(self.weight, weight)?,
         })
     }
+
+    // Returns these sums with others added, if both numbers are below 2^63.
+    fn checked_sum(self, more: Sums) -> Option<Sums>
+        ensures { IfSome result (λ total. (total.samples ≡ self.samples + more.samples)
+            × (total.weight ≡ self.weight + more.weight)) }
+    {
+        let samples = checked_sum(self.samples, more.samples)?;
+        let weight = checked_sum(self.weight, more.weight)?;
+        Some(Sums { samples, weight })
+    }
+}
+
+// Adds a sample to the sums with an index.
+fn raise(entries: &mut IndexMap<SampleKey, Sums>, index: usize, weight: u64)
+    requires { index < index_map_len entries.old }
+    ensures { (key : SampleKey) (sums : Sums) →
+        slice_get entries.old.entries index ≡ Some (key, sums) → (sums_after sums weight).samples < 2 ^ 63 →
+        (sums_after sums weight).weight < 2 ^ 63 →
+        entries.new.entries ≡ set_value_at entries.old.entries index (sums_after sums weight) }
+{
+    let sums = entries[index];
+    entries[index] = sums.plus(weight);
 }
 
 impl SampleSums {
@@ -116,19 +141,6 @@ impl SampleSums {
         }
     }
 
-    // Adds a sample to the sums with an index.
-    fn raise(&mut self, index: usize, weight: u64)
-        requires { index < index_map_len self.old.entries }
-        ensures entries { (key : SampleKey) (sums : Sums) →
-            slice_get self.old.entries.entries index ≡ Some (key, sums) →
-            (sums_after sums weight).samples < 2 ^ 63 → (sums_after sums weight).weight < 2 ^ 63 →
-            self.new.entries.entries ≡ set_value_at self.old.entries.entries index (sums_after sums weight) }
-        ensures total { self.new.total ≡ self.old.total }
-    {
-        let sums = self.entries[index];
-        self.entries[index] = sums.plus(weight);
-    }
-
     /// Counts a sample with a key and a weight.
     ///
     /// Fails with [`ProfileError::Overflow`] if the number of all samples or the sum of all weights, whatever
@@ -144,7 +156,7 @@ impl SampleSums {
             return Err(ProfileError::Overflow);
         };
         if let Some(index) = self.entries.get_index_of(&key) {
-            self.raise(index, weight);
+            raise(&mut self.entries, index, weight);
             self.total = total;
             return Ok(());
         }
@@ -175,9 +187,41 @@ impl SampleSums {
         }
     }
 
+    // Adds a key that wasn't counted before, with its sums.
+    fn add_entry(&mut self, key: SampleKey, sums: Sums) -> Result<(), ProfileError> {
+        let Some(total) = self.total.checked_sum(sums) else {
+            return Err(ProfileError::Overflow);
+        };
+        if let Some(_index) = self.entries.get_index_of(&key) {
+            return Ok(());
+        }
+        match self.entries.insert(key, sums) {
+            Ok(_) => {
+                self.total = total;
+                Ok(())
+            }
+            Err(_) => Err(ProfileError::Memory),
+        }
+    }
+
+    /// Returns the sums of the keys whose index is marked, in their order. Keys beyond the marks aren't.
+    ///
+    /// Fails if memory runs out.
+    pub fn marked(&self, alloc: Global, marks: &[bool]) -> Result<SampleSums, ProfileError> {
+        let mut marked = SampleSums::new(alloc);
+        for (index, is_marked) in marks.iter().enumerate() {
+            if let (true, Some((key, sums))) = (*is_marked, self.get(index)) {
+                marked.add_entry(key, sums)?;
+            }
+        }
+        Ok(marked)
+    }
+
     /// Returns the sums of all samples, whatever their columns.
     pub fn total(&self) -> Sums
-        ensures { result ≡ total_of self.now }
+        ensures total { result ≡ total_of self.now }
+        ensures samples { result.samples ≡ sum_by entry_samples (entries_of self.now) }
+        ensures weights { result.weight ≡ sum_by entry_weight (entries_of self.now) }
     {
         self.total
     }

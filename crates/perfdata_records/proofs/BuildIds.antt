@@ -7,15 +7,15 @@ use Rattle.std.proofs.lemmas.List.{take-append-drop, drop-append-le, take_all}
 use Rattle.std.proofs.lemmas.Slice.Eq.{bytes_eq-Decides}
 use Rattle.std.proofs.Math.Seq.{take-append_seam}
 use Rattle.std.specs.declared.io.Error.{Error}
-use Rattle.perfdata_base.specs.Endian.{number_in}
-use Rattle.perfdata_base.specs.RecordHeader.{record_header_of, PeeksRecordHeader}
-use Rattle.perfdata_base.specs.Source.{State, Consumed, IsIoErrorOf}
-use Rattle.perfdata_base.proofs.ConsumedLemmas.{consumed_more}
-use Rattle.perfdata_base.proofs.Numbers.{ReadsFirst, first_drop_prefix}
-use Rattle.perfdata_base.specs.declared.event.record_header.PerfEventHeader.{PerfEventHeader}
-use Rattle.perfdata_base.specs.declared.endian.Endianness.{Endianness}
-use Rattle.perfdata_base.specs.declared.source.append.AppendError.{AppendError}
-use Rattle.perfdata_base.specs.declared.source.append.AppendError.TheVariants.{Memory, Source}
+use Rattle.perfdata_sources.specs.Endian.{number_in}
+use Rattle.perfdata_sources.specs.RecordHeader.{record_header_of, PeeksRecordHeader}
+use Rattle.perfdata_sources.specs.Source.{State, Consumed, IsIoErrorOf}
+use Rattle.perfdata_sources.proofs.ConsumedLemmas.{consumed_more}
+use Rattle.perfdata_sources.proofs.Numbers.{ReadsFirst, first_drop_prefix}
+use Rattle.perfdata_sources.specs.declared.event.record_header.PerfEventHeader.{PerfEventHeader}
+use Rattle.perfdata_sources.specs.declared.endian.Endianness.{Endianness}
+use Rattle.perfdata_sources.specs.declared.source.append.AppendError.{AppendError}
+use Rattle.perfdata_sources.specs.declared.source.append.AppendError.TheVariants.{Memory, Source}
 use Rattle.perfdata_sections.specs.ParsedPart.{PartRead, PartReadError, ReadsBytes}
 use Rattle.perfdata_sections.specs.HeaderString.{before_nul}
 use Rattle.perfdata_records.specs.BuildIdEvent.{zero_group, zero_groups, IsBuildIdIn, IsBuildIdEvent, IsTruncatedBuildIdEntry, ReadsBuildIdEvent, ParsesBuildIdEvent}

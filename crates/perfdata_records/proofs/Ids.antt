@@ -4,12 +4,13 @@ use Rattle.std.proofs.Math.Nat.{mul-add-div}
 use Rattle.std.proofs.Math.Seq.{drop-append_seam}
 use Rattle.std.specs.Prelude.{◌-◌, ◌%◌}
 use Rattle.std.specs.declared.io.Error.{Error}
-use Rattle.perfdata_base.specs.Source.{State, memory_source}
-use Rattle.perfdata_base.specs.Attr.{own_size, IsAttr, AttrParsed, AttrParseError}
-use Rattle.perfdata_base.proofs.Numbers.{ReadsFirst}
-use Rattle.perfdata_base.proofs.Attrs.{own_remains, attr_remains, attr_explained, size_with}
-use Rattle.perfdata_base.specs.declared.attr.PerfEventAttr.{PerfEventAttr}
-use Rattle.perfdata_records.specs.HeaderAttr.{Attribute, u64s_of, HoldsAttributeWith, attribute_with, IsIdsError, IsHeaderAttrError}
+use Rattle.perfdata_sources.specs.Source.{State, memory_source}
+use Rattle.perfdata_sources.specs.Attr.{own_size, IsAttr, AttrParsed, AttrParseError}
+use Rattle.perfdata_sources.proofs.Numbers.{ReadsFirst}
+use Rattle.perfdata_sources.proofs.Attrs.{own_remains, attr_remains, attr_explained, size_with}
+use Rattle.perfdata_sources.specs.declared.attr.PerfEventAttr.{PerfEventAttr}
+use Rattle.perfdata_records.specs.HeaderAttr.{Attribute, u64s_of, HoldsAttributeWith, attribute_with, IsHeaderAttrError}
+use Rattle.perfdata_records.specs.steps.HeaderAttr.{IsIdsError}
 
 module _ (number : ℕ → List ℕ → ℕ) where
   numbers_step : (xs : List ℕ) → 8 ≤ length xs → u64s_of number (length xs / 8) xs ≡ number 8 xs ∷ u64s_of number (length (drop 8 xs) / 8) (drop 8 xs)

@@ -1,7 +1,7 @@
 -- Numbers in a prefix of the bytes.
 use Rattle.std.proofs.Common.{◌≡◌, ℕ, ◌+◌, ◌≤◌, List, length, take, drop, sym, ap, ◌∙◌, arith, length-drop}
 use Rattle.std.proofs.lemmas.List.{take-append-drop, length-take-le}
-use Rattle.perfdata_base.proofs.Numbers.{ReadsFirst, first_take, first_drop_prefix}
+use Rattle.perfdata_sources.proofs.Numbers.{ReadsFirst, first_take, first_drop_prefix}
 
 -- a number at offset `k` of the first `m` bytes, read from the `j` bytes at that offset
 pub number_within : (number : ℕ → List ℕ → ℕ) → ReadsFirst number → (n k j m : ℕ) (xs prefix : List ℕ) → prefix ≡ take m xs → m ≤ length xs → n ≤ j → k + j ≤ m

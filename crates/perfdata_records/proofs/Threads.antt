@@ -5,8 +5,8 @@ use Rattle.std.proofs.Math.Nat.{mul-add-div}
 use Rattle.std.proofs.lemmas.List.{take-append-drop, take-append-le, drop-append-le, length-take-le}
 use Rattle.std.proofs.lemmas.List.Sums.{take_while-cons}
 use Rattle.std.proofs.lemmas.List.Elements.{All-tail}
-use Rattle.perfdata_base.specs.Raw.{HasNoNul}
-use Rattle.perfdata_base.proofs.Numbers.{ReadsFirst}
+use Rattle.perfdata_sources.specs.Raw.{HasNoNul}
+use Rattle.perfdata_sources.proofs.Numbers.{ReadsFirst}
 use Rattle.perfdata_sections.specs.HeaderString.{before_nul}
 use Rattle.perfdata_records.specs.Thread.{thread_at}
 use Rattle.perfdata_records.specs.ThreadMap.{threads_in, IsThreadMap}

@@ -5,14 +5,14 @@ use Rattle.std.specs.List.{ends_with}
 use Rattle.std.specs.IoError.{error_kind}
 use Rattle.std.specs.declared.io.Error.{Error}
 use Rattle.std.specs.declared.io.ErrorKind.TheVariants.{UnexpectedEof, OutOfMemory}
-use Rattle.perfdata_base.specs.Endian.{number_in}
-use Rattle.perfdata_base.specs.RecordHeader.{record_header_of}
-use Rattle.perfdata_base.specs.ParseInfo.{is_set}
-use Rattle.perfdata_base.specs.Source.{State}
-use Rattle.perfdata_base.specs.declared.event.record_header.PerfEventHeader.{PerfEventHeader}
-use Rattle.perfdata_base.specs.declared.endian.Endianness.{Endianness}
-use Rattle.perfdata_base.specs.declared.source.append.AppendError.{AppendError}
-use Rattle.perfdata_base.specs.declared.source.append.AppendError.TheVariants.{Memory, Source}
+use Rattle.perfdata_sources.specs.Endian.{number_in}
+use Rattle.perfdata_sources.specs.RecordHeader.{record_header_of}
+use Rattle.perfdata_identifiers.specs.ParseInfo.{is_set}
+use Rattle.perfdata_sources.specs.Source.{State}
+use Rattle.perfdata_sources.specs.declared.event.record_header.PerfEventHeader.{PerfEventHeader}
+use Rattle.perfdata_sources.specs.declared.endian.Endianness.{Endianness}
+use Rattle.perfdata_sources.specs.declared.source.append.AppendError.{AppendError}
+use Rattle.perfdata_sources.specs.declared.source.append.AppendError.TheVariants.{Memory, Source}
 use Rattle.perfdata_sections.specs.ParsedPart.{PartRead, PartPartlyRead, PartReadError}
 use Rattle.perfdata_sections.specs.HeaderString.{before_nul}
 use Rattle.perfdata_records.specs.declared.build_id_event.BuildIdEvent.{BuildIdEvent}
@@ -82,11 +82,13 @@ module _ (number : ℕ → List ℕ → ℕ) where
   -- Like `ReadsBuildIdEvent`, but an allocation failure is an I/O error of kind `OutOfMemory`.
   abbrev pub ParsesBuildIdEvent : State → Result BuildIdEvent Error → State → Type 0
   ParsesBuildIdEvent old (Ok e) new = PartRead IsBuildIdEvent old e new
-  ParsesBuildIdEvent old (Err e) new = ((error_kind e ≡ OutOfMemory) × PartPartlyRead IsPrefixOfBuildIdEntry old new) ⊎ PartReadError IsTruncatedBuildIdEntry old e new
+  ParsesBuildIdEvent old (Err e) new =
+      ((error_kind e ≡ OutOfMemory) × PartPartlyRead IsPrefixOfBuildIdEntry old new) ⊎ PartReadError IsTruncatedBuildIdEntry old e new
 
 -- What reading the entry at the start of `bytes` does: it leaves `rest`, the bytes after the entry. A truncated entry is an
 -- unexpected end of file. `Memory` reports an allocation failure, for an entry that isn't truncated.
 abbrev pub ReadsFirstEntry : Endianness → List ℕ → Result BuildIdEvent AppendError → List ℕ → Type 0
 ReadsFirstEntry endian bytes (Ok e) rest = (first : List ℕ) × (bytes ≡ first ++ rest) × IsBuildIdEvent (number_in endian) first e
-ReadsFirstEntry endian bytes (Err Memory) rest = (¬ IsTruncatedBuildIdEntry (number_in endian) bytes) × (first : List ℕ) × (bytes ≡ first ++ rest) × IsPrefixOfBuildIdEntry (number_in endian) first
+ReadsFirstEntry endian bytes (Err Memory) rest =
+    (¬ IsTruncatedBuildIdEntry (number_in endian) bytes) × (first : List ℕ) × (bytes ≡ first ++ rest) × IsPrefixOfBuildIdEntry (number_in endian) first
 ReadsFirstEntry endian bytes (Err (Source e)) rest = IsTruncatedBuildIdEntry (number_in endian) bytes × (error_kind e ≡ UnexpectedEof)

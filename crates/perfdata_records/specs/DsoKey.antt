@@ -1,14 +1,13 @@
 -- The key of a mapped object, which the paths of its mappings and of its build id have in common (perf's `dso` kinds).
-use Rattle.std.specs.Prelude.{◌≡◌, ℕ, ◌+◌, ◌-◌, Bool, true, false, ◌&&◌, ◌||◌, List, ◌++◌, length, take, drop, nat_eq, codes, if◌then◌else◌, Option, None, Some, Result, Ok, Err, IsSome, String, string_bytes, ⊤}
+use Rattle.std.specs.Prelude.{◌≡◌, ℕ, ◌+◌, ◌-◌, Bool, true, false, ◌&&◌, ◌||◌, List, ◌++◌, length, take, drop, nat_eq, codes, if◌then◌else◌, Option, None, Some, Result, Ok, Err, string_bytes, ⊤}
 use Rattle.std.specs.List.{starts_with, ends_with}
 use Rattle.std.specs.Option.{option_map}
 use Rattle.std.specs.Str.{bytes_eq, encode_utf8_all}
 use Rattle.std.specs.declared.alloc.AllocError.{AllocError}
-use Rattle.std.specs.declared.alloc.Global.{Global}
 use Rattle.bstr.specs.Utf8.{lossy_chars}
 use Rattle.memchr.specs.Find.{is_byte, places, last_of}
-use Rattle.perfdata_base.specs.declared.event.cpu_mode.CpuMode.{CpuMode}
-use Rattle.perfdata_base.specs.declared.event.cpu_mode.CpuMode.TheVariants.{Unknown, Kernel, User, Hypervisor, GuestKernel, GuestUser}
+use Rattle.perfdata_sources.specs.declared.event.cpu_mode.CpuMode.{CpuMode}
+use Rattle.perfdata_sources.specs.declared.event.cpu_mode.CpuMode.TheVariants.{Unknown, Kernel, User, Hypervisor, GuestKernel, GuestUser}
 use Rattle.perfdata_records.specs.declared.dso_key.DsoKey.{DsoKey}
 use Rattle.perfdata_records.specs.declared.dso_key.DsoKey.TheVariants as dso
 
@@ -79,7 +78,8 @@ is_unmapped path = bytes_eq path (codes "//anon") || bytes_eq path (codes "[stac
 -- The name of the kernel module at a path: a name in brackets is unchanged, and a file `NAME.ko` is `[NAME]`.
 abbrev pub module_name_of : List ℕ → Option (List ℕ)
 module_name_of path = if starts_with nat_eq path (codes "[") then Some (lossy_text path)
-    else if ends_with nat_eq (file_name_of path) (codes ".ko") then Some (codes "[" ++ lossy_text (take (length (file_name_of path) - 3) (file_name_of path)) ++ codes "]")
+    else if ends_with nat_eq (file_name_of path) (codes ".ko")
+    then Some (codes "[" ++ lossy_text (take (length (file_name_of path) - 3) (file_name_of path)) ++ codes "]")
     else None
 
 -- The key of the module, or `otherwise` if there is none.
@@ -122,13 +122,3 @@ HasTexts _ = ⊥
 abbrev pub Detects : List ℕ → CpuMode → Result (Option DsoKey) AllocError → Type 0
 Detects path mode (Ok found) = option_map key_in found ≡ key_of path mode
 Detects path mode (Err e) = HasTexts (key_of path mode)
-
--- What matching the special names does: it returns the key of the name, or `None` if `key_of_file` decides.
-abbrev pub FindsSpecialName : List ℕ → CpuMode → Option DsoKey → Type 0
-FindsSpecialName path mode (Some key) = is_unmapped path ≡ false → key_of path mode ≡ Some (key_in key)
-FindsSpecialName path mode None = is_unmapped path ≡ false → key_of path mode ≡ key_of_file path mode
-
--- What finding a module's name does: it returns the name if the path is that of a module, or fails to allocate it.
-abbrev pub FindsModuleName : List ℕ → Result (Option (String Global)) AllocError → Type 0
-FindsModuleName path (Ok name) = option_map string_bytes name ≡ module_name_of path
-FindsModuleName path (Err e) = IsSome (module_name_of path)

@@ -1,6 +1,6 @@
 -- The fields of a record as the reader returns it, whether the kernel or a tool wrote it.
 use Rattle.std.specs.Prelude.{ℕ, Option, None, Some}
-use Rattle.perfdata_base.specs.declared.raw.RawData.{RawData}
+use Rattle.perfdata_sources.specs.declared.raw.RawData.{RawData}
 use Rattle.perfdata_records.specs.UserRecordType.{user_type_number}
 use Rattle.perfdata_records.specs.declared.record.PerfFileRecord.{PerfFileRecord}
 use Rattle.perfdata_records.specs.declared.record.PerfFileRecord.TheVariants.{EventRecord, UserRecord}

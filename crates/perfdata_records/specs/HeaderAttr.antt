@@ -3,10 +3,10 @@ use Rattle.std.specs.Prelude.{◌≡◌, ◌≢◌, ℕ, ◌+◌, ◌-◌, ◌/�
 use Rattle.std.specs.IoError.{error_kind}
 use Rattle.std.specs.declared.io.Error.{Error}
 use Rattle.std.specs.declared.io.ErrorKind.TheVariants.{UnexpectedEof, InvalidData, OutOfMemory}
-use Rattle.perfdata_base.specs.Endian.{number_in}
-use Rattle.perfdata_base.specs.Attr.{own_size, attr_of, IsTooSmall, IsTruncatedAttr}
-use Rattle.perfdata_base.specs.declared.endian.Endianness.{Endianness}
-use Rattle.perfdata_base.specs.declared.attr.PerfEventAttr.{PerfEventAttr}
+use Rattle.perfdata_sources.specs.Endian.{number_in}
+use Rattle.perfdata_sources.specs.Attr.{own_size, attr_of, IsTooSmall, IsTruncatedAttr}
+use Rattle.perfdata_sources.specs.declared.endian.Endianness.{Endianness}
+use Rattle.perfdata_sources.specs.declared.attr.PerfEventAttr.{PerfEventAttr}
 pub use Rattle.perfdata_sections.specs.EventIds.{u64s_of}
 use Rattle.perfdata_records.specs.declared.user_record.HeaderAttr.{HeaderAttr}
 
@@ -14,12 +14,6 @@ use Rattle.perfdata_records.specs.declared.user_record.HeaderAttr.{HeaderAttr}
 pub record Attribute : Type 0 where
   pub attr : PerfEventAttr
   pub ids : List ℕ
-
--- The bytes after the attribute have this error: the last id is truncated, or memory ran out for the ids.
-abbrev pub IsIdsError : List ℕ → Error → Type 0
-IsIdsError bytes e =
-    ((error_kind e ≡ UnexpectedEof) × (length bytes % 8 ≢ 0))
-    ⊎ ((error_kind e ≡ OutOfMemory) × (length bytes % 8 ≡ 0) × (8 ≤ length bytes))
 
 module _ (number : ℕ → List ℕ → ℕ) where
   -- `body` contains a complete attribute, and whole ids to its end.

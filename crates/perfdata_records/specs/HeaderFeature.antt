@@ -3,7 +3,7 @@ use Rattle.std.specs.Prelude.{◌≡◌, ℕ, ◌%◌, ◌^◌, ◌<◌, ◌≤�
 use Rattle.std.specs.IoError.{error_kind}
 use Rattle.std.specs.declared.io.Error.{Error}
 use Rattle.std.specs.declared.io.ErrorKind.TheVariants.{OutOfMemory}
-use Rattle.perfdata_base.specs.Raw.{EndsBefore}
+use Rattle.perfdata_sources.specs.Raw.{EndsBefore}
 use Rattle.perfdata_records.specs.declared.user_record.HeaderFeature.{HeaderFeature}
 
 module _ (number : ℕ → List ℕ → ℕ) where

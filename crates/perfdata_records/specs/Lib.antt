@@ -10,3 +10,4 @@ pub mod HeaderFeature
 pub mod UserRecord
 pub mod DsoKey
 pub mod BuildIdEvent
+pub mod steps

@@ -1,6 +1,6 @@
 -- A thread map entry of 24 bytes: eight for the thread id, and 16 for the name, which ends at its first NUL.
 use Rattle.std.specs.Prelude.{ℕ, List, take, drop}
-use Rattle.perfdata_base.specs.Raw.{bytes_of}
+use Rattle.perfdata_sources.specs.Raw.{bytes_of}
 use Rattle.perfdata_sections.specs.HeaderString.{before_nul}
 use Rattle.perfdata_records.specs.declared.thread_map.ThreadMapEntry.{ThreadMapEntry}
 

@@ -1,7 +1,7 @@
 -- The parsed form of a tool's record, by its type.
 use Rattle.std.specs.Prelude.{◌≡◌, ◌≢◌, ℕ, ◌⊎◌, List}
 use Rattle.std.specs.declared.io.Error.{Error}
-use Rattle.perfdata_base.specs.Raw.{bytes_of}
+use Rattle.perfdata_sources.specs.Raw.{bytes_of}
 use Rattle.perfdata_sections.specs.RecordTypes.{header_attr, auxtrace, thread_map, header_feature}
 use Rattle.perfdata_records.specs.UserRecordType.{user_type_number}
 use Rattle.perfdata_records.specs.ThreadMap.{threads_of, IsThreadMap, IsThreadMapError}
@@ -22,7 +22,8 @@ pub record IsUnparsedType (record_type : ℕ) : Type 0 where
 module _ (number : ℕ → List ℕ → ℕ) where
   -- The parsed form of a record by its type. A record of another type remains raw.
   abbrev pub IsUserRecord : RawUserRecord → UserRecord → Type 0
-  IsUserRecord raw (HeaderAttr header) = (user_type_number raw.record_type ≡ header_attr) × HoldsAttributeWith number (bytes_of raw.body) × (attribute_of header ≡ attribute_with number (bytes_of raw.body))
+  IsUserRecord raw (HeaderAttr header) = (user_type_number raw.record_type ≡ header_attr) × HoldsAttributeWith number (bytes_of raw.body)
+      × (attribute_of header ≡ attribute_with number (bytes_of raw.body))
   IsUserRecord raw (Auxtrace parsed) = (user_type_number raw.record_type ≡ auxtrace) × IsAuxtrace number (bytes_of raw.body) parsed
   IsUserRecord raw (ThreadMap map) = (user_type_number raw.record_type ≡ thread_map) × IsThreadMap number (bytes_of raw.body) (threads_of map)
   IsUserRecord raw (HeaderFeature header) = (user_type_number raw.record_type ≡ header_feature) × IsHeaderFeature number (bytes_of raw.body) header

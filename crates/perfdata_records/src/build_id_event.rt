@@ -1,7 +1,7 @@
 //! Entries of the section BUILD_ID.
 ghost use Rattle.std.specs.Prelude.{◌≡◌, ◌↔◌, IsTrue, length};
-ghost use Rattle.perfdata_base.specs.Endian.{number_in};
-ghost use Rattle.perfdata_base.specs.Source.{State, PausesOnlyOnError};
+ghost use Rattle.perfdata_sources.specs.Endian.{number_in};
+ghost use Rattle.perfdata_sources.specs.Source.{State, PausesOnlyOnError};
 ghost use Rattle.perfdata_records.specs.BuildIdEvent.{IsTruncatedBuildIdEntry, IsWithoutZeroGroups};
 ghost use Rattle.perfdata_records.specs.BuildIdEvent.{IsBuildIdIn, ReadsBuildIdEvent, ReadsFirstEntry};
 ghost use Rattle.perfdata_records.specs.BuildIdEvent.{ParsesBuildIdEvent};

@@ -1,7 +1,7 @@
 //! Keys that identify mapped objects.
 ghost use Rattle.std.specs.Prelude.{◌≡◌, ◌++◌, IfOk, string_bytes};
 ghost use Rattle.perfdata_records.specs.DsoKey.{name_of, lossy_text, file_name_of, is_unmapped, Detects};
-ghost use Rattle.perfdata_records.specs.DsoKey.{FindsSpecialName, FindsModuleName};
+ghost use Rattle.perfdata_records.specs.steps.DsoKey.{FindsSpecialName, FindsModuleName};
 
 use bstr::ByteSlice;
 use memchr::memrchr;

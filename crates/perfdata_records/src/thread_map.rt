@@ -2,8 +2,8 @@
 ghost use Rattle.std.specs.Prelude.{◌≡◌, ◌==◌, ◌*◌, ◌/◌, ◌<◌, ◌≤◌, ⊤, IfOk, IfErr, OnOk, IfSome, IfNone};
 ghost use Rattle.std.specs.Prelude.{length, drop};
 ghost use Rattle.std.specs.Iterator.{YieldsFirstBy, item_count};
-ghost use Rattle.perfdata_base.specs.Raw.{bytes_of, EndsBefore, DropsPrefix};
-ghost use Rattle.perfdata_base.specs.Endian.{number_in};
+ghost use Rattle.perfdata_sources.specs.Raw.{bytes_of, EndsBefore, DropsPrefix};
+ghost use Rattle.perfdata_sources.specs.Endian.{number_in};
 ghost use Rattle.perfdata_sections.specs.HeaderString.{before_nul};
 ghost use Rattle.perfdata_records.specs.Thread.{thread_at, thread_of};
 

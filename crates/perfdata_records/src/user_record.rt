@@ -1,8 +1,9 @@
 //! Parsed records of tools.
 ghost use Rattle.std.specs.Prelude.{◌≡◌, ◌/◌, ◌%◌, IfOk, IfErr, length};
-ghost use Rattle.perfdata_base.specs.Endian.{number_in};
-ghost use Rattle.perfdata_base.specs.Raw.{bytes_of};
-ghost use Rattle.perfdata_records.specs.HeaderAttr.{HoldsAttributeWith, IsHeaderAttrError, IsIdsError};
+ghost use Rattle.perfdata_sources.specs.Endian.{number_in};
+ghost use Rattle.perfdata_sources.specs.Raw.{bytes_of};
+ghost use Rattle.perfdata_records.specs.HeaderAttr.{HoldsAttributeWith, IsHeaderAttrError};
+ghost use Rattle.perfdata_records.specs.steps.HeaderAttr.{IsIdsError};
 ghost use Rattle.perfdata_records.specs.HeaderAttr.{attribute_with, attribute_of, u64s_of};
 ghost use Rattle.perfdata_records.specs.HeaderFeature.{IsHeaderFeature, IsHeaderFeatureError};
 ghost use Rattle.perfdata_records.specs.UserRecord.{IsUserRecord, IsUserRecordError};

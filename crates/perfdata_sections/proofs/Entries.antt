@@ -6,15 +6,15 @@ use Rattle.std.proofs.Math.Seq.{drop-cons, drop-append_seam}
 use Rattle.std.specs.declared.alloc.Global.{Global}
 use Rattle.std.specs.declared.io.Error.{Error as SourceError}
 use Rattle.std.specs.declared.io.SeekFrom.TheVariants.{Start}
-use Rattle.perfdata_base.specs.Source.{State, Position, all_bytes_of, at_offset, RemainsFromPosition, AfterSeek, SeekSucceeded}
+use Rattle.perfdata_sources.specs.Source.{State, Position, all_bytes_of, at_offset, RemainsFromPosition, AfterSeek, SeekSucceeded}
 use Rattle.perfdata_base.specs.Section.{EndFitsU64, EndOverflowsU64, section_entry_of, SectionEntryParsed}
-use Rattle.perfdata_base.specs.declared.attr.PerfEventAttr.{PerfEventAttr}
+use Rattle.perfdata_sources.specs.declared.attr.PerfEventAttr.{PerfEventAttr}
 use Rattle.perfdata_base.specs.declared.section.PerfFileSection.{PerfFileSection}
-use Rattle.perfdata_base.specs.declared.source.append.AppendError.{AppendError}
-use Rattle.perfdata_base.specs.declared.source.append.AppendError.TheVariants.{Memory as NoMemory, Source}
-use Rattle.perfdata_base.proofs.ReadErrors.{consumed-after_seek, after_seek_more}
-use Rattle.perfdata_base.proofs.ConsumedLemmas.{consumed_none}
-use Rattle.perfdata_base.proofs.Numbers.{ReadsFirst}
+use Rattle.perfdata_sources.specs.declared.source.append.AppendError.{AppendError}
+use Rattle.perfdata_sources.specs.declared.source.append.AppendError.TheVariants.{Memory as NoMemory, Source}
+use Rattle.perfdata_sources.proofs.ReadErrors.{consumed-after_seek, after_seek_more}
+use Rattle.perfdata_sources.proofs.ConsumedLemmas.{consumed_none}
+use Rattle.perfdata_sources.proofs.Numbers.{ReadsFirst}
 use Rattle.perfdata_sections.specs.AttributeDescription.{attr_in, name_in, ids_in}
 use Rattle.perfdata_sections.specs.AttrFrames.{IsAttrInFrame, ConsumesFrameError, IsFrameReadError, IsAttributesSourceError}
 use Rattle.perfdata_sections.specs.Error.{IsUnexpectedEof}

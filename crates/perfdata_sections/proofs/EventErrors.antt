@@ -1,8 +1,8 @@
 -- Bytes that are no EVENT_DESC have one error.
 use Rattle.std.proofs.Common.{◌≡◌, ℕ, List, [], ◌∷◌, ◌++◌, length, refl, sym, ap, ◌∙◌, subst, inl, inr, arith, length-append, append_assoc}
 use Rattle.std.specs.Prelude.{◌⊎◌}
-use Rattle.perfdata_base.specs.Attr.{IsTooSmall}
-use Rattle.perfdata_base.proofs.Numbers.{ReadsFirst}
+use Rattle.perfdata_sources.specs.Attr.{IsTooSmall}
+use Rattle.perfdata_sources.proofs.Numbers.{ReadsFirst}
 use Rattle.perfdata_sections.specs.AttributeDescription.{DescribedEvent}
 use Rattle.perfdata_sections.specs.AttrFrames.{IsTruncatedFrame, IsFrameError}
 use Rattle.perfdata_sections.specs.Error.{IsUnexpectedEof}

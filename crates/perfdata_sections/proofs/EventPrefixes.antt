@@ -4,9 +4,9 @@ use Rattle.std.specs.Prelude.{◌⊎◌}
 use Rattle.std.proofs.Math.Seq.{drop-append_seam, take-append_seam}
 use Rattle.std.proofs.lemmas.Bool.{cases_lt}
 use Rattle.std.proofs.lemmas.List.{length-take-le, take-append-drop}
-use Rattle.perfdata_base.specs.Attr.{own_size, attr_of}
-use Rattle.perfdata_base.specs.declared.attr.PerfEventAttr.{PerfEventAttr}
-use Rattle.perfdata_base.proofs.Numbers.{ReadsFirst}
+use Rattle.perfdata_sources.specs.Attr.{own_size, attr_of}
+use Rattle.perfdata_sources.specs.declared.attr.PerfEventAttr.{PerfEventAttr}
+use Rattle.perfdata_sources.proofs.Numbers.{ReadsFirst}
 use Rattle.perfdata_sections.specs.AttributeDescription.{DescribedEvent}
 use Rattle.perfdata_sections.specs.AttrFrames.{IsAttrInFrame, IsFrameError}
 use Rattle.perfdata_sections.specs.Error.{IsUnexpectedEof}

@@ -6,13 +6,13 @@ use Rattle.std.proofs.lemmas.List.{drop-drop, length-map, length-take-le, map_pu
 use Rattle.std.specs.declared.alloc.Global.{Global}
 use Rattle.std.specs.declared.io.Error.{Error as SourceError}
 use Rattle.std.specs.declared.io.SeekFrom.TheVariants.{Current}
-use Rattle.perfdata_base.specs.Source.{State, Position, prepend, advance_by, remaining_from, at_offset, all_bytes_of, RemainsFromPosition, SizeFitsI64, Consumed, SourceFailed, ReadExactError, AfterSeek, SeekSucceeded, SeekOutOfRange}
-use Rattle.perfdata_base.specs.declared.attr.PerfEventAttr.{PerfEventAttr}
-use Rattle.perfdata_base.specs.declared.source.append.AppendError.{AppendError}
-use Rattle.perfdata_base.specs.declared.source.append.AppendError.TheVariants.{Memory as NoMemory, Source}
-use Rattle.perfdata_base.proofs.ReadErrors.{consumed-after_seek, after_seek_more, failed_after_seek, paused_after_seek}
-use Rattle.perfdata_base.proofs.ConsumedLemmas.{consumed_more, consumed_none, consumed_none_later, failed_later, paused_later}
-use Rattle.perfdata_base.proofs.Numbers.{ReadsFirst}
+use Rattle.perfdata_sources.specs.Source.{State, Position, prepend, advance_by, remaining_from, at_offset, all_bytes_of, RemainsFromPosition, SizeFitsI64, Consumed, SourceFailed, ReadExactError, AfterSeek, SeekSucceeded, SeekOutOfRange}
+use Rattle.perfdata_sources.specs.declared.attr.PerfEventAttr.{PerfEventAttr}
+use Rattle.perfdata_sources.specs.declared.source.append.AppendError.{AppendError}
+use Rattle.perfdata_sources.specs.declared.source.append.AppendError.TheVariants.{Memory as NoMemory, Source}
+use Rattle.perfdata_sources.proofs.ReadErrors.{consumed-after_seek, after_seek_more, failed_after_seek, paused_after_seek}
+use Rattle.perfdata_sources.proofs.ConsumedLemmas.{consumed_more, consumed_none, consumed_none_later, failed_later, paused_later}
+use Rattle.perfdata_sources.proofs.Numbers.{ReadsFirst}
 use Rattle.perfdata_sections.specs.AttributeDescription.{DescribedEvent, event_in, events_in}
 use Rattle.perfdata_sections.specs.AttrFrames.{IsAttrInFrame, ConsumesFrameError, FrameRead, IsAttributesSourceError}
 use Rattle.perfdata_sections.specs.EventIds.{AreIds, ReadsIds}

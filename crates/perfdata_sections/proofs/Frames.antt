@@ -6,11 +6,11 @@ use Rattle.std.proofs.Math.Seq.{take-append_seam}
 use Rattle.std.proofs.lemmas.List.{length-take-le, take-take, length-replicate}
 use Rattle.std.specs.declared.io.Error.{Error as SourceError}
 use Rattle.std.specs.declared.io.SeekFrom.TheVariants.{Start}
-use Rattle.perfdata_base.specs.Source.{State, ReadExactError, SeekSucceeded}
-use Rattle.perfdata_base.proofs.ConsumedLemmas.{consumed_more, consumed_none_later, failed_later}
-use Rattle.perfdata_base.specs.Attr.{own_size, attr_of_size, OwnSizeRead, OwnSizeReadError, AttrRestRead}
-use Rattle.perfdata_base.proofs.Attrs.{own_remains, attr_remains, attr_prefix, number_prefix, whole_attr, size_with}
-use Rattle.perfdata_base.specs.declared.attr.PerfEventAttr.{PerfEventAttr}
+use Rattle.perfdata_sources.specs.Source.{State, ReadExactError, SeekSucceeded}
+use Rattle.perfdata_sources.proofs.ConsumedLemmas.{consumed_more, consumed_none_later, failed_later}
+use Rattle.perfdata_sources.specs.Attr.{own_size, attr_of_size, OwnSizeRead, OwnSizeReadError, AttrRestRead}
+use Rattle.perfdata_sources.proofs.Attrs.{own_remains, attr_remains, attr_prefix, number_prefix, whole_attr, size_with}
+use Rattle.perfdata_sources.specs.declared.attr.PerfEventAttr.{PerfEventAttr}
 use Rattle.perfdata_base.specs.declared.section.PerfFileSection.{PerfFileSection}
 use Rattle.perfdata_sections.specs.AttributeDescription.{attr_in, name_in, ids_in}
 use Rattle.perfdata_sections.specs.Items.{NextReadError, ItemRead}

@@ -4,14 +4,15 @@ use Rattle.std.proofs.Math.Nat.{mul-add-div}
 use Rattle.std.proofs.lemmas.List.{drop-append-le}
 use Rattle.std.proofs.lemmas.Nat.{div-mul-add}
 use Rattle.std.specs.Prelude.{Err}
-use Rattle.perfdata_base.specs.Source.{State}
-use Rattle.perfdata_base.proofs.ReadErrors.{truncated_later}
-use Rattle.perfdata_base.proofs.ConsumedLemmas.{consumed_more}
-use Rattle.perfdata_base.proofs.Numbers.{ReadsFirst}
-use Rattle.perfdata_base.specs.declared.source.append.AppendError.{AppendError}
-use Rattle.perfdata_base.specs.declared.source.append.AppendError.TheVariants.{Memory, Source}
+use Rattle.perfdata_sources.specs.Source.{State}
+use Rattle.perfdata_sources.proofs.ReadErrors.{truncated_later}
+use Rattle.perfdata_sources.proofs.ConsumedLemmas.{consumed_more}
+use Rattle.perfdata_sources.proofs.Numbers.{ReadsFirst}
+use Rattle.perfdata_sources.specs.declared.source.append.AppendError.{AppendError}
+use Rattle.perfdata_sources.specs.declared.source.append.AppendError.TheVariants.{Memory, Source}
 use Rattle.perfdata_sections.specs.ParsedPart.{PartRead}
-use Rattle.perfdata_sections.specs.EventIds.{u64s_of, AppendsIds, AreIds, BeginsWithIds, ReadsIds}
+use Rattle.perfdata_sections.specs.EventIds.{u64s_of, AreIds, BeginsWithIds, ReadsIds}
+use Rattle.perfdata_sections.specs.steps.EventIds.{AppendsIds}
 
 no_bytes : (xs : List ℕ) → length xs ≡ 0 → xs ≡ []
 no_bytes [] none = refl

@@ -6,8 +6,8 @@ use Rattle.std.proofs.Math.Seq.{take-append_seam}
 use Rattle.std.proofs.lemmas.List.Elements.{All-push}
 use Rattle.std.specs.declared.io.Error.{Error as SourceError}
 use Rattle.std.specs.declared.io.SeekFrom.TheVariants.{Start}
-use Rattle.perfdata_base.specs.Source.{State, Position, prepend, advance_by, remaining_from, at_offset, all_bytes_of, Consumed, EndedOrPaused, EndedOrFailed, ReadExactError, SourceFailed, SourcePaused, AfterSeek, SeekSucceeded}
-use Rattle.perfdata_base.proofs.ReadErrors.{none_or_paused, all_read, consumed-after_seek, after_seek_more, failed_after_seek, paused_after_seek}
+use Rattle.perfdata_sources.specs.Source.{State, Position, prepend, advance_by, remaining_from, at_offset, all_bytes_of, Consumed, EndedOrPaused, EndedOrFailed, ReadExactError, SourceFailed, SourcePaused, AfterSeek, SeekSucceeded}
+use Rattle.perfdata_sources.proofs.ReadErrors.{none_or_paused, all_read, consumed-after_seek, after_seek_more, failed_after_seek, paused_after_seek}
 use Rattle.perfdata_sections.specs.ParsedPart.{PartReadError}
 use Rattle.perfdata_sections.specs.Items.{SomeBytes, ReadErrorCause, NextReadError, ReadOrSeekErrorAt, IsTruncationOf, IsReadErrorOf, IsShorterThan, ItemRead, ItemsAt, AreItems, ItemsRead, SomeItemsRead, ItemsReadErrorBy}
 use Rattle.perfdata_sections.specs.declared.error.Error.{Error}

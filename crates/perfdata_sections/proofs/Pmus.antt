@@ -21,14 +21,15 @@ use Rattle.std.proofs.lemmas.Map.Keys.{IsStrictlyIncreasing-from_sorted, sorted_
 use Rattle.indexmap.specs.IndexMap.{IndexMap, keys, insert_entry}
 use Rattle.indexmap.proofs.CallerLemmas.{insert_entry-new}
 use Rattle.perfdata_sections.specs.declared.feature_sections.pmu_mappings.PmuMappings.{PmuMappings}
-use Rattle.perfdata_base.specs.Source.{State, Consumed}
-use Rattle.perfdata_base.specs.declared.source.append.AppendError.{AppendError}
-use Rattle.perfdata_base.specs.declared.source.append.AppendError.TheVariants.{Memory, Source}
-use Rattle.perfdata_base.proofs.ConsumedLemmas.{consumed_more, consumed_none, consumed_none_later, failed_later}
-use Rattle.perfdata_base.proofs.Numbers.{ReadsFirst}
+use Rattle.perfdata_sources.specs.Source.{State, Consumed}
+use Rattle.perfdata_sources.specs.declared.source.append.AppendError.{AppendError}
+use Rattle.perfdata_sources.specs.declared.source.append.AppendError.TheVariants.{Memory, Source}
+use Rattle.perfdata_sources.proofs.ConsumedLemmas.{consumed_more, consumed_none, consumed_none_later, failed_later}
+use Rattle.perfdata_sources.proofs.Numbers.{ReadsFirst}
 use Rattle.perfdata_sections.specs.ParsedPart.{PartRead, PartPartlyRead, PartReadError}
 use Rattle.perfdata_sections.specs.HeaderString.{IsHeaderStringOf, IsTruncatedString, IsTruncatedText, ReadsHeaderString}
-use Rattle.perfdata_sections.specs.PmuMappings.{PmuUnit, named_units, last_name, collected_name, SortsUnits, IsPmuUnit, IsTruncatedUnit, IsTruncatedName, ArePmuUnits, TruncatedUnits, UnitsOutOfMemory, IsPmuSection, IsPmuSectionOf, IsTruncatedPmuSection, IsPrefixOfPmuSection, ReadsPmuUnit, PmuUnitsRead, ReadsPmuUnits, ReadsPmus}
+use Rattle.perfdata_sections.specs.PmuMappings.{PmuUnit, named_units, last_name, collected_name, IsPmuUnit, IsTruncatedUnit, IsTruncatedName, ArePmuUnits, TruncatedUnits, UnitsOutOfMemory, IsPmuSection, IsPmuSectionOf, IsTruncatedPmuSection, IsPrefixOfPmuSection, ReadsPmuUnit, PmuUnitsRead, ReadsPmuUnits, ReadsPmus}
+use Rattle.perfdata_sections.specs.steps.PmuMappings.{SortsUnits}
 use Rattle.perfdata_sections.proofs.PartLemmas.{drop_prefix}
 
 -- ---- the names in ascending order of their numbers

@@ -9,11 +9,11 @@ use Rattle.std.proofs.lemmas.List.Folds.{length-prefix_len}
 use Rattle.std.proofs.lemmas.Str.{IsUtf8-from_is_utf8, is_utf8-from_IsUtf8}
 use Rattle.memchr.specs.Find.{Nowhere, Passes, is_byte}
 use Rattle.std.specs.declared.io.Error.{Error}
-use Rattle.perfdata_base.specs.Source.{State, Consumed, PartlyRead, ReadExactError}
-use Rattle.perfdata_base.proofs.ConsumedLemmas.{consumed_more}
-use Rattle.perfdata_base.proofs.Numbers.{ReadsFirst}
-use Rattle.perfdata_base.specs.declared.source.append.AppendError.{AppendError}
-use Rattle.perfdata_base.specs.declared.source.append.AppendError.TheVariants.{Memory, Source}
+use Rattle.perfdata_sources.specs.Source.{State, Consumed, PartlyRead, ReadExactError}
+use Rattle.perfdata_sources.proofs.ConsumedLemmas.{consumed_more}
+use Rattle.perfdata_sources.proofs.Numbers.{ReadsFirst}
+use Rattle.perfdata_sources.specs.declared.source.append.AppendError.{AppendError}
+use Rattle.perfdata_sources.specs.declared.source.append.AppendError.TheVariants.{Memory, Source}
 use Rattle.perfdata_sections.specs.ParsedPart.{PartRead, PartPartlyRead, PartReadError, ReadsBytes}
 use Rattle.perfdata_sections.specs.HeaderString.{before_nul, utf8_text, IsTruncatedString, IsTruncatedText, IsHeaderStringOf, ReadsHeaderString}
 use Rattle.perfdata_sections.proofs.PartLemmas.{drop_prefix, stopped_after}

@@ -1,9 +1,9 @@
 -- Attributes in frames. A frame has `attr_size` bytes and starts with an attribute, which has its own size.
 use Rattle.std.specs.Prelude.{◌≡◌, ℕ, ◌+◌, ◌^◌, ◌<◌, ◌≤◌, ◌⊎◌, List, [], length, take, None, Result, Ok, Err, Vec}
 use Rattle.std.specs.declared.alloc.Global.{Global}
-use Rattle.perfdata_base.specs.Source.{State, Consumed, SourceFailed, SourcePaused}
-use Rattle.perfdata_base.specs.Attr.{own_size, IsAttr, IsTooSmall}
-use Rattle.perfdata_base.specs.declared.attr.PerfEventAttr.{PerfEventAttr}
+use Rattle.perfdata_sources.specs.Source.{State, Consumed, SourceFailed, SourcePaused}
+use Rattle.perfdata_sources.specs.Attr.{own_size, IsAttr, IsTooSmall}
+use Rattle.perfdata_sources.specs.declared.attr.PerfEventAttr.{PerfEventAttr}
 use Rattle.perfdata_base.specs.declared.section.PerfFileSection.{PerfFileSection}
 use Rattle.perfdata_sections.specs.AttributeDescription.{attr_in, name_in, ids_in}
 use Rattle.perfdata_sections.specs.Error.{IsUnexpectedEof, IsIoError}
@@ -16,7 +16,8 @@ use Rattle.perfdata_sections.specs.declared.error.ReadError.TheVariants.{PerfEve
 -- An error of a source that failed or paused while attributes were read: an I/O error on failure, an unexpected end of file on a
 -- pause, or `Read(PerfEventAttr)` on either.
 abbrev pub IsAttributesSourceError : State → Error → State → Type 0
-IsAttributesSourceError old e new = (IsIoError e × SourceFailed old new) ⊎ ((IsUnexpectedEof e × SourcePaused old new) ⊎ ((e ≡ Read OfAttr) × (SourceFailed old new ⊎ SourcePaused old new)))
+IsAttributesSourceError old e new =
+    (IsIoError e × SourceFailed old new) ⊎ ((IsUnexpectedEof e × SourcePaused old new) ⊎ ((e ≡ Read OfAttr) × (SourceFailed old new ⊎ SourcePaused old new)))
 
 module _ (number : ℕ → List ℕ → ℕ) (attr_size : ℕ) where
   -- `xs` starts with the attribute `a` in a frame. The padding of the frame may be missing.
@@ -84,6 +85,8 @@ module _ (number : ℕ → List ℕ → ℕ) (attr_size : ℕ) where
     -- reading fails after the first attributes: the next bytes are no frame, a read of them fails or pauses, or the seek to them
     -- fails. Only a failed seek is reported as an I/O error.
     abbrev pub ReadsAttrSection : State → Result (Vec AttributeDescription Global) Error → State → Type 0
-    ReadsAttrSection old (Ok v) new = (¬ IsInvalidAttrSection) × ReadsItems IsPlainDescription ConsumesFrameError IsFrameReadError attr_size old section.offset section.size (Ok v) new
+    ReadsAttrSection old (Ok v) new =
+        (¬ IsInvalidAttrSection) × ReadsItems IsPlainDescription ConsumesFrameError IsFrameReadError attr_size old section.offset section.size (Ok v) new
     ReadsAttrSection old (Err e) new =
-        (IsInvalidAttrSection × (e ≡ Read OfAttr) × (new ≡ old)) ⊎ ((¬ IsInvalidAttrSection) × ReadsItems IsPlainDescription ConsumesFrameError IsFrameReadError attr_size old section.offset section.size (Err e) new)
+        (IsInvalidAttrSection × (e ≡ Read OfAttr) × (new ≡ old))
+        ⊎ ((¬ IsInvalidAttrSection) × ReadsItems IsPlainDescription ConsumesFrameError IsFrameReadError attr_size old section.offset section.size (Err e) new)

@@ -1,11 +1,8 @@
 -- The contents of an `AttributeDescription`.
-use Rattle.std.specs.Prelude.{◌≡◌, ℕ, List, map, Option, Result, Ok, Err, String, string_bytes}
+use Rattle.std.specs.Prelude.{ℕ, List, map, Option, string_bytes}
 use Rattle.std.specs.Option.{option_map}
-use Rattle.std.specs.declared.alloc.Global.{Global}
-use Rattle.perfdata_base.specs.declared.attr.PerfEventAttr.{PerfEventAttr}
+use Rattle.perfdata_sources.specs.declared.attr.PerfEventAttr.{PerfEventAttr}
 use Rattle.perfdata_sections.specs.declared.feature_sections.AttributeDescription.{AttributeDescription}
-use Rattle.perfdata_sections.specs.declared.error.Error.{Error}
-use Rattle.perfdata_sections.specs.declared.error.Error.TheVariants.{Memory}
 
 -- The attribute.
 abbrev pub attr_in : AttributeDescription → PerfEventAttr
@@ -31,8 +28,3 @@ event_in d = record { attr = attr_in d; name = name_in d; ids = ids_in d }
 
 abbrev pub events_in : List AttributeDescription → List DescribedEvent
 events_in ds = map event_in ds
-
--- What cloning a name does.
-abbrev pub CopiesName : Option (List ℕ) → Result (Option (String Global)) Error → Type 0
-CopiesName name (Ok copy) = option_map string_bytes copy ≡ name
-CopiesName name (Err e) = e ≡ Memory

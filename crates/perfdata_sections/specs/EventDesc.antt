@@ -3,10 +3,10 @@
 use Rattle.std.specs.Prelude.{◌≡◌, ◌≢◌, ℕ, ◌*◌, ◌<◌, ◌≤◌, ◌⊎◌, List, [], ◌∷◌, ◌++◌, length, drop, Option, Result, Ok, Err, IfSome, Vec, string_bytes}
 use Rattle.std.specs.Option.{option_map}
 use Rattle.std.specs.declared.alloc.Global.{Global}
-use Rattle.perfdata_base.specs.Source.{State, Consumed, SourceFailed, AfterSeek, advance_by}
-use Rattle.perfdata_base.specs.declared.attr.PerfEventAttr.{PerfEventAttr}
-use Rattle.perfdata_base.specs.declared.source.append.AppendError.{AppendError}
-use Rattle.perfdata_base.specs.declared.source.append.AppendError.TheVariants.{Memory as NoMemory, Source}
+use Rattle.perfdata_sources.specs.Source.{State, Consumed, SourceFailed, AfterSeek, advance_by}
+use Rattle.perfdata_sources.specs.declared.attr.PerfEventAttr.{PerfEventAttr}
+use Rattle.perfdata_sources.specs.declared.source.append.AppendError.{AppendError}
+use Rattle.perfdata_sources.specs.declared.source.append.AppendError.TheVariants.{Memory as NoMemory, Source}
 use Rattle.perfdata_sections.specs.AttributeDescription.{DescribedEvent, event_in, events_in}
 use Rattle.perfdata_sections.specs.AttrFrames.{IsAttrInFrame, IsFrameError, ConsumesFrameError, IsFrameReadError, FrameRead}
 use Rattle.perfdata_sections.specs.Error.{IsUnexpectedEof, IsIoError}
@@ -72,7 +72,8 @@ module _ (number : ℕ → List ℕ → ℕ) where
 
     -- `xs` doesn't start with a frame, or the part after the frame is truncated.
     abbrev pub IsEventError : Error → List ℕ → Type 0
-    IsEventError e xs = IsFrameError number attr_size e xs ⊎ (((a : PerfEventAttr) × IsAttrInFrame number attr_size xs a) × IsUnexpectedEof e × IsTruncatedNameAndIds (drop attr_size xs))
+    IsEventError e xs = IsFrameError number attr_size e xs
+        ⊎ (((a : PerfEventAttr) × IsAttrInFrame number attr_size xs a) × IsUnexpectedEof e × IsTruncatedNameAndIds (drop attr_size xs))
 
     -- A frame is read, and the source's position is at the end of the frame. The padding of the frame may be missing.
     pub record PaddedFrameRead (old : State) (a : PerfEventAttr) (new : State) : Type 0 where

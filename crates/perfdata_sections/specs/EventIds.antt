@@ -1,9 +1,9 @@
 -- The ids of an event: consecutive numbers of eight bytes each.
-use Rattle.std.specs.Prelude.{◌≡◌, ℕ, zero, suc, ◌*◌, ◌/◌, ◌≤◌, List, [], ◌∷◌, ◌++◌, length, drop, Result, Ok, Err, Vec}
+use Rattle.std.specs.Prelude.{◌≡◌, ℕ, zero, suc, ◌*◌, ◌≤◌, List, [], ◌∷◌, length, drop, Result, Ok, Err, Vec}
 use Rattle.std.specs.declared.alloc.Global.{Global}
-use Rattle.perfdata_base.specs.Source.{State, ReadExactError}
-use Rattle.perfdata_base.specs.declared.source.append.AppendError.{AppendError}
-use Rattle.perfdata_base.specs.declared.source.append.AppendError.TheVariants.{Memory, Source}
+use Rattle.perfdata_sources.specs.Source.{State, ReadExactError}
+use Rattle.perfdata_sources.specs.declared.source.append.AppendError.{AppendError}
+use Rattle.perfdata_sources.specs.declared.source.append.AppendError.TheVariants.{Memory, Source}
 use Rattle.perfdata_sections.specs.ParsedPart.{PartRead, PartPartlyRead}
 
 -- The first numbers of eight bytes each.
@@ -25,9 +25,3 @@ module _ (number : ℕ → List ℕ → ℕ) (count : ℕ) where
   ReadsIds old (Ok v) new = PartRead AreIds old v.items new
   ReadsIds old (Err Memory) new = PartPartlyRead (λ xs. (8 ≤ length xs) × (length xs ≤ 8 * count)) old new
   ReadsIds old (Err (Source e)) new = ReadExactError old (8 * count) e new
-
--- What reading `size` bytes of ids does to a list: it appends the ids. Memory runs out only after the bytes of an id.
-abbrev pub AppendsIds : (ℕ → List ℕ → ℕ) → ℕ → State → List ℕ → Result (Unit {0}) AppendError → List ℕ → State → Type 0
-AppendsIds number size old before (Ok _) now new = PartRead (λ xs ids. (length xs ≡ size) × (ids ≡ before ++ u64s_of number (size / 8) xs)) old now new
-AppendsIds number size old before (Err Memory) now new = PartPartlyRead (λ xs. (8 ≤ length xs) × (length xs ≡ size)) old new
-AppendsIds number size old before (Err (Source e)) now new = ReadExactError old size e new

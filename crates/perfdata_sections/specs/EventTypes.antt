@@ -2,9 +2,9 @@
 use Rattle.std.specs.Prelude.{◌≡◌, ◌≢◌, ℕ, ◌+◌, ◌*◌, ◌/◌, ◌^◌, ◌<◌, ◌≤◌, ◌⊎◌, List, [], ◌∷◌, ◌++◌, length, drop, slice_get, Option, Some, Result, Ok, Err, IfSome, Vec, string_bytes}
 use Rattle.std.specs.Option.{option_map}
 use Rattle.std.specs.declared.alloc.Global.{Global}
-use Rattle.perfdata_base.specs.Source.{State, Position, AfterSeek, at_offset, all_bytes_of}
+use Rattle.perfdata_sources.specs.Source.{State, Position, AfterSeek, at_offset, all_bytes_of}
 use Rattle.perfdata_base.specs.Section.{EndFitsU64, EndOverflowsU64, IsSectionEntry}
-use Rattle.perfdata_base.specs.declared.attr.PerfEventAttr.{PerfEventAttr}
+use Rattle.perfdata_sources.specs.declared.attr.PerfEventAttr.{PerfEventAttr}
 use Rattle.perfdata_base.specs.declared.section.PerfFileSection.{PerfFileSection}
 use Rattle.perfdata_sections.specs.AttributeDescription.{attr_in, name_in, ids_in}
 use Rattle.perfdata_sections.specs.AttrFrames.{IsAttrInFrame, IsFrameError, ConsumesFrameError, IsFrameReadError}
@@ -55,7 +55,8 @@ module _ (number : ℕ → List ℕ → ℕ) where
 
     -- `xs` doesn't start with a frame, or has fewer than 16 bytes after the frame.
     abbrev pub IsEventTypeEntryError : Error → List ℕ → Type 0
-    IsEventTypeEntryError e xs = IsFrameError number attr_size e xs ⊎ (((a : PerfEventAttr) × IsAttrInFrame number attr_size xs a) × IsUnexpectedEof e × (length (drop attr_size xs) < 16))
+    IsEventTypeEntryError e xs = IsFrameError number attr_size e xs
+        ⊎ (((a : PerfEventAttr) × IsAttrInFrame number attr_size xs a) × IsUnexpectedEof e × (length (drop attr_size xs) < 16))
 
     -- A frame at the offset `at` is read, and reading the section entry after it fails.
     pub record IdsEntryReadError (old : State) (at : ℕ) (e : Error) (new : State) : Type 0 where
@@ -66,7 +67,8 @@ module _ (number : ℕ → List ℕ → ℕ) where
 
     -- Reading an entry at an offset fails at its frame or at the section entry after the frame.
     abbrev pub EventTypeEntryReadError : State → ℕ → Error → State → Type 0
-    EventTypeEntryReadError old at e new = ReadOrSeekErrorAt (ConsumesFrameError number attr_size) (IsFrameReadError number attr_size) old at e new ⊎ IdsEntryReadError old at e new
+    EventTypeEntryReadError old at e new =
+        ReadOrSeekErrorAt (ConsumesFrameError number attr_size) (IsFrameReadError number attr_size) old at e new ⊎ IdsEntryReadError old at e new
 
     -- What reading an entry at an offset does.
     abbrev pub ReadsEventTypeEntryAt : State → ℕ → Result EventTypeEntry Error → State → Type 0
@@ -91,7 +93,9 @@ module _ (number : ℕ → List ℕ → ℕ) where
   -- Reading the ids of a section fails. Either its end is 2^64 or above, and `Unchanged` holds for the source; or reading them at
   -- their offset fails.
   abbrev pub SectionIdsReadError : (State → Type 0) → State → PerfFileSection → Error → State → Type 0
-  SectionIdsReadError Unchanged old s e new = (EndOverflowsU64 s × (e ≡ Read OfAttr) × Unchanged new) ⊎ (EndFitsU64 s × ReadOrSeekErrorAt (IsTruncationOf (IsShorterThan (8 * (s.size / 8)))) (IsReadErrorOf (IsShorterThan (8 * (s.size / 8)))) old s.offset e new)
+  SectionIdsReadError Unchanged old s e new = (EndOverflowsU64 s × (e ≡ Read OfAttr) × Unchanged new)
+      ⊎ (EndFitsU64 s
+      × ReadOrSeekErrorAt (IsTruncationOf (IsShorterThan (8 * (s.size / 8)))) (IsReadErrorOf (IsShorterThan (8 * (s.size / 8)))) old s.offset e new)
 
   -- What reading the ids of a section does. If the end of the section is 2^64 or above, the source is unchanged.
   abbrev pub ReadsSectionIds : State → PerfFileSection → Result (Vec ℕ Global) Error → State → Type 0
@@ -128,7 +132,9 @@ module _ (number : ℕ → List ℕ → ℕ) where
   -- If memory runs out, no cause is specified.
   abbrev pub DescribesEntries : (ℕ → Option (List ℕ)) → State → List EventTypeEntry → Result (Vec AttributeDescription Global) Error → State → Type 0
   DescribesEntries names old entries (Ok v) new = AfterSeek old new × AreEntryDescriptions (all_bytes_of old.position) names 0 entries v.items
-  DescribesEntries names old entries (Err e) new = AfterSeek old new × (e ≢ Memory → ErrorAtSectionIds (all_bytes_of old.position) names entries (λ before s. SectionIdsReadError (IsAfterIds old old.position before) old s e new))
+  DescribesEntries names old entries (Err e) new = AfterSeek old new
+      × (e ≢ Memory
+      → ErrorAtSectionIds (all_bytes_of old.position) names entries (λ before s. SectionIdsReadError (IsAfterIds old old.position before) old s e new))
 
   -- ---- the section
 
@@ -176,7 +182,8 @@ module _ (number : ℕ → List ℕ → ℕ) where
 
     -- The first failure: of an entry or, after all entries are read, of ids.
     abbrev pub EntriesReadError : State → Error → State → Type 0
-    EntriesReadError old e new = ItemsReadErrorBy (IsEventTypeEntry attr_size) (EventTypeEntryReadError attr_size) (attr_size + 16) old section.offset section.size e new ⊎ IdsReadError old e new
+    EntriesReadError old e new = ItemsReadErrorBy (IsEventTypeEntry attr_size) (EventTypeEntryReadError attr_size)
+        (attr_size + 16) old section.offset section.size e new ⊎ IdsReadError old e new
 
     -- What reading the section does if it isn't invalid. If memory runs out, no cause is specified.
     abbrev pub ReadsDescriptionsInRange : State → Result (Vec AttributeDescription Global) Error → State → Type 0

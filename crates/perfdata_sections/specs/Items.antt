@@ -1,7 +1,7 @@
 -- Items at offsets of a file, alone or one after another, and what reading them does to a source.
 use Rattle.std.specs.Prelude.{◌≡◌, ◌≢◌, ℕ, ◌+◌, ◌*◌, ◌/◌, ◌<◌, ◌≤◌, ◌⊎◌, List, [], ◌∷◌, length, take, drop, All, Option, Result, Ok, Err, IfSome, Vec}
 use Rattle.std.specs.declared.alloc.Global.{Global}
-use Rattle.perfdata_base.specs.Source.{State, Consumed, SourceFailed, SourcePaused, AfterSeek, all_bytes_of, at_offset}
+use Rattle.perfdata_sources.specs.Source.{State, Consumed, SourceFailed, SourcePaused, AfterSeek, all_bytes_of, at_offset}
 use Rattle.perfdata_sections.specs.Error.{IsIoError, IsUnexpectedEof}
 use Rattle.perfdata_sections.specs.declared.error.Error.{Error}
 use Rattle.perfdata_sections.specs.declared.error.Error.TheVariants.{Memory}
@@ -104,9 +104,6 @@ module _ {D : Type 0} (IsOne : List ℕ → D → Type 0) where
 
   -- The same for items whose errors are those of their bytes, of a read, or of the seek to them.
   module _ (IsNot : Error → List ℕ → List ℕ → Type 0) (IsOfRead : Error → List ℕ → State → State → Type 0) where
-    abbrev pub ItemsReadError : ℕ → State → ℕ → ℕ → Error → State → Type 0
-    ItemsReadError step old offset size e new = ItemsReadErrorBy (ReadOrSeekErrorAt IsNot IsOfRead) step old offset size e new
-
     abbrev pub ReadsItemAt : State → ℕ → Result D Error → State → Type 0
     ReadsItemAt old at result new = ReadsItemAtBy (ReadOrSeekErrorAt IsNot IsOfRead) old at result new
 

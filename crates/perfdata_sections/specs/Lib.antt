@@ -11,3 +11,4 @@ pub mod EventIds
 pub mod EventTypes
 pub mod SimpleperfAttrs
 pub mod EventDesc
+pub mod steps

@@ -3,7 +3,7 @@ use Rattle.std.specs.Prelude.{◌≡◌, ◌≢◌, ℕ, ◌<◌, ◌≤◌, ◌
 use Rattle.std.specs.IoError.{error_kind}
 use Rattle.std.specs.declared.io.Error.{Error}
 use Rattle.std.specs.declared.io.ErrorKind.TheVariants.{InvalidData}
-use Rattle.perfdata_base.specs.Source.{State, Consumed}
+use Rattle.perfdata_sources.specs.Source.{State, Consumed}
 use Rattle.perfdata_sections.specs.ParsedPart.{PartRead, PartReadError}
 use Rattle.perfdata_sections.specs.declared.feature_sections.number_sections.NrCpus.{NrCpus}
 use Rattle.perfdata_sections.specs.declared.feature_sections.number_sections.SampleTimeRange.{SampleTimeRange}

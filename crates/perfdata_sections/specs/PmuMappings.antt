@@ -10,9 +10,9 @@ use Rattle.std.specs.declared.alloc.Global.{Global}
 use Rattle.std.specs.declared.io.Error.{Error}
 use Rattle.std.specs.declared.io.ErrorKind.TheVariants.{OutOfMemory}
 use Rattle.indexmap.specs.IndexMap.{IndexMap, get, keys}
-use Rattle.perfdata_base.specs.Source.{State, Consumed}
-use Rattle.perfdata_base.specs.declared.source.append.AppendError.{AppendError}
-use Rattle.perfdata_base.specs.declared.source.append.AppendError.TheVariants.{Memory, Source}
+use Rattle.perfdata_sources.specs.Source.{State, Consumed}
+use Rattle.perfdata_sources.specs.declared.source.append.AppendError.{AppendError}
+use Rattle.perfdata_sources.specs.declared.source.append.AppendError.TheVariants.{Memory, Source}
 use Rattle.perfdata_sections.specs.ParsedPart.{PartRead, PartPartlyRead, PartReadError}
 use Rattle.perfdata_sections.specs.HeaderString.{IsHeaderStringOf, IsTruncatedString, IsTruncatedText}
 use Rattle.perfdata_sections.specs.declared.feature_sections.pmu_mappings.PmuMappings.{PmuMappings}
@@ -36,16 +36,6 @@ unit_name m k = option_map string_bytes (get nat_eq m k)
 -- The name of a number in the map that is built while the units are read.
 abbrev pub collected_name : BTreeMap ℕ (String Global) → ℕ → Option (List ℕ)
 collected_name m k = option_map string_bytes (get_kept nat_cmp m k)
-
--- If the map has the last name of each number before, it has that after one more unit; or an allocation failed.
-abbrev pub CollectsUnit : {A : Type 0} → BTreeMap ℕ (String Global) → PmuUnit → Result A AppendError → BTreeMap ℕ (String Global) → Type 0
-CollectsUnit old u (Ok _) new = (us : List PmuUnit) → ((q : ℕ) → collected_name old q ≡ last_name us q) → (q : ℕ) → collected_name new q ≡ last_name (us ++ u ∷ []) q
-CollectsUnit old u (Err error) new = error ≡ Memory
-
--- `m` has the same names as the B-tree map, in ascending order of their numbers.
-pub record SortsUnits {S : Type 0} (by_number : BTreeMap ℕ (String Global)) (m : IndexMap ℕ (String Global) S) : Type 0 where
-  pub is_ascending : IsStrictlyIncreasing (keys m)
-  pub names : (k : ℕ) → unit_name m k ≡ collected_name by_number k
 
 -- `m` has the last name of each unit number, each number once, in ascending order.
 pub record MapsUnits {S : Type 0} (m : IndexMap ℕ (String Global) S) (us : List PmuUnit) : Type 0 where

@@ -2,7 +2,7 @@
 -- smaller than the attribute size in the file header. The names of the events are in the file's meta info.
 use Rattle.std.specs.Prelude.{◌≡◌, ℕ, ◌-◌, ◌<◌, ◌≤◌, ◌⊎◌, List, Result, Ok, Err, Vec}
 use Rattle.std.specs.declared.alloc.Global.{Global}
-use Rattle.perfdata_base.specs.Source.{State}
+use Rattle.perfdata_sources.specs.Source.{State}
 use Rattle.perfdata_base.specs.declared.section.PerfFileSection.{PerfFileSection}
 use Rattle.perfdata_sections.specs.EventTypes.{type_name_at, DescribesByEntries, IsEntriesError, ReadsDescriptions}
 use Rattle.perfdata_sections.specs.declared.feature_sections.AttributeDescription.{AttributeDescription}
@@ -24,4 +24,5 @@ module _ (number : ℕ → List ℕ → ℕ) (attr_size : ℕ) (section : PerfFi
   abbrev pub ReadsSimpleperfAttrs : State → Result (Vec AttributeDescription Global) Error → State → Type 0
   ReadsSimpleperfAttrs old (Ok v) new = (16 ≤ attr_size) × ReadsDescriptions number (attr_size - 16) (type_name_at types) section old (Ok v) new
   ReadsSimpleperfAttrs old (Err e) new =
-      ((attr_size < 16) × (e ≡ Read OfAttr) × (new ≡ old)) ⊎ ((16 ≤ attr_size) × ReadsDescriptions number (attr_size - 16) (type_name_at types) section old (Err e) new)
+      ((attr_size < 16) × (e ≡ Read OfAttr) × (new ≡ old))
+      ⊎ ((16 ≤ attr_size) × ReadsDescriptions number (attr_size - 16) (type_name_at types) section old (Err e) new)

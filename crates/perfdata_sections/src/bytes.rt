@@ -1,6 +1,6 @@
 //! Reading a given number of bytes.
 ghost use Rattle.std.specs.Prelude.{◌≡◌};
-ghost use Rattle.perfdata_base.specs.Source.{PausesOnlyOnError};
+ghost use Rattle.perfdata_sources.specs.Source.{PausesOnlyOnError};
 ghost use Rattle.perfdata_sections.specs.ParsedPart.{NoPauseIfOutOfMemory, ReadsBytes};
 
 use perfdata_base::source::{AppendError, Source, append_exact};

@@ -1,7 +1,7 @@
 //! The sections that contain attributes, strings and numbers.
 ghost use Rattle.std.specs.Prelude.{◌≡◌, ◌≢◌, IfErr, string_bytes};
 ghost use Rattle.std.specs.Option.{option_map};
-ghost use Rattle.perfdata_base.specs.Source.{State, PausesOnlyOnError};
+ghost use Rattle.perfdata_sources.specs.Source.{State, PausesOnlyOnError};
 ghost use Rattle.perfdata_sections.specs.AttributeDescription.{attr_in, name_in, ids_in};
 ghost use Rattle.perfdata_sections.specs.AttrFrames.{AttrSectionNeedsMemory, ReadsFrame, ReadsFrameAt};
 ghost use Rattle.perfdata_sections.specs.AttrFrames.{ReadsAttrSection};

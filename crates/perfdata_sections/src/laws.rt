@@ -1,7 +1,7 @@
 //! Laws about the definitions of the sections that describe a file, and about the constants.
 ghost use Rattle.std.specs.Prelude.{◌≡◌, ◌⊎◌, ℕ, List};
-ghost use Rattle.perfdata_base.specs.Endian.{number_in};
-ghost use Rattle.perfdata_base.specs.declared.endian.Endianness.{Endianness};
+ghost use Rattle.perfdata_sources.specs.Endian.{number_in};
+ghost use Rattle.perfdata_sources.specs.declared.endian.Endianness.{Endianness};
 ghost use Rattle.perfdata_sections.specs.AttributeDescription.{DescribedEvent};
 ghost use Rattle.perfdata_sections.specs.Error.{IsUnexpectedEof};
 ghost use Rattle.perfdata_sections.specs.EventDesc.{BeginsWithEventDesc, IsEventDescError};

@@ -1,8 +1,8 @@
 -- Chunks after their lengths: a list of chunks grows by one, and bytes are chunks, or have a first error, in at most one way.
 use Rattle.std.proofs.Common.{◌≡◌, ℕ, ◌<◌, ◌⊎◌, inl, inr, List, [], ◌∷◌, ◌++◌, length, drop, map, Result, Ok, Err, Vec, IfOk, IfErr, IsErrAnd, MatchResult, refl, ap, sym, ◌∙◌, subst, arith, length-append, length-drop}
 use Rattle.std.specs.declared.alloc.Global.{Global}
-use Rattle.perfdata_base.specs.Endian.{number_in}
-use Rattle.perfdata_base.specs.declared.endian.Endianness.{Endianness}
+use Rattle.perfdata_sources.specs.Endian.{number_in}
+use Rattle.perfdata_sources.specs.declared.endian.Endianness.{Endianness}
 use Rattle.perfdata_simpleperf.specs.Chunks.{ChunkError, truncated_length, exceeds_section, invalid_record, ReportsChunkError, ChunkAt, IsTruncatedLength, IsTruncatedChunk, ChunksAt, AreChunks, ChunkNeedsMemory, ChunkErrorAt, FirstChunkError}
 use Rattle.perfdata_sections.specs.declared.error.Error.{Error}
 use Rattle.perfdata_sections.specs.declared.error.Error.TheVariants.{Memory}

@@ -4,7 +4,8 @@ use Rattle.std.specs.Prelude.{Option, map}
 use Rattle.std.specs.Iterator.{AlwaysYields}
 use Rattle.std.proofs.lemmas.Iterator.{YieldsList}
 use Rattle.std.proofs.lemmas.List.{append-nil, map_push}
-use Rattle.perfdata_simpleperf.specs.EventTypeInfo.{EventType, event_type_of, text_lines, line_fields, DescribesEvent, DescribeEvents, BeginsWithEvents, IsNumber, IsFirstThree}
+use Rattle.perfdata_simpleperf.specs.EventTypeInfo.{EventType, event_type_of, text_lines, line_fields, DescribesEvent, DescribeEvents, BeginsWithEvents, IsNumber}
+use Rattle.perfdata_simpleperf.specs.steps.EventTypeInfo.{IsFirstThree}
 use Rattle.perfdata_sections.specs.declared.event_type.SimplePerfEventType.{SimplePerfEventType}
 
 -- the first three fields of a line, with two numbers, describe an event

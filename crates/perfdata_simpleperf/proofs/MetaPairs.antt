@@ -12,8 +12,9 @@ use Rattle.std.proofs.lemmas.List.Elements.{All-nil, All-push, All-drop, All-hea
 use Rattle.std.proofs.lemmas.List.Splits.{slice_split_at, slice_split_none}
 use Rattle.std.proofs.lemmas.List.Sums.{fold_push}
 use Rattle.std.proofs.lemmas.Map.Text.{hash_map_updates_str}
-use Rattle.perfdata_base.specs.Raw.{HasNoNul, SplitsAtNul}
-use Rattle.perfdata_simpleperf.specs.MetaInfo.{Pair, nul_segments, meta_pairs, last_value, map_text_at, IsUtf8Pair, InsertsPair, IsMetaInfo, ParsesMetaInfo}
+use Rattle.perfdata_sources.specs.Raw.{HasNoNul, SplitsAtNul}
+use Rattle.perfdata_simpleperf.specs.MetaInfo.{Pair, nul_segments, meta_pairs, last_value, map_text_at, IsUtf8Pair, IsMetaInfo, ParsesMetaInfo}
+use Rattle.perfdata_simpleperf.specs.steps.MetaInfo.{InsertsPair}
 use Rattle.perfdata_sections.specs.declared.error.Error.{Error}
 use Rattle.perfdata_sections.specs.declared.error.Error.TheVariants.{StringUtf8, Memory}
 

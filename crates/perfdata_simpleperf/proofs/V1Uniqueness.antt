@@ -8,7 +8,7 @@ use Rattle.std.specs.declared.io.ErrorKind.{ErrorKind}
 use Rattle.std.specs.declared.io.ErrorKind.TheVariants.{OutOfMemory}
 use Rattle.std.proofs.Math.Seq.{drop-append_seam}
 use Rattle.std.proofs.lemmas.List.Elements.{All-drop, All-head, All-tail}
-use Rattle.perfdata_base.specs.Raw.{HasNoNul}
+use Rattle.perfdata_sources.specs.Raw.{HasNoNul}
 use Rattle.perfdata_simpleperf.specs.FileRecord.{Info, no_info, dex_file, elf_file, kernel_module, FileValue, record_value}
 use Rattle.perfdata_simpleperf.specs.FileV1.{SequenceAt, SequenceError, RepeatedAt, RepeatedError, IntegerAt, IntegerError, BoundedAt, BoundedError, CountedAt, CountedError, SymbolAt, SymbolError, OffsetAt, OffsetError, InfoAt, InfoError, AfterTypeAt, AfterTypeError, V1At, IsV1, V1Error}
 use Rattle.perfdata_simpleperf.specs.NulText.{TextAt, TextError}

@@ -1,5 +1,5 @@
 -- The events in simpleperf's meta info: a line for each, with its name, type and config, separated by commas.
-use Rattle.std.specs.Prelude.{◌≡◌, ℕ, ◌^◌, ◌<◌, ◌==◌, List, [], ◌∷◌, ◌++◌, length, map, Option, None, Some, Result, Ok, Err, Vec, string_bytes, ⊤}
+use Rattle.std.specs.Prelude.{◌≡◌, ℕ, ◌^◌, ◌<◌, ◌==◌, List, [], ◌∷◌, ◌++◌, length, map, Option, None, Some, Result, Ok, Err, Vec, string_bytes}
 use Rattle.std.specs.List.{slice_split}
 use Rattle.std.specs.Str.Parse.{IsNumeral, digits_value, without_leading_plus}
 use Rattle.std.specs.declared.alloc.AllocError.{AllocError}
@@ -72,15 +72,3 @@ ParsesEventTypes value None = (es : List EventType) → ¬ DescribesEventTypes v
 abbrev pub ReturnsEventTypes : Option (List ℕ) → Result (Option (Vec SimplePerfEventType Global)) AllocError → Type 0
 ReturnsEventTypes value (Ok events) = ParsesEventTypes value events
 ReturnsEventTypes value (Err e) = ValueBeginsWithEvents value
-
--- the result of parsing one line
-abbrev pub ParsesEvent : List (List ℕ) → Option SimplePerfEventType → Type 0
-ParsesEvent ps (Some e) = DescribesEvent ps (event_type_of e)
-ParsesEvent ps None = (e : EventType) → ¬ DescribesEvent ps e
-
--- the first three items of a list, or `None` if there are fewer
-abbrev pub IsFirstThree : {A : Type 0} → (A → List ℕ) → List (List ℕ) → Option (A × A × A) → Type 0
-IsFirstThree bytes (p ∷ q ∷ r ∷ more) (Some (a, b, c)) = (bytes a ≡ p) × (bytes b ≡ q) × (bytes c ≡ r)
-IsFirstThree bytes (p ∷ q ∷ r ∷ more) None = ⊥
-IsFirstThree bytes _ (Some _) = ⊥
-IsFirstThree bytes _ None = ⊤

@@ -1,6 +1,6 @@
 -- Section FILE2 of simpleperf: chunks that each contain the message of a file record.
 use Rattle.std.specs.Prelude.{◌≡◌, ℕ, List}
-use Rattle.perfdata_base.specs.declared.endian.Endianness.{Endianness}
+use Rattle.perfdata_sources.specs.declared.endian.Endianness.{Endianness}
 use Rattle.perfdata_simpleperf.specs.FileRecord.{FileValue}
 use Rattle.perfdata_simpleperf.specs.Chunks.{ChunkError, AreChunks, ChunkNeedsMemory, FirstChunkError, ReportsChunkError}
 use Rattle.perfdata_simpleperf.specs.Protobuf.Messages.{FileMessageError, FileNeedsMemory}

@@ -92,7 +92,8 @@ module _ (number : ℕ → List ℕ → ℕ) where
   AfterTypeAt type_ bs tail rest = SequenceAt (IntegerAt 8) (λ _. SequenceAt (CountedAt SymbolAt) (λ _. InfoAt type_)) bs tail rest
 
   abbrev pub AfterTypeError : ℕ → List ℕ → ErrorKind → Type 0
-  AfterTypeError type_ bs kind = SequenceError (IntegerAt 8) (IntegerError 8) (λ _. SequenceError (CountedAt SymbolAt) (CountedError SymbolAt SymbolError) (λ _. InfoError type_)) bs kind
+  AfterTypeError type_ bs kind =
+      SequenceError (IntegerAt 8) (IntegerError 8) (λ _. SequenceError (CountedAt SymbolAt) (CountedError SymbolAt SymbolError) (λ _. InfoError type_)) bs kind
 
   -- a record: its path up to a NUL, its type, which is at most 5, and what follows these
   abbrev pub V1At : List ℕ → FileValue → List ℕ → Type 0

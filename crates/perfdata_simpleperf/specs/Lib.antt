@@ -8,3 +8,4 @@ pub mod Chunks
 pub mod File2
 pub mod FileV1
 pub mod FileSection
+pub mod steps

@@ -53,15 +53,6 @@ pub record BeginsWithUtf8Pairs (pairs : List Pair) : Type 0 where
   pub before_utf8 : All IsUtf8Pair before
   pub last_utf8 : IsUtf8Pair last
 
--- On success, the new map has the last value of each key in any pairs and `p` if the old map has it in these pairs. An error
--- says that the pair isn't UTF-8, or that memory ran out for a pair of UTF-8.
-abbrev pub InsertsPair : {S : Type 0} → HashMap (Bor (List ℕ)) (Bor (List ℕ)) S → Pair → Result (Unit {0}) Error → HashMap (Bor (List ℕ)) (Bor (List ℕ)) S → Type 0
-InsertsPair old p (Ok _) new =
-    IsUtf8Pair p × ((ps : List Pair) → ((key : List ℕ) → map_text_at old key ≡ last_value ps key) → (key : List ℕ) → map_text_at new key ≡ last_value (ps ++ p ∷ []) key)
-InsertsPair old p (Err StringUtf8) new = ¬ IsUtf8Pair p
-InsertsPair old p (Err Memory) new = IsUtf8Pair p
-InsertsPair old p (Err _) new = ⊥
-
 -- the result of parsing; memory runs out only for a pair of UTF-8 whose earlier pairs are UTF-8 too
 abbrev pub ParsesMetaInfo : {S : Type 0} → List ℕ → Result (HashMap (Bor (List ℕ)) (Bor (List ℕ)) S) Error → Type 0
 ParsesMetaInfo bytes (Ok m) = IsMetaInfo bytes m

@@ -6,7 +6,7 @@ use Rattle.std.specs.Str.{IsUtf8}
 use Rattle.std.specs.declared.io.Error.{Error}
 use Rattle.std.specs.declared.io.ErrorKind.{ErrorKind}
 use Rattle.std.specs.declared.io.ErrorKind.TheVariants.{UnexpectedEof, InvalidData}
-use Rattle.perfdata_base.specs.Raw.{HasNoNul, SplitsAtNul}
+use Rattle.perfdata_sources.specs.Raw.{HasNoNul, SplitsAtNul}
 
 -- the bytes begin with a string of UTF-8 and its NUL, followed by `rest`
 pub record TextAt (bytes text rest : List ℕ) : Type 0 where

@@ -6,7 +6,8 @@ use Rattle.perfdata_events.specs.declared.event.EventRecord.{EventRecord}
 use Rattle.perfdata_spaces.specs.AddressSpaces.{AddsMappings, Follows, FollowsBut, space_effects, name_effects, then_applied}
 use Rattle.perfdata_spaces.specs.Effects.{Applied, SpaceEffect, added, effect_of, naming_of, numbered, numbered_from, space_effect, name_effect}
 use Rattle.perfdata_spaces.specs.Histories.{at_index}
-use Rattle.perfdata_spaces.specs.Spaces.{Applies, Changes, FollowsSpaces, KeepsSpaces, all_added, values_of}
+use Rattle.perfdata_spaces.specs.Spaces.{FollowsSpaces, all_added, values_of}
+use Rattle.perfdata_spaces.specs.steps.Spaces.{Applies, Changes, KeepsSpaces}
 use Rattle.perfdata_spaces.specs.Mappings.{MappingValue}
 use Rattle.perfdata_spaces.specs.declared.spaces.Spaces.{Spaces}
 use Rattle.perfdata_spaces.specs.ThreadNames.{AppliesName, KeepsNames}

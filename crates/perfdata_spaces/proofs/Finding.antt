@@ -7,7 +7,8 @@ use Rattle.perfdata_spaces.specs.AddressSpaces.{Follows, FindsIndex, mapping_at,
 use Rattle.perfdata_spaces.specs.Effects.{Applied}
 use Rattle.perfdata_spaces.specs.Mappings.{MappingValue}
 use Rattle.perfdata_spaces.specs.Histories.{IndexedMapping, IsFound, IsFoundMapping}
-use Rattle.perfdata_spaces.specs.Spaces.{IsIndexOf, index_at, indexed_at, values_of}
+use Rattle.perfdata_spaces.specs.Spaces.{IsIndexOf, indexed_at, values_of}
+use Rattle.perfdata_spaces.specs.steps.Spaces.{index_at}
 use Rattle.perfdata_spaces.specs.declared.address_spaces.AddressSpaces.{AddressSpaces}
 
 index_found : (spaces : AddressSpaces) (index : Option ℕ) (found : Option IndexedMapping) → IsIndexOf (values_of spaces.spaces) index found → indexed_at (values_of spaces.spaces) index ≡ found

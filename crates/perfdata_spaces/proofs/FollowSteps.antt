@@ -7,7 +7,8 @@ use Rattle.perfdata_spaces.specs.Histories.{IndexedMapping, indexed_contains, at
 use Rattle.perfdata_spaces.specs.Mappings.{MappingValue, mapping_contains}
 use Rattle.perfdata_spaces.specs.Processes.{value_in, is_same}
 use Rattle.perfdata_spaces.specs.Ranges.{value_of, contains}
-use Rattle.perfdata_spaces.specs.Spaces.{Applies, KeepsSpaces, IsIndexOf, FollowsProcess, FollowsSpaces, values_of}
+use Rattle.perfdata_spaces.specs.Spaces.{IsIndexOf, FollowsProcess, FollowsSpaces, values_of}
+use Rattle.perfdata_spaces.specs.steps.Spaces.{Applies, KeepsSpaces}
 use Rattle.perfdata_spaces.specs.declared.spaces.Spaces.{Spaces}
 use Rattle.perfdata_spaces.proofs.Lists.{slice_get_more, slice_get_last, last_that_push, flat_map_push}
 use Rattle.perfdata_spaces.proofs.HistorySteps.{history_push, history_cleared, history_copied}

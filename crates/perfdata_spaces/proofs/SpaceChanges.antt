@@ -3,9 +3,12 @@ use Rattle.std.proofs.Common.{◌≡◌, ◌∙◌, ◌<◌, ◌^◌, ◌&&◌, 
 use Rattle.std.proofs.lemmas.List.{map_push}
 use Rattle.perfdata_spaces.specs.Effects.{Maps, MapsKernel, Registers}
 use Rattle.perfdata_spaces.specs.Mappings.{MappingValue, mapping_value, mapping_contains}
-use Rattle.perfdata_spaces.specs.Processes.{value_in, is_same, KeepsValues}
-use Rattle.perfdata_spaces.specs.Ranges.{covers, value_of}
-use Rattle.perfdata_spaces.specs.Spaces.{Applies, KeepsSpaces, values_of}
+use Rattle.perfdata_spaces.specs.Processes.{value_in, is_same}
+use Rattle.perfdata_spaces.specs.steps.Processes.{KeepsValues}
+use Rattle.perfdata_spaces.specs.Ranges.{value_of}
+use Rattle.perfdata_spaces.specs.steps.Ranges.{covers}
+use Rattle.perfdata_spaces.specs.Spaces.{values_of}
+use Rattle.perfdata_spaces.specs.steps.Spaces.{Applies, KeepsSpaces}
 use Rattle.perfdata_spaces.specs.declared.ranges.AddressRange.{AddressRange}
 use Rattle.perfdata_spaces.specs.declared.mapping.Mapping.{Mapping}
 use Rattle.perfdata_spaces.specs.declared.spaces.Spaces.{Spaces}

@@ -1,10 +1,10 @@
 -- What records do to address spaces and to the names of threads.
 use Rattle.std.specs.Prelude.{ℕ, ℤ, ◌+◌, ◌%◌, List, [], ◌∷◌, length, if◌then◌else◌}
-use Rattle.perfdata_base.specs.ParseInfo.{is_set}
-use Rattle.perfdata_base.specs.Raw.{bytes_of}
-use Rattle.perfdata_base.specs.CpuMode.{cpu_mode_of}
-use Rattle.perfdata_base.specs.declared.event.cpu_mode.CpuMode.{CpuMode}
-use Rattle.perfdata_base.specs.declared.event.cpu_mode.CpuMode.TheVariants.{Unknown, Kernel, User, Hypervisor, GuestKernel, GuestUser}
+use Rattle.perfdata_identifiers.specs.ParseInfo.{is_set}
+use Rattle.perfdata_sources.specs.Raw.{bytes_of}
+use Rattle.perfdata_sources.specs.CpuMode.{cpu_mode_of}
+use Rattle.perfdata_sources.specs.declared.event.cpu_mode.CpuMode.{CpuMode}
+use Rattle.perfdata_sources.specs.declared.event.cpu_mode.CpuMode.TheVariants.{Unknown, Kernel, User, Hypervisor, GuestKernel, GuestUser}
 use Rattle.perfdata_events.specs.declared.event.EventRecord.{EventRecord}
 use Rattle.perfdata_events.specs.declared.event.EventRecord.TheVariants.{Mmap, Comm, Fork, Mmap2, Ksymbol}
 use Rattle.perfdata_events.specs.declared.kernel.KsymbolRecord.{KsymbolRecord}

@@ -4,8 +4,8 @@ use Rattle.std.specs.List.{All, flat_map, last_or}
 use Rattle.std.specs.Option.{option_map, option_or}
 use Rattle.perfdata_events.specs.declared.fields.call_chain.CallContext.{CallContext}
 use Rattle.perfdata_events.specs.declared.fields.call_chain.CallContext.TheVariants.{Hypervisor, Kernel, User, GuestKernel, GuestUser, Unknown}
-use Rattle.perfdata_base.specs.declared.event.cpu_mode.CpuMode.{CpuMode}
-use Rattle.perfdata_base.specs.declared.event.cpu_mode.CpuMode.TheVariants as mode
+use Rattle.perfdata_sources.specs.declared.event.cpu_mode.CpuMode.{CpuMode}
+use Rattle.perfdata_sources.specs.declared.event.cpu_mode.CpuMode.TheVariants as mode
 use Rattle.perfdata_spaces.specs.Effects.{SpaceEffect, Maps, MapsKernel, Registers, Removes, Copies, Clears, Numbered, numbered}
 use Rattle.perfdata_spaces.specs.Mappings.{MappingValue, mapping_contains}
 use Rattle.perfdata_spaces.specs.Processes.{is_same}

@@ -9,3 +9,4 @@ pub mod Processes
 pub mod Ranges
 pub mod Spaces
 pub mod ThreadNames
+pub mod steps

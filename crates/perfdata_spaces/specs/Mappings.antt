@@ -1,6 +1,6 @@
 -- What is mapped.
 use Rattle.std.specs.Prelude.{◌≢◌, ℕ, ℤ, ◌+◌, ◌-◌, ◌%◌, ◌^◌, Bool, pos, List, [], ◌++◌, Option, None, Some, if◌then◌else◌}
-use Rattle.perfdata_base.specs.Raw.{bytes_of}
+use Rattle.perfdata_sources.specs.Raw.{bytes_of}
 use Rattle.perfdata_events.specs.declared.fields.file_id.Mmap2InodeAndVersion.{Mmap2InodeAndVersion}
 use Rattle.perfdata_events.specs.declared.fields.file_id.Mmap2FileId.{Mmap2FileId}
 use Rattle.perfdata_events.specs.declared.fields.file_id.Mmap2FileId.TheVariants.{InodeAndVersion, BuildId}
@@ -26,7 +26,18 @@ pub record MappingValue : Type 0 where
   pub path : List ℕ
 
 abbrev pub mapping_value : Mapping → MappingValue
-mapping_value m = record { pid = m.pid; start = m.start; byte_length = m.length; page_offset = m.page_offset; kind = m.kind; protection = m.protection; flags = m.flags; inode = m.inode; build_id = m.build_id.items; path = m.path.items }
+mapping_value m = record {
+  pid = m.pid;
+  start = m.start;
+  byte_length = m.length;
+  page_offset = m.page_offset;
+  kind = m.kind;
+  protection = m.protection;
+  flags = m.flags;
+  inode = m.inode;
+  build_id = m.build_id.items;
+  path = m.path.items;
+}
 
 -- Whether a mapping contains an address.
 abbrev pub mapping_contains : ℕ → MappingValue → Bool
@@ -55,11 +66,44 @@ build_id_of (BuildId id) = bytes_of id
 
 -- The mapping that a record describes. It has no protection: PROT_EXEC (4) stands for executable memory.
 abbrev pub mapping_of_mmap : MmapRecord → MappingValue
-mapping_of_mmap r = record { pid = r.pid; start = r.address; byte_length = r.length; page_offset = r.page_offset; kind = kind_of r.is_data; protection = if r.is_data then 0 else 4; flags = 0; inode = None; build_id = []; path = bytes_of r.path }
+mapping_of_mmap r = record {
+  pid = r.pid;
+  start = r.address;
+  byte_length = r.length;
+  page_offset = r.page_offset;
+  kind = kind_of r.is_data;
+  protection = if r.is_data then 0 else 4;
+  flags = 0;
+  inode = None;
+  build_id = [];
+  path = bytes_of r.path;
+}
 
 abbrev pub mapping_of_mmap2 : Mmap2Record → MappingValue
-mapping_of_mmap2 r = record { pid = r.pid; start = r.address; byte_length = r.length; page_offset = r.page_offset; kind = kind_of r.is_data; protection = r.protection; flags = r.flags; inode = inode_of r.file_id; build_id = build_id_of r.file_id; path = bytes_of r.path }
+mapping_of_mmap2 r = record {
+  pid = r.pid;
+  start = r.address;
+  byte_length = r.length;
+  page_offset = r.page_offset;
+  kind = kind_of r.is_data;
+  protection = r.protection;
+  flags = r.flags;
+  inode = inode_of r.file_id;
+  build_id = build_id_of r.file_id;
+  path = bytes_of r.path;
+}
 
 -- The range of a symbol of the kernel.
 abbrev pub mapping_of_ksymbol : KsymbolRecord → MappingValue
-mapping_of_ksymbol r = record { pid = pos 0; start = r.address; byte_length = r.length; page_offset = 0; kind = KernelSymbol; protection = 4; flags = 0; inode = None; build_id = []; path = bytes_of r.name }
+mapping_of_ksymbol r = record {
+  pid = pos 0;
+  start = r.address;
+  byte_length = r.length;
+  page_offset = 0;
+  kind = KernelSymbol;
+  protection = 4;
+  flags = 0;
+  inode = None;
+  build_id = [];
+  path = bytes_of r.name;
+}

@@ -1,5 +1,5 @@
 -- Values by process and address.
-use Rattle.std.specs.Prelude.{◌≡◌, ℕ, ℤ, Bool, Option, None, Some}
+use Rattle.std.specs.Prelude.{ℕ, ℤ, Bool, Option, None, Some}
 use Rattle.std.specs.Ordering.{int_cmp, is_eq}
 use Rattle.std.specs.BTreeMap.{get}
 use Rattle.perfdata_spaces.specs.Ranges.{value_of}
@@ -17,7 +17,3 @@ value_in_space (Some space) address = value_of space address
 -- The value of an address of a process.
 abbrev pub value_in : Processes → ℤ → ℕ → Option ℕ
 value_in processes pid address = value_in_space (get int_cmp processes.spaces pid) address
-
--- All processes have the same values.
-abbrev pub KeepsValues : Processes → Processes → Type 0
-KeepsValues old new = (pid : ℤ) (address : ℕ) → value_in new pid address ≡ value_in old pid address

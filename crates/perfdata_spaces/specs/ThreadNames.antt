@@ -1,6 +1,5 @@
 -- The names of threads.
-use Rattle.std.specs.Prelude.{◌≡◌, ℕ, ℤ, List, Option, Some, Vec, Result, Ok, Err, if◌then◌else◌}
-use Rattle.std.specs.declared.alloc.AllocError.{AllocError}
+use Rattle.std.specs.Prelude.{◌≡◌, ℕ, ℤ, List, Option, Some, Vec, if◌then◌else◌}
 use Rattle.std.specs.declared.alloc.Global.{Global}
 use Rattle.std.specs.declared.rc.Rc.{Rc}
 use Rattle.std.specs.Option.{option_map}
@@ -31,10 +30,6 @@ name_after KeepsAll name tid = name tid
 -- An effect was applied.
 abbrev pub AppliesName : NameEffect → ThreadNames → ThreadNames → Type 0
 AppliesName effect old new = (tid : ℤ) → name_of new tid ≡ name_after effect (name_of old) tid
-
-abbrev pub ChangesNames : NameEffect → ThreadNames → Result (Unit {0}) AllocError → ThreadNames → Type 0
-ChangesNames effect old (Ok done) new = AppliesName effect old new
-ChangesNames effect old (Err error) new = KeepsNames old new
 
 -- The names are those after effects.
 abbrev pub FollowsNames : List NameEffect → ThreadNames → Type 0

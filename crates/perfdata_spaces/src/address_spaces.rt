@@ -2,7 +2,7 @@
 
 ghost use Rattle.std.specs.Prelude.{◌≡◌, ◌%◌, [], List, slice_get, IfOk, OnOk, OnErr};
 ghost use Rattle.std.specs.Option.{option_map};
-ghost use Rattle.perfdata_base.specs.CpuMode.{cpu_mode_of};
+ghost use Rattle.perfdata_sources.specs.CpuMode.{cpu_mode_of};
 ghost use Rattle.perfdata_spaces.specs.Effects.{Applied, added, effect_of};
 ghost use Rattle.perfdata_spaces.specs.Histories.{context_in, IsFoundMapping};
 ghost use Rattle.perfdata_spaces.specs.Mappings.{mapping_value};

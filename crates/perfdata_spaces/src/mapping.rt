@@ -1,7 +1,7 @@
 //! Mappings of files and of kernel symbols.
 
 ghost use Rattle.std.specs.Prelude.{◌≡◌, ◌≢◌, [], IfOk, OnErr};
-ghost use Rattle.perfdata_base.specs.Raw.{bytes_of};
+ghost use Rattle.perfdata_sources.specs.Raw.{bytes_of};
 ghost use Rattle.perfdata_spaces.specs.Mappings.{inode_of, build_id_of};
 
 use perfdata_base::raw::RawData;

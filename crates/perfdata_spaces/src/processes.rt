@@ -4,7 +4,8 @@ ghost use Rattle.std.specs.Prelude.{◌≡◌, ℕ, ℤ, ◌<◌, ◌^◌, ◌&&
 ghost use Rattle.std.specs.Option.{option_copied};
 ghost use Rattle.std.specs.Ordering.{int_cmp};
 ghost use Rattle.std.specs.BTreeMap.{get};
-ghost use Rattle.perfdata_spaces.specs.Ranges.{covers, value_of};
+ghost use Rattle.perfdata_spaces.specs.Ranges.{value_of};
+ghost use Rattle.perfdata_spaces.specs.steps.Ranges.{covers};
 ghost use Rattle.perfdata_spaces.specs.Processes.{is_same};
 
 use crate::ranges::{AddressRange, RangeMap};
@@ -19,7 +20,8 @@ pub(crate) struct Processes {
 }
 
 impl Processes {
-    ghost use Rattle.perfdata_spaces.specs.Processes.{value_in, KeepsValues};
+    ghost use Rattle.perfdata_spaces.specs.Processes.{value_in};
+    ghost use Rattle.perfdata_spaces.specs.steps.Processes.{KeepsValues};
 
     // No address has a value.
     pub(crate) fn new(alloc: Global) -> Processes

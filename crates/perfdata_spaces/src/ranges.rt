@@ -1,7 +1,8 @@
 //! Values by address, in versions that share their nodes.
 
 ghost use Rattle.std.specs.Prelude.{◌≡◌, ℕ, ◌≤◌, ◌<◌, ◌^◌, ◌-◌, nat_lt, if◌then◌else◌, Option, None, IfOk};
-ghost use Rattle.perfdata_spaces.specs.Ranges.{covers, contains};
+ghost use Rattle.perfdata_spaces.specs.Ranges.{contains};
+ghost use Rattle.perfdata_spaces.specs.steps.Ranges.{covers};
 
 use std::alloc::{AllocError, Global};
 use std::rc::Rc;
@@ -62,8 +63,10 @@ impl AddressRange {
 }
 
 impl Tree {
-    ghost use Rattle.perfdata_spaces.specs.Ranges.{height_of, value_at};
-    ghost use Rattle.perfdata_spaces.specs.Ranges.{Joins, KeepsAbove, KeepsBelow, KeepsValues, SetsRange};
+    ghost use Rattle.perfdata_spaces.specs.Ranges.{value_at};
+    ghost use Rattle.perfdata_spaces.specs.steps.Ranges.{height_of};
+    ghost use Rattle.perfdata_spaces.specs.steps.Ranges.{Joins, KeepsAbove, KeepsBelow, KeepsValues};
+    ghost use Rattle.perfdata_spaces.specs.steps.Ranges.{SetsRange};
 
     // All addresses have a value, or none.
     fn of_value(value: Option<usize>) -> Tree

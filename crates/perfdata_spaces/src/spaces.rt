@@ -32,7 +32,8 @@ pub(crate) struct Spaces {
 }
 
 impl Spaces {
-    ghost use Rattle.perfdata_spaces.specs.Spaces.{Changes, FollowsSpaces, index_at};
+    ghost use Rattle.perfdata_spaces.specs.Spaces.{FollowsSpaces};
+    ghost use Rattle.perfdata_spaces.specs.steps.Spaces.{Changes, index_at};
 
     // Nothing is mapped.
     pub(crate) fn new(alloc: Global) -> Spaces

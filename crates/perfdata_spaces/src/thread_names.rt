@@ -2,7 +2,7 @@
 
 ghost use Rattle.std.specs.Prelude.{◌≡◌, ℤ, [], if◌then◌else◌, Some, OnOk, OnErr};
 ghost use Rattle.std.specs.Option.{option_map};
-ghost use Rattle.perfdata_base.specs.Raw.{bytes_of};
+ghost use Rattle.perfdata_sources.specs.Raw.{bytes_of};
 ghost use Rattle.perfdata_spaces.specs.Effects.{naming_of};
 ghost use Rattle.perfdata_spaces.specs.Processes.{is_same};
 
@@ -21,7 +21,8 @@ pub(crate) struct ThreadNames {
 }
 
 impl ThreadNames {
-    ghost use Rattle.perfdata_spaces.specs.ThreadNames.{name_of, ChangesNames, FollowsNames, KeepsNames};
+    ghost use Rattle.perfdata_spaces.specs.ThreadNames.{name_of, FollowsNames, KeepsNames};
+    ghost use Rattle.perfdata_spaces.specs.steps.ThreadNames.{ChangesNames};
 
     // No thread has a name.
     pub(crate) fn new(alloc: Global) -> ThreadNames

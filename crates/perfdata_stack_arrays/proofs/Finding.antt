@@ -12,7 +12,8 @@ use Rattle.perfdata_arrays.proofs.Arrays.{no_entries}
 use Rattle.perfdata_arrays.specs.Tasks.{one_if_true}
 use Rattle.perfdata_stack_arrays.proofs.ArrayWrites.{count_append, more_at, related_push}
 use Rattle.perfdata_stack_arrays.specs.Arrays.{saturated}
-use Rattle.perfdata_stack_arrays.specs.Frames.{FindsFileOffset, IsFrameOf, WritesFrames, frame_entry_at, mapping_offset, place_of}
+use Rattle.perfdata_stack_arrays.specs.Frames.{IsFrameOf, frame_entry_at, place_of}
+use Rattle.perfdata_stack_arrays.specs.steps.Frames.{FindsFileOffset, WritesFrames, mapping_offset}
 use Rattle.perfdata_stack_arrays.specs.declared.frame.FileOffset.{FileOffset}
 use Rattle.perfdata_stack_arrays.specs.declared.frame.StackFrame.{StackFrame}
 

@@ -11,7 +11,8 @@ use Rattle.perfdata_spaces.specs.NameHistories.{IsName}
 use Rattle.perfdata_spaces.specs.Processes.{is_same}
 use Rattle.perfdata_stack_arrays.specs.Arrays.{count_of}
 use Rattle.perfdata_stack_arrays.specs.Mappings.{name_in, path_of, text_in, text_of}
-use Rattle.perfdata_stack_arrays.specs.Names.{FollowsRanges, IsRangeOf, range_after, range_at, range_of}
+use Rattle.perfdata_stack_arrays.specs.Names.{IsRangeOf}
+use Rattle.perfdata_stack_arrays.specs.steps.Names.{FollowsRanges, range_after, range_at, range_of}
 use Rattle.perfdata_stack_arrays.specs.declared.names.NameRanges.{NameRanges}
 use Rattle.perfdata_stack_arrays.specs.declared.names.TextRange.{TextRange}
 

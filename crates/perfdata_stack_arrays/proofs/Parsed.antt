@@ -1,10 +1,10 @@
 -- What a parsed record adds is what its record adds.
 use Rattle.std.proofs.Common.{inr, List, Result, Ok, Err}
 use Rattle.std.specs.declared.alloc.AllocError.{AllocError}
-use Rattle.perfdata_base.specs.declared.endian.Endianness.{Endianness}
+use Rattle.perfdata_sources.specs.declared.endian.Endianness.{Endianness}
 use Rattle.linux_perf_data.specs.Attribute.{Attribute}
 use Rattle.linux_perf_data.specs.Layout.{RecordView}
-use Rattle.perfdata_stack_arrays.specs.Adding.{AddsParsed, AddsRecord}
+use Rattle.perfdata_stack_arrays.specs.steps.Adding.{AddsParsed, AddsRecord}
 use Rattle.perfdata_stack_arrays.specs.Event.{Event}
 use Rattle.perfdata_stack_arrays.specs.Events.{ParsesEvent}
 use Rattle.perfdata_stack_arrays.specs.Written.{Written}

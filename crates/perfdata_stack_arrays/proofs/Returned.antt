@@ -16,7 +16,8 @@ use Rattle.perfdata_order.specs.InMemoryOrder.{Entry, EntryReturned, IsNewOrder,
 use Rattle.perfdata_order.specs.declared.in_memory.InMemoryOrderedRecords.{InMemoryOrderedRecords}
 use Rattle.perfdata_stack_arrays.specs.Laws.{AreReadOnce, ReturnsRecordsOnce}
 use Rattle.perfdata_stack_arrays.specs.Reading.{ReadsEvents, event_returned, no_calls, other_returned}
-use Rattle.perfdata_stack_arrays.specs.Records.{IsStart, ReturnsNext}
+use Rattle.perfdata_stack_arrays.specs.Records.{ReturnsNext}
+use Rattle.perfdata_stack_arrays.specs.steps.Records.{IsStart}
 use Rattle.perfdata_stack_arrays.specs.Event.{Event}
 use Rattle.perfdata_stack_arrays.specs.declared.records.Records.{Records}
 use Rattle.perfdata_stack_arrays.specs.declared.records.Records.TheVariants.{ByTime, InInputOrder}

@@ -12,10 +12,10 @@ use Rattle.perfdata_arrays.proofs.Arrays.{no_entries}
 use Rattle.perfdata_stack_arrays.proofs.ArrayWrites.{more_at}
 use Rattle.perfdata_stack_arrays.proofs.NameSteps.{text_push}
 use Rattle.perfdata_stack_arrays.specs.Arrays.{count_of, saturated}
-use Rattle.perfdata_stack_arrays.specs.MappingWrites.{WritesMapping, with_text}
+use Rattle.perfdata_stack_arrays.specs.steps.MappingWrites.{WritesMapping, with_text}
 use Rattle.perfdata_stack_arrays.specs.Mappings.{mapping_entry_of, mappings_from, mappings_in, mappings_of, name_in, path_of, text_in, text_of}
-use Rattle.perfdata_stack_arrays.specs.Names.{FollowsRanges}
-use Rattle.perfdata_stack_arrays.specs.ProcessState.{AppliesRecord, FollowsState}
+use Rattle.perfdata_stack_arrays.specs.steps.Names.{FollowsRanges}
+use Rattle.perfdata_stack_arrays.specs.steps.ProcessState.{AppliesRecord, FollowsState}
 use Rattle.perfdata_stack_arrays.specs.declared.mapping.StackMapping.{StackMapping}
 use Rattle.perfdata_stack_arrays.specs.declared.state.ProcessState.{ProcessState}
 use Rattle.perfdata_stack_arrays.specs.declared.state.TextCounts.{TextCounts}

@@ -18,13 +18,14 @@ use Rattle.perfdata_spaces.specs.Effects.{Applied}
 use Rattle.perfdata_stack_arrays.proofs.ArrayWrites.{count_append, more_after}
 use Rattle.perfdata_stack_arrays.proofs.NameSteps.{text_push}
 use Rattle.perfdata_stack_arrays.proofs.StateSteps.{mappings_push}
-use Rattle.perfdata_stack_arrays.specs.Adding.{AddsApplied, AddsEvent, AddsRecord, AddsSample, FailsToAdd, PassesRecord, totals_so_far}
+use Rattle.perfdata_stack_arrays.specs.steps.Adding.{AddsApplied, AddsEvent, AddsRecord, AddsSample, FailsToAdd, PassesRecord, totals_so_far}
 use Rattle.perfdata_stack_arrays.specs.Arrays.{count_of, saturated}
 use Rattle.perfdata_stack_arrays.specs.Mappings.{mappings_in, mappings_of, text_in, text_of}
-use Rattle.perfdata_stack_arrays.specs.Reading.{EndsWalk, ReadsEvents, RunsOut, WalksStacks, event_returned, no_calls, other_returned}
+use Rattle.perfdata_stack_arrays.specs.Reading.{EndsWalk, ReadsEvents, RunsOut, event_returned, no_calls, other_returned}
+use Rattle.perfdata_stack_arrays.specs.steps.Reading.{WalksStacks}
 use Rattle.perfdata_stack_arrays.specs.Records.{ReturnsNext}
 use Rattle.perfdata_stack_arrays.specs.Stacks.{AreStacksOf, IsStackOf, applied_as, applied_by, applied_in, none, passed, sampled}
-use Rattle.perfdata_stack_arrays.specs.ProcessState.{FollowsState}
+use Rattle.perfdata_stack_arrays.specs.steps.ProcessState.{FollowsState}
 use Rattle.perfdata_stack_arrays.specs.Written.{WritesAll, Written}
 use Rattle.perfdata_stack_arrays.specs.Event.{Event}
 use Rattle.perfdata_stack_arrays.specs.declared.frame.StackFrame.{StackFrame}

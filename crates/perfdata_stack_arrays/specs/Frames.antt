@@ -1,19 +1,15 @@
 -- The entries of the frames of samples.
 use Rattle.std.specs.Prelude.{◌≡◌, ℕ, ℤ, ◌%◌, List, Option, None, Some}
-use Rattle.perfdata_arrays.specs.Overwrites.{with_entries_at}
-use Rattle.perfdata_base.specs.CpuMode.{cpu_mode_of}
-use Rattle.perfdata_events.specs.declared.fields.call_chain.CallContext.{CallContext}
+use Rattle.perfdata_sources.specs.CpuMode.{cpu_mode_of}
 use Rattle.perfdata_events.specs.declared.sample.SampleRecord.{SampleRecord}
 use Rattle.perfdata_arrays.specs.Tasks.{one_if_true}
 use Rattle.perfdata_arrays.specs.Samples.{context_code}
 use Rattle.perfdata_spaces.specs.AddressSpaces.{space_effects}
 use Rattle.perfdata_spaces.specs.Effects.{Applied}
 use Rattle.perfdata_spaces.specs.Histories.{IndexedMapping, IsFound, context_in}
-use Rattle.perfdata_spaces.specs.Mappings.{MappingValue, file_offset}
-use Rattle.perfdata_spaces.specs.Spaces.{indexed_at}
+use Rattle.perfdata_spaces.specs.Mappings.{file_offset}
 use Rattle.perfdata_stacks.specs.Frames.{lookup_address, sample_frames}
 use Rattle.perfdata_stacks.specs.declared.frames.SampleFrame.{SampleFrame}
-use Rattle.perfdata_stack_arrays.specs.Arrays.{AreRelated, count_of}
 use Rattle.perfdata_stack_arrays.specs.declared.frame.FileOffset.{FileOffset}
 use Rattle.perfdata_stack_arrays.specs.declared.frame.StackFrame.{StackFrame}
 
@@ -25,15 +21,6 @@ no_mapping = 18446744073709551615
 abbrev pub place_of : Option IndexedMapping → ℕ → FileOffset
 place_of None address = record { mapping = no_mapping; file_offset = 0 }
 place_of (Some found) address = record { mapping = found.index; file_offset = file_offset found.mapping address }
-
--- The file offset of an address in the mapping with an index, if there is an index.
-abbrev pub mapping_offset : List MappingValue → Option ℕ → ℕ → FileOffset
-mapping_offset mappings index address = place_of (indexed_at mappings index) address
-
--- The file offset of an address of a process or of the kernel after records.
-abbrev pub FindsFileOffset : List Applied → ℤ → ℕ → CallContext → FileOffset → Type 0
-FindsFileOffset before pid address context place =
-    ((found : Option IndexedMapping) × IsFound (space_effects before) pid address context found × (place ≡ place_of found address))
 
 -- The entry of a frame that is looked up at a place.
 abbrev pub frame_entry_at : SampleFrame → FileOffset → StackFrame
@@ -54,10 +41,3 @@ pub record IsFrameOf (before : List Applied) (pid : ℤ) (frame : SampleFrame) (
 -- The frames of a sample, the leaf first. `misc` is that of its header.
 abbrev pub frames_in : ℕ → SampleRecord → List SampleFrame
 frames_in misc sample = sample_frames sample (context_in (cpu_mode_of (misc % 8)))
-
--- The entries of frames after records are written after the first elements, up to the capacity, and counted.
-pub record WritesFrames (before : List Applied) (pid : ℤ) (frames : List SampleFrame) (used : ℕ) (old : List StackFrame) (count : ℕ) (new : List StackFrame) : Type 0 where
-  pub own : List StackFrame
-  pub are : AreRelated (IsFrameOf before pid) frames own
-  pub count_is : count ≡ count_of own
-  pub written : new ≡ with_entries_at used own old

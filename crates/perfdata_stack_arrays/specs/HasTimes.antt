@@ -1,9 +1,9 @@
 -- Whether records apply in order of time.
 use Rattle.std.specs.Prelude.{Bool, false, List}
 use Rattle.std.specs.List.{list_any}
-use Rattle.perfdata_base.specs.ParseInfo.{is_set}
-use Rattle.perfdata_base.specs.declared.endian.Endianness.{Endianness}
-use Rattle.perfdata_base.specs.declared.endian.Endianness.TheVariants.{LittleEndian, BigEndian}
+use Rattle.perfdata_identifiers.specs.ParseInfo.{is_set}
+use Rattle.perfdata_sources.specs.declared.endian.Endianness.{Endianness}
+use Rattle.perfdata_sources.specs.declared.endian.Endianness.TheVariants.{LittleEndian, BigEndian}
 use Rattle.perfdata_events.specs.AttributeFlags.{SAMPLE_ID_ALL}
 use Rattle.perfdata_sections.specs.AttributeDescription.{attr_in}
 use Rattle.perfdata_sections.specs.declared.feature_sections.AttributeDescription.{AttributeDescription}

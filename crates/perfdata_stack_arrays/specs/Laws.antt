@@ -24,7 +24,8 @@ pub record AreReadOnce (records : InMemoryRecords) (file : PerfFile) (entries : 
   pub once : IsPermutation read (entries ++ held)
 
 abbrev pub ReturnsRecordsOnce : Type 0
-ReturnsRecordsOnce = (records : InMemoryRecords) (first : InMemoryOrderedRecords) (file last_file : PerfFile) (entries : List Entry) (events : List Event) (last : Records)
+ReturnsRecordsOnce =
+    (records : InMemoryRecords) (first : InMemoryOrderedRecords) (file last_file : PerfFile) (entries : List Entry) (events : List Event) (last : Records)
     → IsNewOrder records first → ReadsEvents (ByTime first) file entries events last last_file → AreReadOnce records file entries
 
 abbrev pub NamesTextOf : Type 0

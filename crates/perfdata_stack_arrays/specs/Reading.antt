@@ -20,7 +20,6 @@ use Rattle.perfdata_stack_arrays.specs.Written.{WritesAll, Written, totals_of}
 use Rattle.perfdata_stack_arrays.specs.Event.{Event}
 use Rattle.perfdata_stack_arrays.specs.declared.records.Records.{Records}
 use Rattle.perfdata_stack_arrays.specs.declared.stacks.StacksResult.{StacksResult}
-use Rattle.perfdata_stack_arrays.specs.declared.stacks.StacksWalk.{StacksWalk}
 
 -- The event of a record is one by the attributes that are known when it is returned.
 abbrev pub IsEntryEvent : PerfFile → Entry → Option Event → Type 0
@@ -57,19 +56,6 @@ pub record RunsOut (now : Records) (now_file : PerfFile) (e : Error) (new : Reco
 abbrev pub EndsWalk : Records → PerfFile → Result (Unit {0}) Error → Records → PerfFile → Type 0
 EndsWalk now now_file (Ok done) new file' = ReturnsNext now now_file (Ok None) new file'
 EndsWalk now now_file (Err e) new file' = ReturnsNext now now_file (Err e) new file' ⊎ RunsOut now now_file e new file'
-
--- The walk returns these records, counts their stacks and writes them up to the capacities.
-pub record WalksStacks (start : Records) (file : PerfFile) (before : Written) (walked : StacksWalk) (new : Records) (file' : PerfFile) (after : Written) : Type 0 where
-  pub entries : List Entry
-  pub events : List Event
-  pub at_end : Records
-  pub file_at_end : PerfFile
-  pub read : ReadsEvents start file entries events at_end file_at_end
-  pub own : Written
-  pub has : HasStacks events own
-  pub totals_are : walked.totals ≡ totals_of own
-  pub writes : WritesAll own before after
-  pub ends : EndsWalk at_end file_at_end walked.end new file'
 
 -- The stacks are those of an opened recording: of its records in order of time, or in the order of the input.
 pub record IsReadOf (reader : InMemoryReader) (own : Written) (s : Status) : Type 0 where

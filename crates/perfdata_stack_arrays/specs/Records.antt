@@ -15,10 +15,6 @@ StartsRecords true records (InInputOrder other) = ⊥
 StartsRecords false records (ByTime ordered) = ⊥
 StartsRecords false records (InInputOrder other) = other ≡ records
 
--- The records start in one of the orders.
-abbrev pub IsStart : Records → Type 0
-IsStart start = (by_time : Bool) × ((records : InMemoryRecords) × StartsRecords by_time records start)
-
 -- The result of a call for the next record.
 abbrev pub ReturnsNext : Records → PerfFile → Result (Option Entry) Error → Records → PerfFile → Type 0
 ReturnsNext (ByTime old) file result (ByTime new) file' = ReturnsInOrder old file result new file'

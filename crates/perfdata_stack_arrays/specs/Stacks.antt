@@ -3,7 +3,6 @@ use Rattle.std.specs.Prelude.{◌≡◌, ℕ, ◌<◌, ◌^◌, List, [], ◌∷
 use Rattle.std.specs.List.{flat_map}
 use Rattle.std.specs.Option.{unwrap_or}
 use Rattle.linux_perf_data.specs.RecordEntries.{one_if_some}
-use Rattle.perfdata_arrays.specs.Overwrites.{with_entries_at}
 use Rattle.perfdata_events.specs.declared.event.EventRecord.{EventRecord}
 use Rattle.perfdata_events.specs.declared.event.EventRecord.TheVariants.{Sample}
 use Rattle.perfdata_events.specs.declared.fields.task.Task.{Task}
@@ -46,21 +45,12 @@ stack_entry_of envelope sample frames name = record {
 }
 
 -- The entry of a sample after records, and those of its frames, which are after `frames_start` others.
-pub record IsStackOf (before : List Applied) (envelope : StackEnvelope) (sample : SampleRecord) (frames_start : ℕ) (stack : Stack) (frames : List StackFrame) : Type 0 where
+pub record IsStackOf (before : List Applied) (envelope : StackEnvelope) (sample : SampleRecord) (frames_start : ℕ) (stack : Stack)
+    (frames : List StackFrame) : Type 0 where
   pub are_frames : AreRelated (IsFrameOf before (task_of sample).pid) (frames_in envelope.misc sample) frames
   pub name : Option TextRange
   pub is_name : length (text_in before) < 2 ^ 64 → IsNameAt before (task_of sample).tid name
   pub stack_is : stack ≡ stack_entry_of envelope sample (record { start = frames_start; count = count_of frames }) name
-
--- The entry of a sample is written at an index, and those of its frames after the first elements, up to the capacities. The frames are
--- counted.
-pub record WritesStack (before : List Applied) (envelope : StackEnvelope) (sample : SampleRecord) (count used : ℕ) (stacks : List Stack) (frames : List StackFrame) (added : ℕ) (stacks' : List Stack) (frames' : List StackFrame) : Type 0 where
-  pub stack : Stack
-  pub own_frames : List StackFrame
-  pub is : IsStackOf before envelope sample used stack own_frames
-  pub added_is : added ≡ count_of own_frames
-  pub written : stacks' ≡ with_entries_at count (stack ∷ []) stacks
-  pub frames_written : frames' ≡ with_entries_at used own_frames frames
 
 -- Records that aren't samples change what is mapped and what threads are called.
 abbrev pub applied_as : ℕ → EventRecord → List Applied
@@ -80,6 +70,7 @@ pub data AreStacksOf : List Event → List Stack → List StackFrame → Type 0 
   passed : (events : List Event) (stacks : List Stack) (frames : List StackFrame) (event : Event) (applied : Applied)
       → AreStacksOf events stacks frames → applied_by event ≡ applied ∷ [] → AreStacksOf (events ++ event ∷ []) stacks frames
   -- A sample has one.
-  sampled : (events : List Event) (stacks : List Stack) (frames : List StackFrame) (event : Event) (sample : SampleRecord) (stack : Stack) (own_frames : List StackFrame)
+  sampled : (events : List Event) (stacks : List Stack) (frames : List StackFrame) (event : Event) (sample : SampleRecord) (stack : Stack)
+      (own_frames : List StackFrame)
       → AreStacksOf events stacks frames → event.parsed ≡ Sample sample → IsStackOf (applied_in events) event.envelope sample (count_of frames) stack own_frames
       → AreStacksOf (events ++ event ∷ []) (stacks ++ stack ∷ []) (frames ++ own_frames)

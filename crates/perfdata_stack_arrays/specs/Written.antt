@@ -22,4 +22,9 @@ pub record WritesAll (own before after : Written) : Type 0 where
   pub text : after.text ≡ with_prefix own.text before.text
 
 abbrev pub totals_of : Written → StackTotals
-totals_of own = record { stack_count = count_of own.stacks; frame_count = count_of own.frames; mapping_count = count_of own.mappings; text_size = count_of own.text }
+totals_of own = record {
+  stack_count = count_of own.stacks;
+  frame_count = count_of own.frames;
+  mapping_count = count_of own.mappings;
+  text_size = count_of own.text;
+}

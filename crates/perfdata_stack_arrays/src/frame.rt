@@ -2,8 +2,9 @@
 ghost use Rattle.std.specs.Prelude.{◌≡◌, List};
 ghost use Rattle.perfdata_spaces.specs.AddressSpaces.{Follows, mapping_values};
 ghost use Rattle.perfdata_spaces.specs.Effects.{Applied};
-ghost use Rattle.perfdata_stack_arrays.specs.Frames.{FindsFileOffset, IsFrameOf, WritesFrames, frames_in};
-ghost use Rattle.perfdata_stack_arrays.specs.Frames.{mapping_offset};
+ghost use Rattle.perfdata_stack_arrays.specs.Frames.{IsFrameOf, frames_in};
+ghost use Rattle.perfdata_stack_arrays.specs.steps.Frames.{FindsFileOffset, WritesFrames};
+ghost use Rattle.perfdata_stack_arrays.specs.steps.Frames.{mapping_offset};
 
 use crate::array::add_counts;
 use perfdata_arrays::array::write_entry;

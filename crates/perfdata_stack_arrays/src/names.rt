@@ -21,7 +21,8 @@ pub(crate) struct NameRanges {
 }
 
 impl NameRanges {
-    ghost use Rattle.perfdata_stack_arrays.specs.Names.{ChangesRanges, FollowsRanges, KeepsRanges, range_of};
+    ghost use Rattle.perfdata_stack_arrays.specs.steps.Names.{ChangesRanges, FollowsRanges, KeepsRanges};
+    ghost use Rattle.perfdata_stack_arrays.specs.steps.Names.{range_of};
 
     // No thread has a name.
     pub(crate) fn new(alloc: Global) -> NameRanges

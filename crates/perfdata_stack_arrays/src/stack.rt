@@ -3,8 +3,9 @@ ghost use Rattle.std.specs.Prelude.{◌≡◌, List};
 ghost use Rattle.linux_perf_data.specs.RecordEntries.{one_if_some};
 ghost use Rattle.perfdata_spaces.specs.AddressSpaces.{Follows};
 ghost use Rattle.perfdata_spaces.specs.Effects.{Applied};
-ghost use Rattle.perfdata_stack_arrays.specs.Names.{FollowsRanges};
-ghost use Rattle.perfdata_stack_arrays.specs.Stacks.{WritesStack, stack_entry_of, task_of};
+ghost use Rattle.perfdata_stack_arrays.specs.steps.Names.{FollowsRanges};
+ghost use Rattle.perfdata_stack_arrays.specs.Stacks.{stack_entry_of, task_of};
+ghost use Rattle.perfdata_stack_arrays.specs.steps.Stacks.{WritesStack};
 
 use crate::frame::{StackFrame, write_frames};
 use crate::names::{NameRanges, TextRange};

@@ -2,10 +2,10 @@
 ghost use Rattle.std.specs.Prelude.{◌≡◌};
 ghost use Rattle.linux_perf_data.specs.PerfFile.{attributes_of_file, endian_of_file};
 ghost use Rattle.linux_perf_data.specs.RecordViews.{record_view_of};
-ghost use Rattle.perfdata_stack_arrays.specs.Adding.{AddsParsed, AddsRecord, totals_so_far};
+ghost use Rattle.perfdata_stack_arrays.specs.steps.Adding.{AddsParsed, AddsRecord, totals_so_far};
 ghost use Rattle.perfdata_stack_arrays.specs.Reading.{ReadsFileStacks, ReadsPipeStacks, ReadsStacksOf};
-ghost use Rattle.perfdata_stack_arrays.specs.Reading.{WalksStacks};
-ghost use Rattle.perfdata_stack_arrays.specs.Records.{IsStart};
+ghost use Rattle.perfdata_stack_arrays.specs.steps.Reading.{WalksStacks};
+ghost use Rattle.perfdata_stack_arrays.specs.steps.Records.{IsStart};
 
 use crate::array::add_counts;
 use crate::events::event_format;

@@ -7,7 +7,7 @@ ghost use Rattle.perfdata_spaces.specs.AddressSpaces.{mapping_at};
 ghost use Rattle.perfdata_spaces.specs.Effects.{Applied, naming_of};
 ghost use Rattle.perfdata_spaces.specs.Mappings.{mapping_value};
 ghost use Rattle.perfdata_stack_arrays.specs.Mappings.{name_in};
-ghost use Rattle.perfdata_stack_arrays.specs.MappingWrites.{WritesMapping, with_text};
+ghost use Rattle.perfdata_stack_arrays.specs.steps.MappingWrites.{WritesMapping, with_text};
 
 use crate::array::add_counts;
 use crate::mapping::{StackMapping, mapping_entry};
@@ -94,7 +94,8 @@ fn write_mapping(
 }
 
 impl ProcessState {
-    ghost use Rattle.perfdata_stack_arrays.specs.ProcessState.{AppliesRecord, FollowsState, KeepsTotals};
+    ghost use Rattle.perfdata_stack_arrays.specs.steps.ProcessState.{AppliesRecord, FollowsState};
+    ghost use Rattle.perfdata_stack_arrays.specs.steps.ProcessState.{KeepsTotals};
 
     // No record was applied.
     pub(crate) fn new(alloc: Global) -> ProcessState

@@ -1,73 +1,78 @@
 //! Counts the samples of a recording.
 
-use crate::big_endian::{event_flags, find_format};
-use crate::options::{Options, WeightKind};
-use crate::records::Records;
-use crate::resolver::FrameResolver;
-use crate::sample_summary::SampleSummary;
-use crate::selection::Selection;
-use bitflags::Flags;
-use linux_perf_data::attr::PerfEventAttr;
+use crate::options::Options;
 use linux_perf_data::event::{RawEventRecord, RecordType};
 use linux_perf_data::{Error, PerfFile, PerfFileRecord, UserRecordType};
+use perfdata_cli::arguments::missing_cpu_error;
 use perfdata_cli::error::InputError;
 use perfdata_cli::position::Position;
+use perfdata_cli::progress::Progress;
+use perfdata_cli::recording::RecordingRecords;
+use perfdata_events::call_chain::CallContext;
 use perfdata_events::event::EventRecord;
 use perfdata_events::formats::EventFormats;
 use perfdata_events::sample::SampleRecord;
-use perfdata_events::sample_bits::EventFlags;
+use perfdata_focus::{Focus, FocusPatterns, marked_entries};
+use perfdata_order::records::find_format;
+use perfdata_overview::events::{EventSelection, EventTable};
+use perfdata_overview::notes::{MainFile, RecordNotes};
+use perfdata_overview::overview::CountedEvents;
+use perfdata_overview::program::has_own_command;
+use perfdata_overview::sample_summary::SampleSummary;
+use perfdata_overview::weight::WeightKind;
 use perfdata_profile::builder::ProfileBuilder;
 use perfdata_profile::error::ProfileError;
 use perfdata_profile::options::{Detail, ProfileOptions};
 use perfdata_profile::profile::Profile;
 use perfdata_profile::sums::SampleWeight;
-use std::alloc::Global;
+use perfdata_resolver::{FormatData, FrameResolver};
+use perfdata_selection::filter::SampleFilter;
+use std::alloc::{AllocError, Global};
 use std::io;
 
 /// Counts the samples of a recording.
 #[derive(Drop)]
 pub(crate) struct SampleCounter<'a> {
+    alloc: Global,
     builder: ProfileBuilder<FrameResolver<'a>>,
     formats: EventFormats,
-    selection: Selection<'a>,
+    events: EventTable<'a>,
+    filter: SampleFilter<'a>,
+    focus: Option<Focus<'a>>,
     weight: WeightKind,
+    /// Whether a text of samples is written before the end.
+    is_streamed: bool,
     /// Whether the metadata of the recording was read for its symbols.
     has_metadata: bool,
-    records: u64,
-    other_events: u64,
-    undecoded: u64,
-    sample_summary: SampleSummary,
+    /// The number of records.
+    pub(crate) records: u64,
+    /// The greatest offset of a record.
+    read: u64,
+    notes: RecordNotes,
+    /// The index of the first executable mapping of the program that was executed.
+    main_mapping: Option<usize>,
 }
 
 /// What was counted.
 #[derive(Drop)]
 pub(crate) struct CountedSamples<'a> {
     pub(crate) profile: Profile,
-    /// What named the frames.
-    pub(crate) resolver: FrameResolver<'a>,
-    /// Which samples were counted.
-    pub(crate) selection: Selection<'a>,
-    /// The number of samples of events that aren't selected.
-    pub(crate) other_events: u64,
-    /// The number of samples with fields that aren't known.
-    pub(crate) undecoded: u64,
-    /// The times of the samples, and their weight.
-    pub(crate) sample_summary: SampleSummary,
+    /// Which events were counted.
+    pub(crate) events: EventTable<'a>,
+    pub(crate) notes: RecordNotes,
+    /// The file of the program that was executed.
+    pub(crate) main_file: Option<MainFile>,
 }
 
-// Returns what a sample counts.
-fn sample_weight(
-    weight: WeightKind,
-    perf_file: &PerfFile,
-    attr: &PerfEventAttr,
-    sample: &SampleRecord<'_>,
-) -> u64 {
-    let is_frequency = event_flags(perf_file, attr).contains(EventFlags::FREQ);
-    match (weight, sample.period) {
-        (WeightKind::Samples, _) => 1,
-        (WeightKind::Period, Some(period)) => period,
-        (WeightKind::Period, None) if is_frequency => 1,
-        (WeightKind::Period, None) => attr.period_or_freq,
+impl<'a> CountedSamples<'a> {
+    /// Returns what was counted, beside the profile.
+    pub(crate) fn counted_events(&'a self, perf_file: &'a PerfFile) -> CountedEvents<'a> {
+        CountedEvents {
+            perf_file,
+            events: &self.events,
+            notes: &self.notes,
+            main_file: self.main_file.as_ref(),
+        }
     }
 }
 
@@ -80,27 +85,44 @@ fn count_error(error: ProfileError) -> Error {
 }
 
 impl<'a> SampleCounter<'a> {
+    /// Creates a counter of no samples. A text of samples is written before the end if it is known by then
+    /// which events are selected, and that each part of `--event` names one.
     pub(crate) fn new(
         alloc: Global,
+        perf_file: &PerfFile,
         options: &Options<'a>,
         detail: Detail,
         resolver: FrameResolver<'a>,
-    ) -> SampleCounter<'a> {
+        filter: SampleFilter<'a>,
+        patterns: &'a FocusPatterns,
+    ) -> Result<SampleCounter<'a>, AllocError> {
         let profile_options = ProfileOptions {
             detail,
             thread_ids: options.thread_ids,
         };
-        SampleCounter {
+        let mut events = EventTable::new(alloc, options.events);
+        events.add_events(perf_file)?;
+        let has_all = events.part_without_event(perf_file).is_none();
+        let focus = if patterns.is_given() {
+            Some(Focus::new(alloc, patterns)?)
+        } else {
+            None
+        };
+        Ok(SampleCounter {
+            alloc,
             builder: ProfileBuilder::new(alloc, resolver, profile_options),
             formats: EventFormats::new(alloc),
-            selection: options.selection,
+            events,
+            filter,
+            focus,
             weight: options.weight,
+            is_streamed: has_all && options.events != EventSelection::First,
             has_metadata: false,
             records: 0,
-            other_events: 0,
-            undecoded: 0,
-            sample_summary: SampleSummary::new(),
-        }
+            read: 0,
+            notes: RecordNotes::new(alloc),
+            main_mapping: None,
+        })
     }
 
     // Reads the metadata of the recording for its symbols, before the first sample.
@@ -112,6 +134,88 @@ impl<'a> SampleCounter<'a> {
         self.builder.resolver.read_metadata(perf_file)
     }
 
+    // Adds a sample that was counted to what is known of its event. If its stack is left out, the text of
+    // samples gets its former length.
+    fn note_sample(
+        &mut self,
+        sample: &SampleRecord<'_>,
+        weight: SampleWeight,
+        start: usize,
+    ) -> Result<(), AllocError> {
+        let is_kept = match &mut self.focus {
+            Some(focus) => focus.selects(self.builder.tables(), self.builder.last_stack())?,
+            None => true,
+        };
+        if is_kept {
+            let summary = SampleSummary::of_sample(sample.timestamp, weight.weight);
+            self.events.count(weight.column, summary);
+        }
+        let data = &mut self.builder.resolver.data;
+        match (data.text(), is_kept) {
+            (Some(text), false) => text.truncate(start),
+            _ => {}
+        }
+        match data {
+            FormatData::Listing(listing) if !self.is_streamed => listing.end_sample(weight.column),
+            _ => Ok(()),
+        }
+    }
+
+    // Adds a sample of the event with an index.
+    fn add_sample(
+        &mut self,
+        perf_file: &PerfFile,
+        index: usize,
+        misc: u16,
+        sample: &SampleRecord<'_>,
+    ) -> Result<(), Error> {
+        let Some(event) = perf_file.event_attributes().get(index) else {
+            return Ok(());
+        };
+        if !self.events.add_sample(perf_file, index)? {
+            return Ok(());
+        }
+        if sample.cpu.is_none() && !self.filter.cpus.is_empty() {
+            self.notes.lacks_cpu = true;
+            return Ok(());
+        }
+        self.read_metadata(perf_file)?;
+        self.builder.resolver.select_event(perf_file, index)?;
+        let start = self
+            .builder
+            .resolver
+            .data
+            .text()
+            .map_or(0, |text| text.len());
+        let weight = SampleWeight {
+            column: index,
+            weight: self
+                .weight
+                .of_sample(event.attributes(), perf_file.endian(), sample),
+        };
+        let record = EventRecord::Sample(*sample);
+        let is_counted = self
+            .builder
+            .add_selected(&self.filter, misc, &record, Some(weight))
+            .map_err(count_error)?;
+        if is_counted {
+            self.note_sample(sample, weight, start)?;
+        }
+        Ok(())
+    }
+
+    // Adds a record that isn't a sample.
+    fn add_other(&mut self, misc: u16, record: &EventRecord<'_>) -> Result<(), Error> {
+        self.builder
+            .add_selected(&self.filter, misc, record, None)
+            .map_err(count_error)?;
+        if let Some((pid, address)) = self.notes.apply(record)? {
+            let spaces = self.builder.spaces();
+            self.main_mapping = spaces.find_index(pid, address, CallContext::User);
+        }
+        Ok(())
+    }
+
     // Adds a record of an event.
     fn add_event(
         &mut self,
@@ -119,41 +223,18 @@ impl<'a> SampleCounter<'a> {
         index: usize,
         raw: &RawEventRecord<'_>,
     ) -> Result<(), Error> {
-        let Some(event) = perf_file.event_attributes().get(index) else {
-            return Ok(());
-        };
         let Some(format) = find_format(&mut self.formats, perf_file, index)? else {
             return Ok(());
         };
-        let attr = event.attributes();
-        let record = format.parse(raw)?;
-        let weight = match &record {
-            EventRecord::Sample(sample) => {
-                if !self.selection.selects(perf_file, index) {
-                    self.other_events = self.other_events.saturating_add(1);
-                    return Ok(());
-                }
-                self.read_metadata(perf_file)?;
-                self.builder.resolver.select_event(event)?;
-                let weight = sample_weight(self.weight, perf_file, attr, sample);
-                Some(SampleWeight {
-                    column: index,
-                    weight,
-                })
+        match format.parse(raw)? {
+            EventRecord::Sample(sample) => self.add_sample(perf_file, index, raw.misc, &sample),
+            EventRecord::Raw(other) if other.record_type == RecordType::SAMPLE => {
+                self.events.add_sample(perf_file, index)?;
+                self.notes.undecoded = self.notes.undecoded.saturating_add(1);
+                Ok(())
             }
-            EventRecord::Raw(raw) if raw.record_type == RecordType::SAMPLE => {
-                self.undecoded = self.undecoded.saturating_add(1);
-                return Ok(());
-            }
-            _ => None,
-        };
-        self.builder
-            .add_record(raw.misc, &record, weight)
-            .map_err(count_error)?;
-        if let (EventRecord::Sample(sample), Some(counted)) = (&record, weight) {
-            self.sample_summary.add(sample.timestamp, counted.weight);
+            record => self.add_other(raw.misc, &record),
         }
-        Ok(())
     }
 
     // Returns what was read of the records, and where the next one is, if that is known.
@@ -174,27 +255,35 @@ impl<'a> SampleCounter<'a> {
             PerfFileRecord::EventRecord { attr_index, event } => {
                 self.add_event(perf_file, *attr_index, event)
             }
-            PerfFileRecord::UserRecord(user)
-                if user.record_type == UserRecordType::PERF_HEADER_BUILD_ID => {
-                self.builder.resolver.add_build_id(user)
+            PerfFileRecord::UserRecord(user) => {
+                self.notes.apply_user(user.record_type);
+                if user.record_type == UserRecordType::PERF_HEADER_BUILD_ID {
+                    return self.builder.resolver.add_build_id(user);
+                }
+                Ok(())
             }
-            PerfFileRecord::UserRecord(_) => Ok(()),
         }
     }
 
-    // Adds the next record. Returns whether there is one.
-    fn add_next(
+    /// Adds the next record. Returns whether there is one.
+    pub(crate) fn add_next(
         &mut self,
-        records: &mut Records,
+        records: &mut RecordingRecords,
         perf_file: &mut PerfFile,
+        progress: &mut Progress<'_>,
     ) -> Result<bool, InputError> {
         match records.next_record(perf_file) {
             Ok(Some((place, record))) => {
+                self.read = self.read.max(place.offset);
+                progress.add_record(self.read);
                 if let Err(cause) = self.add_record(perf_file, &record) {
                     let position = self.position(Some(place.offset));
                     return Err(InputError::Record { position, cause });
                 }
                 self.records = self.records.saturating_add(1);
+                if self.notes.lacks_cpu {
+                    return Err(InputError::Io(missing_cpu_error()));
+                }
                 Ok(true)
             }
             Ok(None) => Ok(false),
@@ -202,49 +291,76 @@ impl<'a> SampleCounter<'a> {
         }
     }
 
-    /// Adds all records.
-    pub(crate) fn add_all(
-        &mut self,
-        records: &mut Records,
-        perf_file: &mut PerfFile,
-    ) -> Result<(), InputError> {
-        for _ in 0..u64::MAX {
-            if !self.add_next(records, perf_file)? {
-                break;
-            }
+    /// Returns the text of the samples so far, if it is written before the end: the events are known that are
+    /// selected.
+    pub(crate) fn text(&mut self) -> Option<&mut Vec<u8>> {
+        if self.is_streamed {
+            self.builder.resolver.data.text()
+        } else {
+            None
         }
-        Ok(())
     }
 
-    /// Returns what was counted.
-    pub(crate) fn finish(self) -> CountedSamples<'a> {
+    /// Returns what was counted, of the profile the selected events and the stacks that options leave, and
+    /// what named the frames.
+    pub(crate) fn finish(
+        self,
+        perf_file: &PerfFile,
+    ) -> Result<(CountedSamples<'a>, FrameResolver<'a>), ProfileError> {
         let SampleCounter {
+            alloc,
             builder,
-            selection,
-            other_events,
-            undecoded,
-            sample_summary,
+            mut events,
+            mut focus,
+            notes,
+            main_mapping,
             ..
         } = self;
-        let (profile, resolver) = builder.finish();
-        CountedSamples {
-            profile,
-            resolver,
-            selection,
-            other_events,
-            undecoded,
-            sample_summary,
+        let main_mapping = main_mapping.filter(|_| has_own_command(perf_file));
+        let main_file = main_file(&builder, main_mapping);
+        let (mut profile, mut resolver) = builder.finish();
+        let main_file = main_file.map_err(|_| ProfileError::Memory)?;
+        events
+            .add_events(perf_file)
+            .map_err(|_| ProfileError::Memory)?;
+        let marks = marked_entries(
+            alloc,
+            &profile,
+            &mut focus,
+            |column| events.is_selected(column),
+        );
+        let marks = marks.map_err(|_| ProfileError::Memory)?;
+        if let FormatData::Listing(listing) = &mut resolver.data {
+            let kept = listing.keep(|column| events.is_selected(column));
+            kept.map_err(|_| ProfileError::Memory)?;
         }
+        if marks.contains(&false) {
+            profile.sums = profile.sums.marked(alloc, marks.as_slice())?;
+        }
+        let counted = CountedSamples {
+            profile,
+            events,
+            notes,
+            main_file,
+        };
+        Ok((counted, resolver))
     }
 }
 
-impl CountedSamples<'_> {
-    /// Fails if no sample has the event that `--event` names.
-    pub(crate) fn check_event(&self) -> Result<(), InputError> {
-        if self.profile.sums.len() == 0 && self.selection.is_named() {
-            let error = io::Error::other("no sample has the event that --event names");
-            return Err(InputError::Io(error));
-        }
-        Ok(())
-    }
+// Returns the file of the mapping with an index.
+fn main_file(
+    builder: &ProfileBuilder<FrameResolver<'_>>,
+    index: Option<usize>,
+) -> Result<Option<MainFile>, AllocError> {
+    let Some(mapping) = index.and_then(|index| builder.spaces().mapping(index)) else {
+        return Ok(None);
+    };
+    let (path, build_id) = builder.resolver.mapped_file(mapping)?;
+    Ok(Some(MainFile {
+        start: mapping.start,
+        end: mapping.start.saturating_add(mapping.length),
+        page_offset: mapping.page_offset,
+        path,
+        build_id,
+    }))
 }

@@ -1,165 +1,288 @@
 //! Writes the stacks of a recording's samples as folded lines, a flame graph, a profile, a page or a table.
 #![tactic(auto)]
 
-mod big_endian;
 mod counter;
-mod flame;
-mod lines;
-mod mapping_names;
+mod messages;
 mod options;
 mod output;
 mod pprof_output;
-mod records;
-mod resolver;
-mod sample_summary;
-mod selection;
-mod symbols;
-mod title;
-mod top;
-mod unwinding;
 
-use counter::SampleCounter;
-use linux_perf_data::{Error, PerfFileReader};
-use options::{Arguments, Options, OutputFormat, parse};
-use output::{
-    FoldError, format_detail, format_weight, is_for_terminal, output_format, print_notes,
-    write_counted,
+use clap::{ArgMatches, Command};
+use code_files::PathError;
+use counter::{CountedSamples, SampleCounter};
+use linux_perf_data::PerfFile;
+use messages::print_messages;
+use options::{
+    Arguments, FOCUS, IGNORE, Options, OutputFormat, command_with_options, meaningless_option,
 };
-use perfdata_cli::command_line::{
-    SUCCESS, USAGE_ERROR, arguments, print_argument_error, print_clap_error,
-};
+use output::{FoldError, profile_bytes, refusal};
+use perfdata_cli::arguments::{parse_filter, recording_filter};
+use perfdata_cli::command_line::{FAILURE, Program, SUCCESS, USAGE_ERROR, run_program};
 use perfdata_cli::error::{InputError, ProgramError, print_error};
 use perfdata_cli::input::{OpenInput, display_name, input_path};
-use records::{Records, Source};
-use resolver::FrameResolver;
-use std::alloc::Global;
-use std::io::ErrorKind;
+use perfdata_cli::progress::Progress;
+use perfdata_cli::recording::{Recording, RecordingRecords};
+use perfdata_cli::text_output::TextOutput;
+use perfdata_focus::FocusPatterns;
+use perfdata_resolver::FrameResolver;
+use perfdata_selection::error::SelectionError;
+use perfdata_selection::options::FilterOptions;
+use regex::bytes::Regex;
+use std::alloc::{AllocError, Global};
+use std::io;
+use std::io::IsTerminal;
 use std::process::ExitCode;
-use symbols::directories::PathError;
 
 // The program's name.
 const NAME: &str = "perffold";
 
-// The system's number of an invalid argument, such as an offset.
-const EINVAL: i32 = 22;
+// What the arguments select, parsed.
+#[derive(Drop)]
+struct Selection<'a> {
+    filter: FilterOptions<'a>,
+    patterns: FocusPatterns,
+}
 
-// Returns the error of an opening. What an offset names that the system can't seek to, since no file is so
-// large, is missing.
-fn opening_error(error: Error) -> InputError {
-    match error {
-        Error::IoError(cause) if cause.raw_os_error() == Some(EINVAL) => {
-            InputError::Metadata(Error::IoError(ErrorKind::UnexpectedEof.into()))
+// Returns the error of writing the output.
+fn output_error<'a>(arguments: &Arguments<'a>, error: io::Error) -> FoldError<'a> {
+    match arguments.output {
+        Some(path) => FoldError::File(PathError { path, error }),
+        None => FoldError::Program(ProgramError::Output(error)),
+    }
+}
+
+// Counts all samples. A text of samples is written as it comes. Returns the number of records, or why they
+// ended.
+fn add_all(
+    counter: &mut SampleCounter<'_>,
+    records: &mut RecordingRecords,
+    perf_file: &mut PerfFile,
+    output: &mut TextOutput<'_>,
+    progress: &mut Progress<'_>,
+) -> io::Result<Result<u64, InputError>> {
+    for _ in 0..u64::MAX {
+        match counter.add_next(records, perf_file, progress) {
+            Ok(true) => {}
+            Ok(false) => break,
+            Err(error) => return Ok(Err(error)),
         }
-        error => InputError::Metadata(error),
+        if let Some(text) = counter.text() {
+            output.add(text)?;
+        }
     }
+    Ok(Ok(counter.records))
 }
 
-// Opens a pipe or a perf.data file. Fails with `Metadata` if its metadata can't be read.
-fn open_source(
-    alloc: Global,
-    source: Source,
-    is_pipe: bool,
-) -> Result<PerfFileReader<Source>, InputError> {
-    let opened = if is_pipe {
-        PerfFileReader::parse_pipe(alloc, source)
-    } else {
-        PerfFileReader::parse_file(alloc, source)
-    };
-    opened.map_err(opening_error)
-}
-
-// Opens the input at a path.
-fn open_input(rt: &HostRuntime, path: &str) -> Result<PerfFileReader<Source>, InputError> {
-    let input = OpenInput::open(rt, path).map_err(InputError::Io)?;
-    let is_pipe = input.is_pipe()?;
-    let source = input.into_source(rt.alloc()).map_err(InputError::Io)?;
-    open_source(rt.alloc(), source, is_pipe)
-}
-
-// Opens what the options name frames by, with what a format needs.
-fn open_resolver<'a>(
-    rt: &'a HostRuntime,
-    options: &Options<'a>,
-    format: OutputFormat,
-) -> Result<FrameResolver<'a>, PathError<'a>> {
-    let mut resolver = FrameResolver::open(rt, options)?;
-    match format {
-        OutputFormat::Frames => resolver.list_frames(rt.alloc()),
-        OutputFormat::Pprof | OutputFormat::Html => resolver.keep_files(rt.alloc()),
-        OutputFormat::Svg => resolver.keep_function_kinds(rt.alloc()),
-        OutputFormat::Lines | OutputFormat::Top => {}
-    }
-    Ok(resolver)
-}
-
-// Creates what counts the samples for a format.
-fn new_counter<'a>(
-    alloc: Global,
-    options: &Options<'a>,
-    format: OutputFormat,
-    resolver: FrameResolver<'a>,
-) -> SampleCounter<'a> {
-    let options = Options {
-        weight: format_weight(format, options.weight),
-        ..*options
-    };
-    SampleCounter::new(alloc, &options, format_detail(format), resolver)
-}
-
-// Writes the profile of an input: also of the samples before an error.
-fn fold_records<'a>(
+// Writes what was counted, unless there is a reason not to: also the samples before an error.
+fn write_read<'a>(
     rt: &HostRuntime,
     arguments: &Arguments<'a>,
     format: OutputFormat,
-    reader: PerfFileReader<Source>,
-    resolver: FrameResolver<'a>,
+    perf_file: &PerfFile,
+    counted: (CountedSamples<'a>, FrameResolver<'a>),
+    output: TextOutput<'a>,
+    read: Result<Result<(), InputError>, FoldError<'a>>,
 ) -> Result<(), FoldError<'a>> {
-    let mut perf_file = reader.perf_file;
-    let mut records = Records::new(rt.alloc(), &perf_file, reader.record_iter);
-    let mut counter = new_counter(rt.alloc(), &arguments.options, format, resolver);
-    let read = counter.add_all(&mut records, &mut perf_file);
-    let counted = counter.finish();
-    write_counted(rt, arguments, format, &perf_file, &counted)?;
-    print_notes(rt, NAME, &counted);
-    read?;
-    Ok(counted.check_event()?)
+    let (counted, mut resolver) = counted;
+    let read = read?;
+    let refused = refusal(rt.alloc(), perf_file, &counted, arguments, format);
+    let refused = refused.map_err(|_| InputError::OutOfMemory)?;
+    if counted.notes.lacks_cpu {
+        output.remove();
+        return Ok(read?);
+    }
+    if let Some(error) = resolver.take_kernel_list_error() {
+        output.remove();
+        return Err(error.into());
+    }
+    if let Some(reason) = refused {
+        output.remove();
+        read?;
+        return Err(FoldError::Refused(reason));
+    }
+    let written = match resolver.data.text() {
+        Some(text) => output.finish(text.as_slice()),
+        None => {
+            let bytes = profile_bytes(rt, arguments, format, perf_file, &counted, &resolver.data);
+            output.finish(bytes.map_err(|_| InputError::OutOfMemory)?.as_slice())
+        }
+    };
+    written.map_err(|error| output_error(arguments, error))?;
+    if !arguments.is_quiet {
+        print_messages(rt, NAME, perf_file, &counted, &resolver);
+    }
+    Ok(read?)
 }
 
 // Writes the profile of the input at a path.
 fn fold<'a>(
     rt: &'a HostRuntime,
     arguments: &Arguments<'a>,
+    filter: FilterOptions<'a>,
+    patterns: &'a FocusPatterns,
+    format: OutputFormat,
     path: &str,
 ) -> Result<(), FoldError<'a>> {
-    let format = output_format(rt, arguments);
-    let resolver = open_resolver(rt, &arguments.options, format)?;
-    let reader = open_input(rt, path)?;
-    fold_records(rt, arguments, format, reader, resolver)
+    let data = format.data(rt.alloc());
+    let resolver = FrameResolver::open(rt, &arguments.options.names, data)?;
+    let input = OpenInput::open_recording(rt, path)?;
+    let mut progress = Progress::start(rt, input.size).unless_quiet(arguments.is_quiet);
+    let Recording { reader, kind } = Recording::open(rt.alloc(), input)?;
+    let mut perf_file = reader.perf_file;
+    let mut records = RecordingRecords::new(rt.alloc(), kind, &perf_file, reader.record_iter);
+    let filter = recording_filter(filter, &perf_file)?;
+    let options = Options {
+        events: format.events(arguments.options.events),
+        weight: format.weight(arguments.options.weight),
+        ..arguments.options
+    };
+    let detail = format.detail(patterns.is_given());
+    let mut counter = SampleCounter::new(
+        rt.alloc(),
+        &perf_file,
+        &options,
+        detail,
+        resolver,
+        filter,
+        patterns,
+    )?;
+    let mut output = TextOutput::new(rt, arguments.output);
+    let read = add_all(
+        &mut counter,
+        &mut records,
+        &mut perf_file,
+        &mut output,
+        &mut progress,
+    );
+    progress.finish();
+    let read = match read {
+        Ok(read) => Ok(read.and_then(|records| kind.check_end(records))),
+        Err(error) => Err(output_error(arguments, error)),
+    };
+    match counter.finish(&perf_file) {
+        Ok(counted) => write_read(rt, arguments, format, &perf_file, counted, output, read),
+        Err(_) => Err(InputError::OutOfMemory.into()),
+    }
 }
 
-// Folds the input that the options name. Returns the exit status.
-fn run(rt: &HostRuntime, arguments: &Arguments<'_>) -> u8 {
-    if is_for_terminal(rt, arguments) {
-        let _ = eprintln!(rt; "{NAME}: a profile isn't written to a terminal: name a file with -o");
-        return USAGE_ERROR;
+// Prints that the arguments are invalid. Returns the exit status.
+fn print_usage_error(rt: &HostRuntime, text: &str) -> u8 {
+    let _ = eprintln!(rt; "{NAME}: {text}");
+    USAGE_ERROR
+}
+
+// Prints why options select nothing. Returns the exit status.
+fn print_selection_error(rt: &HostRuntime, error: SelectionError) -> u8 {
+    let hint = match error {
+        SelectionError::Pids => ": --by-pid adds the ids of processes to the names of threads",
+        SelectionError::Tids => ": --by-tid adds the ids of threads to their names",
+        _ => "",
+    };
+    let _ = eprintln!(rt; "{NAME}: {error}{hint}");
+    match error {
+        SelectionError::Memory => FAILURE,
+        _ => USAGE_ERROR,
     }
-    let path = input_path(rt, arguments.options.file);
-    match fold(rt, arguments, path) {
-        Ok(()) => SUCCESS,
-        Err(FoldError::Program(error)) => print_error(rt, NAME, display_name(path), &error),
-        Err(FoldError::File(PathError { path, error })) => {
+}
+
+// Parses the pattern that an option gives. Fails with the exit status.
+fn parse_pattern(
+    rt: &HostRuntime,
+    matches: &ArgMatches<'_>,
+    name: &str,
+) -> Result<Option<Regex>, u8> {
+    let Some(text) = matches.get_str(name) else {
+        return Ok(None);
+    };
+    match Regex::new(rt.alloc(), text) {
+        Ok(pattern) => Ok(Some(pattern)),
+        Err(_) => {
+            let _ = eprintln!(rt; "{NAME}: --{name}: not a regular expression: {text}");
+            Err(USAGE_ERROR)
+        }
+    }
+}
+
+// Parses what the arguments select. Fails with the exit status.
+fn parse_selection<'a>(rt: &HostRuntime, matches: &ArgMatches<'a>) -> Result<Selection<'a>, u8> {
+    let filter = match parse_filter(rt.alloc(), matches) {
+        Ok(filter) => filter,
+        Err(error) => return Err(print_selection_error(rt, error)),
+    };
+    let patterns = FocusPatterns {
+        focus: parse_pattern(rt, matches, FOCUS)?,
+        ignore: parse_pattern(rt, matches, IGNORE)?,
+    };
+    Ok(Selection { filter, patterns })
+}
+
+// Returns why the arguments can't be used with a format.
+fn format_error(
+    rt: &HostRuntime,
+    arguments: &Arguments<'_>,
+    format: OutputFormat,
+) -> Option<&'static str> {
+    let is_to_terminal = arguments.output.is_none() && rt.stdout().is_terminal();
+    if format == OutputFormat::Pprof && is_to_terminal {
+        return Some("a profile isn't written to a terminal: name a file with -o");
+    }
+    if arguments.min_share.is_none() {
+        return Some("--min-percent: not a number from 0 to 100");
+    }
+    None
+}
+
+// Prints why an input isn't folded. Returns the exit status.
+fn print_fold_error(rt: &HostRuntime, path: &str, error: FoldError<'_>) -> u8 {
+    match error {
+        FoldError::Program(error) => print_error(rt, NAME, display_name(path), &error),
+        FoldError::File(PathError { path, error }) => {
             print_error(rt, NAME, path, &ProgramError::Input(InputError::Io(error)))
+        }
+        FoldError::Refused(reason) => {
+            let reason = String::from_utf8(reason);
+            let reason = reason
+                .as_ref()
+                .map_or("no samples", |reason| reason.as_str());
+            let _ = eprintln!(rt; "{NAME}: {}: {reason}", display_name(path));
+            FAILURE
+        }
+    }
+}
+
+// The program.
+struct Perffold;
+
+impl Program for Perffold {
+    const NAME: &'static str = NAME;
+
+    fn command<'a>(alloc: Global) -> Result<Command<'a>, AllocError> {
+        command_with_options(alloc, NAME)
+    }
+
+    // Folds the input that the arguments name. Returns the exit status.
+    fn run(rt: &HostRuntime, matches: &ArgMatches<'_>) -> u8 {
+        let arguments = Arguments::new(matches);
+        let format = OutputFormat::from_arguments(rt, &arguments);
+        if let Some(error) = format_error(rt, &arguments, format) {
+            return print_usage_error(rt, error);
+        }
+        if let Some(option) = meaningless_option(matches, format) {
+            let _ = eprintln!(rt; "{NAME}: --{option} has no meaning for this format");
+            return USAGE_ERROR;
+        }
+        let Selection { filter, patterns } = match parse_selection(rt, matches) {
+            Ok(selection) => selection,
+            Err(status) => return status,
+        };
+        let path = input_path(rt, arguments.options.file);
+        match fold(rt, &arguments, filter, &patterns, format, path) {
+            Ok(()) => SUCCESS,
+            Err(error) => print_fold_error(rt, path, error),
         }
     }
 }
 
 fn main(rt: HostRuntime) -> ExitCode {
-    let status = match arguments(&rt) {
-        Ok(words) => match parse(rt.alloc(), NAME, &words) {
-            Ok(arguments) => run(&rt, &arguments),
-            Err(error) => print_clap_error(&rt, NAME, &error),
-        },
-        Err(error) => print_argument_error(&rt, NAME, &error),
-    };
-    ExitCode::from(status)
+    run_program::<Perffold>(&rt)
 }

@@ -1,10 +1,16 @@
 //! The program's command line.
 
-use crate::selection::Selection;
-use clap::{Arg, ArgAction, ArgMatches, Command, Error};
+use clap::{Arg, ArgMatches, Command, value_parser};
+use code_files::FileOptions;
 use demangle::Style;
-use perfdata_cli::command_line::{FILE, RECORDING_HELP, command};
+use perfdata_cli::arguments::{FILTERS, OptionText, input_argument, is_quiet};
+use perfdata_cli::command_line::{RECORDING_HELP, command};
+use perfdata_names::KernelList;
+use perfdata_overview::events::EventSelection;
+use perfdata_overview::weight::WeightKind;
 use perfdata_profile::options::ThreadIds;
+use perfdata_resolver::{NameKind, ResolverOptions};
+use perfdata_views::call_tree::MinShare;
 use std::alloc::{AllocError, Global};
 
 // What the program does.
@@ -20,9 +26,23 @@ const ALL_EVENTS: &str = "all-events";
 
 const WEIGHT: &str = "weight";
 
-const PID: &str = "pid";
+/// The option that leaves stacks with a frame that matches.
+pub(crate) const FOCUS: &str = "focus";
 
-const TID: &str = "tid";
+/// The option that leaves stacks without a frame that matches.
+pub(crate) const IGNORE: &str = "ignore";
+
+const ROWS: &str = "rows";
+
+// The options of patterns.
+const PATTERNS: [&str; 2] = [FOCUS, IGNORE];
+
+// The number of rows without the option.
+const DEFAULT_ROWS: usize = 30;
+
+const BY_PID: &str = "by-pid";
+
+const BY_TID: &str = "by-tid";
 
 const NO_SYMBOLS: &str = "no-symbols";
 
@@ -50,6 +70,8 @@ const FORMAT: &str = "format";
 
 const OUTPUT: &str = "output";
 
+const MIN_PERCENT: &str = "min-percent";
+
 // The values of the option of the weight.
 const PERIOD: &str = "period";
 
@@ -65,20 +87,13 @@ const PPROF: &str = "pprof";
 
 const HTML: &str = "html";
 
+const TREE: &str = "tree";
+
 const FRAMES: &str = "frames";
 
-const FORMATS: &[&str] = &["folded", SVG, PPROF, HTML, TOP, FRAMES];
+const SCRIPT: &str = "script";
 
-// An option of the command line.
-#[derive(Clone, Copy)]
-struct OptionText {
-    name: &'static str,
-    /// The name of its value, unless it is a flag.
-    value: Option<&'static str>,
-    /// The options that it can't be given with.
-    conflicts: &'static [&'static str],
-    help: &'static str,
-}
+const FORMATS: &[&str] = &["folded", SVG, PPROF, HTML, TOP, TREE, FRAMES, SCRIPT];
 
 // The options: of the output, of what is counted, of where symbols are, and of the names in lines.
 const OPTIONS: &[OptionText] = &[
@@ -94,8 +109,8 @@ const OPTIONS: &[OptionText] = &[
         conflicts: &[],
         help: concat!(
             "Write lines, a flame graph, a profile for pprof, a page that shows it, the functions ",
-            "with the most samples or the frames of each sample [default: top on a terminal, that ",
-            "of a FILE.svg, FILE.pb or FILE.html, else folded]"
+            "with the most samples, the call tree, the frames of each sample or the text of perf ",
+            "script [default: top on a terminal, that of a FILE.svg, FILE.pb or FILE.html, else folded]"
         ),
     },
     OptionText {
@@ -105,12 +120,21 @@ const OPTIONS: &[OptionText] = &[
         help: "Write FILE in place of standard output",
     },
     OptionText {
+        name: MIN_PERCENT,
+        value: Some("PERCENT"),
+        conflicts: &[],
+        help: concat!(
+            "Leave out of the call tree what has a smaller share of the samples ",
+            "[default: 0.5]"
+        ),
+    },
+    OptionText {
         name: EVENT,
         value: Some("EVENT"),
         conflicts: &[],
         help: concat!(
-            "Count the samples of the event with this name or index ",
-            "[default: that of the first sample]"
+            "Count the samples of the events with these names or indices, or of which these are ",
+            "patterns with * and ?, with commas between them [default: the first one that has samples]"
         ),
     },
     OptionText {
@@ -126,12 +150,30 @@ const OPTIONS: &[OptionText] = &[
         help: "What a sample counts: one, or its period",
     },
     OptionText {
+        name: FOCUS,
+        value: Some("REGEX"),
+        conflicts: &[],
+        help: "Select the samples with a frame whose function or file matches",
+    },
+    OptionText {
+        name: IGNORE,
+        value: Some("REGEX"),
+        conflicts: &[],
+        help: "Select the samples without a frame whose function or file matches",
+    },
+    OptionText {
+        name: ROWS,
+        value: Some("N"),
+        conflicts: &[],
+        help: "Write the first N rows of the table, or all if N is 0 [default: 30]",
+    },
+    OptionText {
         name: SYMFS,
         value: Some("DIR"),
         conflicts: &[],
         help: concat!(
             "Look for mapped files, debug files and perf-PID.map files below DIR, ",
-            "which no link may leave"
+            "which no link may leave, and in no cache"
         ),
     },
     OptionText {
@@ -146,7 +188,8 @@ const OPTIONS: &[OptionText] = &[
         conflicts: &[],
         help: concat!(
             "Name the kernel's functions by FILE, a copy of /proc/kallsyms, or by nothing if it is ",
-            "none [default: /proc/kallsyms if the running kernel is the recorded one]"
+            "none [default: that in perf's cache, or /proc/kallsyms if the running kernel is the ",
+            "recorded one]"
         ),
     },
     OptionText {
@@ -159,7 +202,7 @@ const OPTIONS: &[OptionText] = &[
         name: VDSO,
         value: Some("FILE"),
         conflicts: &[],
-        help: "Unwind the code that the kernel maps as [vdso] by FILE, a copy of it",
+        help: "Name and unwind the code that the kernel maps as [vdso] by FILE, a copy of it",
     },
     OptionText {
         name: NO_UNWIND,
@@ -168,13 +211,13 @@ const OPTIONS: &[OptionText] = &[
         help: "Don't unwind the stacks that samples have a copy of",
     },
     OptionText {
-        name: PID,
+        name: BY_PID,
         value: None,
         conflicts: &[],
         help: "Add the process id to the name of the thread",
     },
     OptionText {
-        name: TID,
+        name: BY_TID,
         value: None,
         conflicts: &[],
         help: "Add the process id and the thread id to the name of the thread",
@@ -205,26 +248,6 @@ const OPTIONS: &[OptionText] = &[
     },
 ];
 
-/// What a sample counts.
-#[derive(Clone, Copy, PartialEq, Eq)]
-pub(crate) enum WeightKind {
-    /// One.
-    Samples,
-    /// Its period.
-    Period,
-}
-
-/// Which name a frame has.
-#[derive(Clone, Copy, PartialEq, Eq)]
-pub(crate) enum NameKind {
-    /// The symbol, or the file where there is none.
-    Symbol,
-    /// The file.
-    File,
-    /// The address.
-    Address,
-}
-
 /// What is written.
 #[derive(Clone, Copy, PartialEq, Eq)]
 pub(crate) enum OutputFormat {
@@ -238,36 +261,12 @@ pub(crate) enum OutputFormat {
     Html,
     /// The table of the functions with the most samples.
     Top,
+    /// The call tree.
+    Tree,
     /// The frames of each sample.
     Frames,
-}
-
-/// Which list names the kernel's functions.
-#[derive(Clone, Copy)]
-pub(crate) enum KernelList<'a> {
-    /// That of a file.
-    File(&'a str),
-    /// That of the running kernel, if it is the recorded one.
-    Running,
-    /// None, as `--kallsyms` says.
-    Nothing,
-    /// None, since files are those of another machine.
-    OtherMachine,
-}
-
-/// Where symbols are.
-#[derive(Clone, Copy)]
-pub(crate) struct SymbolOptions<'a> {
-    /// The directory that precedes the paths of files.
-    pub(crate) symfs: Option<&'a str>,
-    /// The directory of debug files.
-    pub(crate) debug_dir: Option<&'a str>,
-    /// The kernel's list of symbols.
-    pub(crate) kernel_list: KernelList<'a>,
-    /// The directory of perf-PID.map files.
-    pub(crate) maps: Option<&'a str>,
-    /// The file of the code that the kernel gives to each process.
-    pub(crate) vdso: Option<&'a str>,
+    /// The text of `perf script`.
+    Script,
 }
 
 /// What the arguments select.
@@ -275,16 +274,12 @@ pub(crate) struct SymbolOptions<'a> {
 pub(crate) struct Options<'a> {
     /// The input, if one is named.
     pub(crate) file: Option<&'a str>,
-    pub(crate) selection: Selection<'a>,
+    pub(crate) events: EventSelection<'a>,
     pub(crate) weight: WeightKind,
     /// Which ids follow the name of a thread.
     pub(crate) thread_ids: ThreadIds,
-    pub(crate) name_kind: NameKind,
-    /// The style of the texts of mangled names, unless these stay.
-    pub(crate) demangling: Option<Style>,
-    pub(crate) symbols: SymbolOptions<'a>,
-    /// Whether samples with a copy of their stack are unwound.
-    pub(crate) unwinds: bool,
+    /// How frames are named.
+    pub(crate) names: ResolverOptions<'a>,
 }
 
 /// The arguments.
@@ -295,18 +290,14 @@ pub(crate) struct Arguments<'a> {
     pub(crate) format: Option<OutputFormat>,
     /// The file that is written instead of standard output.
     pub(crate) output: Option<&'a str>,
-}
-
-// Returns an option with its help, and the options that it can't be given with.
-fn argument(alloc: Global, option: &OptionText) -> Result<Arg<'static>, AllocError> {
-    let arg = Arg::new(alloc, option.name)
-        .long(option.name)
-        .help(option.help);
-    let arg = match option.value {
-        Some(value) => arg.value_name(value),
-        None => arg.action(ArgAction::SetTrue),
-    };
-    arg.conflicts_with_all(option.conflicts)
+    /// The number of rows of the table, if an argument says it.
+    pub(crate) rows: Option<usize>,
+    /// The options that select samples, if they are given.
+    pub(crate) filters: [Option<&'static str>; 7],
+    /// Whether no messages but errors are printed.
+    pub(crate) is_quiet: bool,
+    /// The least share of what a call tree has, unless the argument isn't one.
+    pub(crate) min_share: Option<MinShare>,
 }
 
 // Returns an option with the values that it can have, or with its short name.
@@ -314,33 +305,49 @@ fn with_values<'a>(name: &str, arg: Arg<'a>) -> Arg<'a> {
     match name {
         WEIGHT => arg.value_parser(WEIGHTS),
         FORMAT => arg.value_parser(FORMATS),
+        ROWS => arg.value_parser(value_parser!(usize)),
         OUTPUT => arg.short('o'),
         _ => arg,
     }
 }
 
-// Returns the command with its options.
-fn command_with_options<'a>(alloc: Global, name: &'a str) -> Result<Command<'a>, AllocError> {
+/// Returns the command with its options.
+pub(crate) fn command_with_options<'a>(
+    alloc: Global,
+    name: &'a str,
+) -> Result<Command<'a>, AllocError> {
     let mut command = command(alloc, name, ABOUT, RECORDING_HELP)?;
     for option in OPTIONS {
-        let arg = argument(alloc, option)?;
+        let arg = option.argument(alloc)?;
         command = command.arg(with_values(option.name, arg))?;
     }
     Ok(command)
 }
 
-// Returns which samples are counted.
-fn parse_selection<'a>(matches: &ArgMatches<'a>) -> Selection<'a> {
+// Parses which events are counted.
+fn parse_events<'a>(matches: &ArgMatches<'a>) -> EventSelection<'a> {
     if matches.get_flag(ALL_EVENTS) {
-        return Selection::All;
+        return EventSelection::All;
     }
     match matches.get_str(EVENT) {
-        Some(text) => Selection::from_text(text),
-        None => Selection::First,
+        Some(text) => EventSelection::Listed(text),
+        None => EventSelection::First,
     }
 }
 
-// Returns what a sample counts.
+// Returns the options that select samples, if they are given.
+fn given_filters(matches: &ArgMatches<'_>) -> [Option<&'static str>; 7] {
+    let mut given = [None; 7];
+    let names = FILTERS.iter().chain(PATTERNS.iter());
+    for (slot, name) in given.iter_mut().zip(names) {
+        if matches.get_str(*name).is_some() {
+            *slot = Some(*name);
+        }
+    }
+    given
+}
+
+// Parses what a sample counts.
 fn parse_weight(matches: &ArgMatches<'_>) -> WeightKind {
     match matches.get_str(WEIGHT) {
         Some(PERIOD) => WeightKind::Period,
@@ -348,18 +355,18 @@ fn parse_weight(matches: &ArgMatches<'_>) -> WeightKind {
     }
 }
 
-// Returns which ids follow the name of a thread.
+// Parses which ids follow the name of a thread.
 fn parse_thread_ids(matches: &ArgMatches<'_>) -> ThreadIds {
-    if matches.get_flag(TID) {
+    if matches.get_flag(BY_TID) {
         ThreadIds::Thread
-    } else if matches.get_flag(PID) {
+    } else if matches.get_flag(BY_PID) {
         ThreadIds::Process
     } else {
         ThreadIds::Nothing
     }
 }
 
-// Returns which name a frame has.
+// Parses which name a frame has.
 fn parse_name_kind(matches: &ArgMatches<'_>) -> NameKind {
     if matches.get_flag(RAW) {
         NameKind::Address
@@ -370,7 +377,7 @@ fn parse_name_kind(matches: &ArgMatches<'_>) -> NameKind {
     }
 }
 
-// Returns the style of the texts of mangled names, unless these stay.
+// Parses the style of the texts of mangled names, unless these stay.
 fn parse_demangling(matches: &ArgMatches<'_>) -> Option<Style> {
     if matches.get_flag(NO_DEMANGLE) {
         None
@@ -381,7 +388,7 @@ fn parse_demangling(matches: &ArgMatches<'_>) -> Option<Style> {
     }
 }
 
-// Returns which list names the kernel's functions.
+// Parses which list names the kernel's functions.
 fn parse_kernel_list<'a>(matches: &ArgMatches<'a>) -> KernelList<'a> {
     match (matches.get_str(KALLSYMS), matches.get_str(SYMFS)) {
         (Some(NO_LIST), _) => KernelList::Nothing,
@@ -391,18 +398,23 @@ fn parse_kernel_list<'a>(matches: &ArgMatches<'a>) -> KernelList<'a> {
     }
 }
 
-// Returns where symbols are.
-fn parse_symbols<'a>(matches: &ArgMatches<'a>) -> SymbolOptions<'a> {
-    SymbolOptions {
-        symfs: matches.get_str(SYMFS),
-        debug_dir: matches.get_str(DEBUG_DIR),
+// Parses how frames are named.
+fn parse_names<'a>(matches: &ArgMatches<'a>) -> ResolverOptions<'a> {
+    ResolverOptions {
+        name_kind: parse_name_kind(matches),
+        demangling: parse_demangling(matches),
+        unwinds: !matches.get_flag(NO_UNWIND),
+        files: FileOptions {
+            symfs: matches.get_str(SYMFS),
+            debug_dir: matches.get_str(DEBUG_DIR),
+            maps: matches.get_str(MAPS),
+            vdso: matches.get_str(VDSO),
+        },
         kernel_list: parse_kernel_list(matches),
-        maps: matches.get_str(MAPS),
-        vdso: matches.get_str(VDSO),
     }
 }
 
-// Returns what is written, if an argument says so.
+// Parses what is written, if an argument says so.
 fn parse_format(matches: &ArgMatches<'_>) -> Option<OutputFormat> {
     if matches.get_flag(SVG) {
         return Some(OutputFormat::Svg);
@@ -412,35 +424,68 @@ fn parse_format(matches: &ArgMatches<'_>) -> Option<OutputFormat> {
         PPROF => Some(OutputFormat::Pprof),
         HTML => Some(OutputFormat::Html),
         TOP => Some(OutputFormat::Top),
+        TREE => Some(OutputFormat::Tree),
         FRAMES => Some(OutputFormat::Frames),
+        SCRIPT => Some(OutputFormat::Script),
         _ => Some(OutputFormat::Lines),
     }
 }
 
-// Returns what the arguments select.
-fn parse_options<'a>(matches: &ArgMatches<'a>) -> Options<'a> {
-    Options {
-        file: matches.get_str(FILE),
-        selection: parse_selection(matches),
-        weight: parse_weight(matches),
-        thread_ids: parse_thread_ids(matches),
-        name_kind: parse_name_kind(matches),
-        demangling: parse_demangling(matches),
-        symbols: parse_symbols(matches),
-        unwinds: !matches.get_flag(NO_UNWIND),
+/// Returns the option that has no meaning for a format, if such an option is given.
+pub(crate) fn meaningless_option(
+    matches: &ArgMatches<'_>,
+    format: OutputFormat,
+) -> Option<&'static str> {
+    if format != OutputFormat::Tree && matches.get_str(MIN_PERCENT).is_some() {
+        return Some(MIN_PERCENT);
+    }
+    if format != OutputFormat::Top && matches.get_one::<usize>(ROWS).is_some() {
+        return Some(ROWS);
+    }
+    if format != OutputFormat::Script {
+        return None;
+    }
+    if matches.get_str(WEIGHT).is_some() {
+        return Some(WEIGHT);
+    }
+    let mut flags = [RAW, NO_SYMBOLS, BY_PID, BY_TID].iter().copied();
+    flags.find(|name| matches.get_flag(*name))
+}
+
+// Parses the least share of what a call tree has.
+fn parse_min_share(matches: &ArgMatches<'_>) -> Option<MinShare> {
+    match matches.get_str(MIN_PERCENT) {
+        Some(text) => MinShare::parse(text),
+        None => Some(MinShare::DEFAULT),
     }
 }
 
-/// Parses the arguments, of which the first is the program's name.
-pub(crate) fn parse<'a>(
-    alloc: Global,
-    name: &'a str,
-    words: &'a [String],
-) -> Result<Arguments<'a>, Error> {
-    let matches = command_with_options(alloc, name)?.try_get_matches_from(words)?;
-    Ok(Arguments {
-        options: parse_options(&matches),
-        format: parse_format(&matches),
-        output: matches.get_str(OUTPUT),
-    })
+impl<'a> Arguments<'a> {
+    /// Returns what parsed arguments select.
+    pub(crate) fn new(matches: &ArgMatches<'a>) -> Arguments<'a> {
+        Arguments {
+            options: Options {
+                file: input_argument(matches),
+                events: parse_events(matches),
+                weight: parse_weight(matches),
+                thread_ids: parse_thread_ids(matches),
+                names: parse_names(matches),
+            },
+            format: parse_format(matches),
+            output: matches.get_str(OUTPUT),
+            rows: matches.get_one::<usize>(ROWS),
+            filters: given_filters(matches),
+            is_quiet: is_quiet(matches),
+            min_share: parse_min_share(matches),
+        }
+    }
+
+    /// Returns the number of rows of the table, if not all are shown.
+    pub(crate) fn shown_rows(&self) -> Option<usize> {
+        match self.rows {
+            Some(0) => None,
+            Some(rows) => Some(rows),
+            None => Some(DEFAULT_ROWS),
+        }
+    }
 }

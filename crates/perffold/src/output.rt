@@ -1,23 +1,29 @@
-//! Writes a profile, and what isn't in it on standard error.
+//! Writes a profile.
 
 use crate::counter::CountedSamples;
-use crate::flame::write_svg;
-use crate::lines::write_lines;
-use crate::options::{Arguments, OutputFormat, WeightKind};
+use crate::options::{Arguments, OutputFormat};
 use crate::pprof_output::{ProfileInput, write_page, write_pprof};
-use crate::resolver::function_kinds::FunctionKinds;
-use crate::symbols::FileCounts;
-use crate::symbols::directories::PathError;
-use crate::title::graph_title;
-use crate::top::write_top;
-use crate::unwinding::EndCounts;
+use code_files::PathError;
 use linux_perf_data::PerfFile;
 use perfdata_cli::error::{InputError, ProgramError};
+use perfdata_overview::events::EventSelection;
+use perfdata_overview::overview::{Overview, missing_samples};
+use perfdata_overview::weight::WeightKind;
+use perfdata_profile::function_kinds::FunctionKinds;
+use perfdata_profile::mapping_order::MappingOrder;
 use perfdata_profile::options::Detail;
-use perfdata_stacks::flame::svg::Caption;
-use std::fs::File;
-use std::io::{BufWriter, IsTerminal, Write};
-use std::{fs, io};
+use perfdata_resolver::{FormatData, FrameListing, ScriptListing};
+use perfdata_views::call_tree::{MinShare, TreeOptions, write_call_tree};
+use perfdata_views::flame::svg::{Caption, write_svg};
+use perfdata_views::lines::write_lines;
+use perfdata_views::pprof_profile::PageCaption;
+use perfdata_views::top::{TableOptions, write_top};
+use std::alloc::{AllocError, Global};
+use std::io::{IsTerminal, Write};
+use std::{env, io};
+
+// The width of a terminal that doesn't say it.
+const TERMINAL_WIDTH: usize = 80;
 
 // The format of files by the end of their names.
 const FORMATS: [(&str, OutputFormat); 3] = [
@@ -33,6 +39,14 @@ pub(crate) enum FoldError<'a> {
     Program(ProgramError),
     /// A file of the command line can't be read or written.
     File(PathError<'a>),
+    /// Nothing is written, for a reason.
+    Refused(Vec<u8>),
+}
+
+impl<'a> From<AllocError> for FoldError<'a> {
+    fn from(_: AllocError) -> FoldError<'a> {
+        InputError::OutOfMemory.into()
+    }
 }
 
 impl<'a> From<InputError> for FoldError<'a> {
@@ -47,228 +61,195 @@ impl<'a> From<PathError<'a>> for FoldError<'a> {
     }
 }
 
-// What is written: a profile in a format, and what a picture says of itself.
+// A profile in a format, and what it says of its recording.
 #[derive(Clone, Copy)]
 struct FoldResult<'a> {
     format: OutputFormat,
     recorded: ProfileInput<'a>,
-    caption: Caption<'a>,
-    /// What code functions are, if it is shown.
-    function_kinds: Option<&'a FunctionKinds>,
-    /// The lines of the frames of each sample, if they are written.
-    frames: &'a [u8],
+    overview: &'a Overview,
+    arguments: &'a Arguments<'a>,
 }
 
-// Returns what weights count.
-fn weight_unit(weight: WeightKind) -> &'static str {
-    match weight {
-        WeightKind::Samples => "samples",
-        WeightKind::Period => "events",
+impl OutputFormat {
+    /// Returns what is written.
+    pub(crate) fn from_arguments(rt: &HostRuntime, arguments: &Arguments<'_>) -> OutputFormat {
+        match (arguments.format, arguments.output) {
+            (Some(format), _) => format,
+            (None, Some(path)) => {
+                let mut formats = FORMATS.iter();
+                let found = formats.find(|(suffix, _)| path.ends_with(*suffix));
+                found.map_or(OutputFormat::Lines, |(_, format)| *format)
+            }
+            (None, None) if rt.stdout().is_terminal() => OutputFormat::Top,
+            (None, None) => OutputFormat::Lines,
+        }
     }
-}
 
-// Returns the format of a file by the end of its name.
-fn file_format(path: &str) -> OutputFormat {
-    match FORMATS.iter().find(|(suffix, _)| path.ends_with(*suffix)) {
-        Some((_, format)) => *format,
-        None => OutputFormat::Lines,
+    // Returns whether the format is that of a profile for pprof.
+    fn is_profile(self) -> bool {
+        matches!(self, OutputFormat::Pprof | OutputFormat::Html)
     }
-}
 
-/// Returns what is written.
-pub(crate) fn output_format(rt: &HostRuntime, arguments: &Arguments<'_>) -> OutputFormat {
-    match (arguments.format, arguments.output) {
-        (Some(format), _) => format,
-        (None, Some(path)) => file_format(path),
-        (None, None) if rt.stdout().is_terminal() => OutputFormat::Top,
-        (None, None) => OutputFormat::Lines,
+    /// Returns what a sample counts.
+    pub(crate) fn weight(self, weight: WeightKind) -> WeightKind {
+        if self.is_profile() {
+            WeightKind::Period
+        } else {
+            weight
+        }
     }
-}
 
-/// Returns whether a profile for pprof is to be written to a terminal.
-pub(crate) fn is_for_terminal(rt: &HostRuntime, arguments: &Arguments<'_>) -> bool {
-    arguments.output.is_none()
-        && output_format(rt, arguments) == OutputFormat::Pprof
-        && rt.stdout().is_terminal()
-}
-
-/// Returns what a sample counts in a format.
-pub(crate) fn format_weight(format: OutputFormat, weight: WeightKind) -> WeightKind {
-    match format {
-        OutputFormat::Pprof | OutputFormat::Html => WeightKind::Period,
-        OutputFormat::Lines | OutputFormat::Svg | OutputFormat::Top | OutputFormat::Frames =>
-            weight,
+    /// Returns which events are selected. The text of `perf script` has the samples of all by default.
+    pub(crate) fn events<'a>(self, events: EventSelection<'a>) -> EventSelection<'a> {
+        match (self, events) {
+            (OutputFormat::Script, EventSelection::First) => EventSelection::All,
+            _ => events,
+        }
     }
-}
 
-/// Returns what the locations of a profile have that is written in a format.
-pub(crate) fn format_detail(format: OutputFormat) -> Detail {
-    match format {
-        OutputFormat::Pprof | OutputFormat::Html => Detail::Locations,
-        OutputFormat::Lines | OutputFormat::Svg | OutputFormat::Top | OutputFormat::Frames => {
+    /// Returns what the locations of the profile have. Stacks are selected by the files of their frames too.
+    pub(crate) fn detail(self, selects_stacks: bool) -> Detail {
+        if self.is_profile() || selects_stacks {
+            Detail::Locations
+        } else {
             Detail::Functions
         }
     }
+
+    /// Returns what is needed beside names, before the first sample.
+    pub(crate) fn data(self, alloc: Global) -> FormatData {
+        match self {
+            OutputFormat::Frames => FormatData::Listing(FrameListing::new(alloc)),
+            OutputFormat::Pprof | OutputFormat::Html => {
+                FormatData::Mappings(MappingOrder::new(alloc))
+            }
+            OutputFormat::Svg => FormatData::Kinds(FunctionKinds::new(alloc)),
+            OutputFormat::Top => FormatData::Files,
+            OutputFormat::Lines | OutputFormat::Tree => FormatData::Nothing,
+            OutputFormat::Script => FormatData::Script(ScriptListing::new(alloc)),
+        }
+    }
+}
+
+// Returns the width of the terminal, if that is the output. One that isn't known is 80.
+fn line_width(rt: &HostRuntime, arguments: &Arguments<'_>) -> Option<usize> {
+    if arguments.output.is_some() || !rt.stdout().is_terminal() {
+        return None;
+    }
+    match env::var(rt, "COLUMNS") {
+        Ok(text) => text.as_str().parse::<usize>().ok().or(Some(TERMINAL_WIDTH)),
+        Err(_) => Some(TERMINAL_WIDTH),
+    }
+}
+
+// Writes a table.
+fn write_table<W: Write>(
+    rt: &HostRuntime,
+    folded: FoldResult<'_>,
+    unit: &str,
+    out: &mut W,
+) -> io::Result<()> {
+    let options = TableOptions {
+        heading: folded.overview.heading.as_slice(),
+        unit,
+        rows: folded.arguments.shown_rows(),
+        width: line_width(rt, folded.arguments),
+    };
+    write_top(rt.alloc(), &folded.recorded.counted.profile, options, out)
 }
 
 // Writes a profile.
 fn write_profile<W: Write>(
     rt: &HostRuntime,
-    outcome: FoldResult<'_>,
+    folded: FoldResult<'_>,
     out: &mut W,
 ) -> io::Result<()> {
     let alloc = rt.alloc();
     let FoldResult {
         format,
         recorded,
-        caption,
-        function_kinds,
-        frames,
-    } = outcome;
-    let profile = recorded.profile;
-    match format {
-        OutputFormat::Lines => write_lines(alloc, profile, out)?,
-        OutputFormat::Svg => write_svg(alloc, profile, function_kinds, caption, out)?,
-        OutputFormat::Pprof => write_pprof(alloc, recorded, out)?,
-        OutputFormat::Html => write_page(alloc, recorded, out)?,
-        OutputFormat::Top => write_top(alloc, profile, caption.unit, out)?,
-        OutputFormat::Frames => out.write_all(frames)?,
+        overview,
+        arguments,
+    } = folded;
+    let profile = &recorded.counted.profile;
+    let unit = arguments.options.weight.unit();
+    let caption = Caption {
+        title: overview.heading.as_slice(),
+        unit,
+    };
+    let page_caption = PageCaption {
+        title: overview.title.as_slice(),
+        heading: overview.heading.as_slice(),
+    };
+    match (format, recorded.data) {
+        (OutputFormat::Svg, FormatData::Kinds(kinds)) => {
+            write_svg(alloc, profile, Some(kinds), caption, out)?
+        }
+        (OutputFormat::Svg, _) => write_svg(alloc, profile, None, caption, out)?,
+        (OutputFormat::Frames | OutputFormat::Script, _) => {}
+        (OutputFormat::Tree, _) => {
+            let options = TreeOptions {
+                heading: overview.heading.as_slice(),
+                min_share: arguments.min_share.unwrap_or(MinShare::DEFAULT),
+                width: line_width(rt, arguments),
+            };
+            write_call_tree(alloc, profile, options, out)?
+        }
+        (OutputFormat::Lines, _) => write_lines(alloc, profile, out)?,
+        (OutputFormat::Pprof, _) => write_pprof(alloc, recorded, out)?,
+        (OutputFormat::Html, _) => write_page(alloc, recorded, page_caption, out)?,
+        (OutputFormat::Top, _) => write_table(rt, folded, unit, out)?,
     }
-    out.flush()
+    Ok(())
 }
 
-// Writes standard output.
-fn write_stdout(rt: &HostRuntime, outcome: FoldResult<'_>) -> io::Result<()> {
-    let mut out = BufWriter::new(rt.alloc(), rt.stdout())?;
-    write_profile(rt, outcome, &mut out)
-}
-
-// Writes a file, which then replaces the one at a path.
-fn write_file(rt: &HostRuntime, part: &str, path: &str, outcome: FoldResult<'_>) -> io::Result<()> {
-    let mut out = BufWriter::new(rt.alloc(), File::create(rt, part)?)?;
-    write_profile(rt, outcome, &mut out)?;
-    fs::rename(rt, part, path)
-}
-
-// Writes the file at a path: first one beside it, so that it is either as before or whole.
-fn replace_file(rt: &HostRuntime, path: &str, outcome: FoldResult<'_>) -> io::Result<()> {
-    let part = format!(in rt.alloc(); "{path}.part")?;
-    let written = write_file(rt, part.as_str(), path, outcome);
-    if written.is_err() {
-        let _ = fs::remove_file(rt, part.as_str());
+/// Returns why nothing is written: an event isn't there, no sample was counted, or weights have no sum.
+pub(crate) fn refusal(
+    alloc: Global,
+    perf_file: &PerfFile,
+    counted: &CountedSamples<'_>,
+    arguments: &Arguments<'_>,
+    format: OutputFormat,
+) -> io::Result<Option<Vec<u8>>> {
+    let filters = arguments.filters.as_slice();
+    let missing = missing_samples(alloc, counted.counted_events(perf_file), filters)?;
+    let has_sum = !matches!(format, OutputFormat::Top | OutputFormat::Tree)
+        || arguments.options.weight == WeightKind::Samples
+        || !counted.events.has_several_names();
+    if missing.is_some() || has_sum {
+        return Ok(missing);
     }
-    written
+    let reason = b"the periods of several events have no sum: choose one with --event";
+    Ok(Some(reason.to_vec(alloc)?))
 }
 
-// Writes standard output, or the file that the command line names.
-fn write_outcome<'a>(
+/// Returns the bytes of what was counted in a format.
+pub(crate) fn profile_bytes(
     rt: &HostRuntime,
-    path: Option<&'a str>,
-    outcome: FoldResult<'_>,
-) -> Result<(), FoldError<'a>> {
-    match path {
-        Some(path) => replace_file(rt, path, outcome).map_err(|error| FoldError::File(PathError {
-            path,
-            error,
-        })),
-        None => write_stdout(rt, outcome).map_err(|error| FoldError::Program(ProgramError::Output(
-            error,
-        ))),
-    }
-}
-
-/// Writes what was counted.
-pub(crate) fn write_counted<'a>(
-    rt: &HostRuntime,
-    arguments: &Arguments<'a>,
+    arguments: &Arguments<'_>,
     format: OutputFormat,
     perf_file: &PerfFile,
     counted: &CountedSamples<'_>,
-) -> Result<(), FoldError<'a>> {
-    let profile = &counted.profile;
-    let unit = weight_unit(arguments.options.weight);
-    let total = profile.sums.total().weight;
-    let title = graph_title(rt.alloc(), perf_file, counted.selection, total, unit);
-    let title = title.map_err(|error| FoldError::Program(ProgramError::Output(error)))?;
-    let caption = Caption {
-        title: title.as_slice(),
-        unit,
-    };
+    data: &FormatData,
+) -> io::Result<Vec<u8>> {
+    let shows_first = format == OutputFormat::Html
+        && counted.events.selection() == EventSelection::All
+        && counted.events.counted(true).samples != 0;
+    let overview = Overview::new(rt.alloc(), counted.counted_events(perf_file), shows_first)?;
     let recorded = ProfileInput {
         perf_file,
-        profile,
-        files: counted.resolver.files(),
-        sample_summary: counted.sample_summary,
+        counted,
+        data,
+        command_line: overview.command_line.as_slice(),
         shows_weights: arguments.options.weight == WeightKind::Period,
     };
-    let outcome = FoldResult {
+    let folded = FoldResult {
         format,
         recorded,
-        caption,
-        function_kinds: counted.resolver.function_kinds(),
-        frames: counted.resolver.listed_frames(),
+        overview: &overview,
+        arguments,
     };
-    write_outcome(rt, arguments.output, outcome)
-}
-
-// Writes on standard error how many files with symbols weren't used, compared or read, if there are any.
-fn print_file_counts(rt: &HostRuntime, name: &str, counts: FileCounts) {
-    let FileCounts {
-        different,
-        unknown,
-        unreadable,
-    } = counts;
-    if different != 0 || unknown != 0 {
-        let _ = eprintln!(rt;
-            "{name}: {different} files differ from the recorded ones, {unknown} have no build id to compare"
-        );
-    }
-    if unreadable != 0 {
-        let _ = eprintln!(rt; "{name}: {unreadable} files with symbols can't be read");
-    }
-}
-
-// Writes on standard error how the chains of unwound samples end, if there are any.
-fn print_end_counts(rt: &HostRuntime, name: &str, counts: EndCounts) {
-    let EndCounts {
-        complete,
-        truncated,
-        lacking,
-    } = counts;
-    let total = counts.total();
-    if total == 0 {
-        return;
-    }
-    let _ = eprint!(rt; "{name}: Unwound {total} samples: {complete} to their first function");
-    if truncated != 0 {
-        let _ = eprint!(rt;
-            "; {truncated} end with the copy (record with a larger --call-graph dwarf,SIZE)"
-        );
-    }
-    if lacking != 0 {
-        let _ = eprint!(rt; "; {lacking} for lack of call frame information");
-    }
-    let _ = eprintln!(rt; ".");
-}
-
-/// Writes on standard error which samples aren't counted, and which names are missing.
-pub(crate) fn print_notes(rt: &HostRuntime, name: &str, counted: &CountedSamples<'_>) {
-    let (others, undecoded) = (counted.other_events, counted.undecoded);
-    if others != 0 {
-        let _ = eprintln!(rt; "{name}: {others} samples of other events aren't counted");
-    }
-    if undecoded != 0 {
-        let _ = eprintln!(rt;
-            "{name}: {undecoded} samples can't be decoded: their fields aren't known"
-        );
-    }
-    if let Some(counts) = counted.resolver.end_counts() {
-        print_end_counts(rt, name, counts);
-    }
-    if let Some(why) = counted.resolver.missing_kernel_list() {
-        let _ = eprintln!(rt; "{name}: functions of the kernel have no names: {why}");
-    }
-    if let Some(counts) = counted.resolver.file_counts() {
-        print_file_counts(rt, name, counts);
-    }
+    let mut bytes = Vec::new(rt.alloc());
+    write_profile(rt, folded, &mut bytes)?;
+    Ok(bytes)
 }

@@ -1,85 +1,79 @@
 //! The profile that pprof reads, and the page that shows it.
 
-mod convert;
-
-use crate::resolver::mapped_files::MappedFiles;
-use crate::sample_summary::SampleSummary;
-use convert::{COUNT, Column, Description, SAMPLES, convert};
-use linux_perf_data::attr::PerfEventAttr;
-use linux_perf_data::{AttributeDescription, PerfFile};
-use perfdata_profile::profile::Profile;
-use pprof::encode::encode;
-use pprof::html::profile_page;
+use crate::counter::CountedSamples;
+use linux_perf_data::PerfFile;
+use perfdata_overview::events::{counts_time, push_event_name};
+use perfdata_resolver::FormatData;
+use perfdata_views::pprof_profile;
+use perfdata_views::pprof_profile::{
+    COUNT, Column, Description, PageCaption, ProgramFile, SAMPLES,
+};
 use std::alloc::{AllocError, Global};
 use std::io;
 use std::io::Write;
 
-// The type of the events that software counts (`PERF_TYPE_SOFTWARE`).
-const SOFTWARE: u32 = 1;
-
-// The last of the clocks among them: `PERF_COUNT_SW_CPU_CLOCK` is 0, `PERF_COUNT_SW_TASK_CLOCK` is 1.
-const TASK_CLOCK: u64 = 1;
-
-/// What is written: a profile, and what its tables don't say.
+/// What is written: what was counted, and what the recording says of itself.
 #[derive(Clone, Copy)]
 pub(crate) struct ProfileInput<'a> {
     pub(crate) perf_file: &'a PerfFile,
-    pub(crate) profile: &'a Profile,
-    /// What the profile says of mapped files, if it does.
-    pub(crate) files: Option<&'a MappedFiles>,
-    pub(crate) sample_summary: SampleSummary,
+    pub(crate) counted: &'a CountedSamples<'a>,
+    /// What the format needs beside names.
+    pub(crate) data: &'a FormatData,
+    /// The recorded command line.
+    pub(crate) command_line: &'a [u8],
     /// Whether the weights of samples are shown first, and not their number.
     pub(crate) shows_weights: bool,
 }
 
-// Returns the unit of the period of an event.
-fn period_unit(attr: &PerfEventAttr) -> &'static str {
-    if attr.type_ == SOFTWARE && attr.config <= TASK_CLOCK {
-        "nanoseconds"
-    } else {
-        COUNT
-    }
-}
-
-// Returns the column of the event with an index. One without a name of its own is called by its index.
-fn event_column(
-    alloc: Global,
-    index: usize,
-    event: &AttributeDescription,
-) -> Result<Column, AllocError> {
-    let mut name = Vec::new(alloc);
-    match event.name() {
-        Some(text) if !text.is_empty() && text != SAMPLES => {
-            name.extend_from_slice(text.as_bytes())?;
-        }
-        _ => write!(name, "event {index}").map_err(|_| AllocError)?,
-    }
-    Ok(Column {
-        name,
-        unit: period_unit(event.attributes()),
-    })
-}
-
-// Returns the column of each event.
+// Returns the column of each event. The name of one is another than that of the number of samples.
 fn event_columns(alloc: Global, perf_file: &PerfFile) -> Result<Vec<Column>, AllocError> {
     let mut columns = Vec::new(alloc);
     for (index, event) in perf_file.event_attributes().iter().enumerate() {
-        columns.push(event_column(alloc, index, event)?)?;
+        let mut name = Vec::new(alloc);
+        push_event_name(&mut name, perf_file, index)?;
+        if name.as_slice() == SAMPLES.as_bytes() {
+            name.clear();
+            write!(name, "event {index}").map_err(|_| AllocError)?;
+        }
+        let unit = match counts_time(event.attributes()) {
+            true => "nanoseconds",
+            false => COUNT,
+        };
+        columns.push(Column { name, unit })?;
     }
     Ok(columns)
 }
 
-// Returns the bytes of a profile.
-fn profile_bytes(alloc: Global, recorded: ProfileInput<'_>) -> Result<Vec<u8>, AllocError> {
-    let columns = event_columns(alloc, recorded.perf_file)?;
-    let description = Description {
-        columns: columns.as_slice(),
-        files: recorded.files,
-        shows_weights: recorded.shows_weights,
-        duration: recorded.sample_summary.duration(),
-        period: recorded.sample_summary.weight(),
-    };
-    encode(alloc, &convert(alloc, recorded.profile, description)?)
+impl<'a> ProfileInput<'a> {
+    // Returns the file of the program that was executed, if it is known.
+    fn program(&self) -> Option<ProgramFile<'a>> {
+        let file = self.counted.main_file.as_ref()?;
+        Some(ProgramFile {
+            start: file.start,
+            end: file.end,
+            page_offset: file.page_offset,
+            path: file.path.as_slice(),
+            build_id: file.build_id.as_slice(),
+        })
+    }
+
+    // Returns what the tables of the profile don't say.
+    fn description(&self, columns: &'a [Column]) -> Description<'a> {
+        let summary = self.counted.events.counted(false);
+        Description {
+            columns,
+            files: match self.data {
+                FormatData::Mappings(order) => Some(order),
+                _ => None,
+            },
+            shows_weights: self.shows_weights,
+            duration: summary.duration(),
+            period: summary.weight(),
+            first_column: self.counted.events.first_counted(),
+            program: self.program(),
+            command_line: self.command_line,
+        }
+    }
 }
 
 /// Writes a profile that pprof reads.
@@ -88,15 +82,19 @@ pub(crate) fn write_pprof<W: Write>(
     recorded: ProfileInput<'_>,
     out: &mut W,
 ) -> io::Result<()> {
-    out.write_all(profile_bytes(alloc, recorded)?.as_slice())
+    let columns = event_columns(alloc, recorded.perf_file)?;
+    let description = recorded.description(columns.as_slice());
+    pprof_profile::write_pprof(alloc, &recorded.counted.profile, description, out)
 }
 
 /// Writes a page that shows a profile.
 pub(crate) fn write_page<W: Write>(
     alloc: Global,
     recorded: ProfileInput<'_>,
+    caption: PageCaption<'_>,
     out: &mut W,
 ) -> io::Result<()> {
-    let bytes = profile_bytes(alloc, recorded)?;
-    out.write_all(profile_page(alloc, bytes.as_slice())?.as_bytes())
+    let columns = event_columns(alloc, recorded.perf_file)?;
+    let description = recorded.description(columns.as_slice());
+    pprof_profile::write_page(alloc, &recorded.counted.profile, description, caption, out)
 }

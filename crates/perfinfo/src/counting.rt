@@ -1,9 +1,13 @@
-//! Counts by key, counts of records by type, and copies of bytes that are keys.
+//! Counts by key and their order, counts of records by type, and copies of bytes that are keys.
 use crate::names::RecordTypes;
 use crate::report::{Named, Report};
 use linux_perf_data::raw::RawData;
 use std::alloc::{AllocError, Global};
+use std::cmp::Reverse;
 use std::collections::BTreeMap;
+
+/// A key and its count.
+pub(crate) type CountOf<'a, K> = (&'a K, &'a u64);
 
 /// Adds one to the count of a key.
 pub(crate) fn count_one<K: Ord + Drop>(
@@ -17,6 +21,21 @@ pub(crate) fn count_one<K: Ord + Drop>(
         }
     }
     Ok(())
+}
+
+// The key of an entry that orders entries by decreasing count.
+fn most_first<K>(entry: &CountOf<'_, K>) -> Reverse<u64> {
+    Reverse(*entry.1)
+}
+
+/// Returns the counts, ordered by decreasing count and then by key.
+pub(crate) fn ranked<K: Ord>(
+    alloc: Global,
+    counts: &BTreeMap<K, u64>,
+) -> Result<Vec<CountOf<'_, K>>, AllocError> {
+    let mut entries: Vec<CountOf<'_, K>> = counts.iter().collect(alloc)?;
+    entries.sort_by_key(most_first)?;
+    Ok(entries)
 }
 
 /// Writes the number of records of each type.

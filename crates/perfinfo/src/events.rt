@@ -7,14 +7,16 @@ use bitflags::Flags;
 use linux_perf_data::attr::PerfEventAttr;
 use linux_perf_data::{AttributeDescription, PerfFile};
 use perfdata_events::sample_bits::{EventFlags, ReadFields, SampleFields};
+use perfdata_overview::event_name::event_name;
 use std::fmt;
 use std::fmt::{Display, Write};
 
 /// Writes one item for each event, with the fields of its attribute, its ids and its counts.
-pub(crate) fn show(perf_file: &PerfFile, counts: &RecordCounts, report: &mut Report) {
+pub(crate) fn show(perf_file: &PerfFile, counts: &RecordCounts<'_>, report: &mut Report) {
     report.number("events", perf_file.event_attributes().len() as u64);
     for (index, event) in perf_file.event_attributes().iter().enumerate() {
-        show_event(index, event, counts.event_counts(index), report);
+        let flags = EventFlags::from_attribute(event.attributes(), perf_file.endian());
+        show_event(index, event, flags, counts.event_counts(index), report);
     }
 }
 
@@ -22,22 +24,23 @@ pub(crate) fn show(perf_file: &PerfFile, counts: &RecordCounts, report: &mut Rep
 fn show_event(
     index: usize,
     event: &AttributeDescription,
+    flags: EventFlags,
     counts: EventCounts,
     report: &mut Report,
 ) {
-    let name = event.name().unwrap_or("unnamed");
+    let name = event_name(event).unwrap_or("unnamed");
     report.item(Spaced("event", index), Escaped(name.as_bytes()));
-    show_attr(event.attributes(), report);
+    show_attr(event.attributes(), flags, report);
     report.detail("ids", IdList(event.ids()));
     show_counts(counts, report);
 }
 
 // Writes the fields of an attribute.
-fn show_attr(attr: &PerfEventAttr, report: &mut Report) {
+fn show_attr(attr: &PerfEventAttr, flags: EventFlags, report: &mut Report) {
     report.detail("type", event_type_name(attr.type_));
     report.number_detail("type number", attr.type_ as u64);
     report.number_detail("config", attr.config);
-    report.number_detail(period_name(attr), attr.period_or_freq);
+    report.number_detail(period_name(flags), attr.period_or_freq);
     show_flags(
         "sample format",
         SampleFields(attr.sample_format.0),
@@ -45,12 +48,12 @@ fn show_attr(attr: &PerfEventAttr, report: &mut Report) {
         report,
     );
     show_flags("read format", ReadFields(attr.read_format), false, report);
-    show_flags("flags", EventFlags(attr.flags.0), true, report);
+    show_flags("flags", flags, true, report);
 }
 
 // Returns the name of `period_or_freq`.
-fn period_name(attr: &PerfEventAttr) -> &'static str {
-    if EventFlags(attr.flags.0).contains(EventFlags::FREQ) {
+fn period_name(flags: EventFlags) -> &'static str {
+    if flags.contains(EventFlags::FREQ) {
         "frequency"
     } else {
         "period"

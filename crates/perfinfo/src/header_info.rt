@@ -2,6 +2,7 @@
 use crate::escaped_text::Escaped;
 use crate::names::clock_name;
 use crate::report::Report;
+use crate::times::Duration;
 use linux_perf_data::feature_sections::PmuMappings;
 use linux_perf_data::{Endianness, Error, PerfFile};
 use std::alloc::Global;
@@ -58,9 +59,9 @@ fn show_command_line(alloc: Global, perf_file: &PerfFile, report: &mut Report) {
     }
 }
 
-// Displays the arguments of a command line, with spaces between them.
+/// Displays the arguments of a command line, with spaces between them.
 #[derive(Clone, Copy)]
-struct CommandLine<'a>(&'a [&'a str]);
+pub struct CommandLine<'a>(pub &'a [&'a str]);
 
 impl fmt::Display for CommandLine<'_> {
     fn fmt<W: fmt::Write>(&self, f: &mut fmt::Formatter<W>) -> fmt::Result {
@@ -78,6 +79,13 @@ fn show_times(perf_file: &PerfFile, report: &mut Report) {
     if let Some(times) = report.value_or_note("sample times", perf_file.sample_time_range()) {
         report.number("first sample in ns", times.first_sample_time);
         report.number("last sample in ns", times.last_sample_time);
+        let duration = times
+            .last_sample_time
+            .saturating_sub(times.first_sample_time);
+        report.line(
+            "duration",
+            format_args!("{} ({duration} ns)", Duration(duration)),
+        );
     }
 }
 

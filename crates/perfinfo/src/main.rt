@@ -8,28 +8,34 @@ mod escaped_text;
 mod events;
 mod header_info;
 mod jit;
-mod name_records;
 mod names;
 mod record_statistics;
 mod records;
 mod report;
+mod samples;
+mod summary;
+mod times;
 
-use clap::{ArgMatches, Error};
+use clap::{ArgMatches, Command};
 use jit::JitCounts;
+use linux_perf_data::PerfFile;
 use linux_perf_data::jitdump::{JitDumpError, JitDumpReader};
-use linux_perf_data::{PerfFile, PerfFileReader};
-use perfdata_base::source::CountedBuffer;
+use perfdata_cli::arguments::{
+    input_argument, is_quiet, missing_cpu_error, parse_filter, print_selection_error,
+    recording_filter,
+};
 use perfdata_cli::command_line::{
-    FILE, RECORDING_OR_JITDUMP_HELP, SUCCESS, arguments, command, print_argument_error,
-    print_clap_error,
+    Program, RECORDING_OR_JITDUMP_HELP, SUCCESS, command, run_program,
 };
 use perfdata_cli::error::{InputError, ProgramError, print_error};
 use perfdata_cli::input::{InputKind, OpenInput, display_name, input_path};
-use perfdata_cli::input_bytes::InputBytes;
+use perfdata_cli::input_bytes::Source;
 use perfdata_cli::progress::Progress;
+use perfdata_cli::recording::{Recording, RecordingRecords};
+use perfdata_selection::options::FilterOptions;
 use records::RecordCounts;
 use report::Report;
-use std::alloc::Global;
+use std::alloc::{AllocError, Global};
 use std::process::ExitCode;
 
 // The program's name.
@@ -37,50 +43,62 @@ const NAME: &str = "perfinfo";
 
 // What the program does.
 const ABOUT: &str =
-    "Summarizes a perf.data file, a pipe or a jitdump: the machine, the events, the records by type, processes and threads, mappings, lost records, context switches and build ids.";
+    "Summarizes a perf.data file, a pipe or a jitdump: the command, the machine, samples by event, process and file, the events, the records by type, processes and threads, mappings, lost records, context switches and build ids.";
 
-// The bytes of an input in a buffer.
-type Source = CountedBuffer<InputBytes>;
+// What the arguments select beside the input.
+#[derive(Drop)]
+struct Arguments<'a> {
+    filter: FilterOptions<'a>,
+    is_quiet: bool,
+}
 
 // Reads the records of a file or pipe to their end or to the first error, and prints the report.
 fn report_records(
     rt: &HostRuntime,
-    reader: &mut PerfFileReader<Source>,
+    arguments: Arguments<'_>,
+    recording: Recording,
     size: Option<u64>,
 ) -> Result<(), ProgramError> {
-    let mut progress = Progress::start(rt, size);
-    let mut counts = RecordCounts::new(rt.alloc());
-    let read = counts.read(rt.alloc(), reader, &mut progress);
+    let Recording { reader, kind } = recording;
+    let mut perf_file = reader.perf_file;
+    let filter = recording_filter(arguments.filter, &perf_file)?;
+    let mut records = RecordingRecords::new(rt.alloc(), kind, &perf_file, reader.record_iter);
+    let mut progress = Progress::start(rt, size).unless_quiet(arguments.is_quiet);
+    let mut counts = RecordCounts::new(rt.alloc(), filter);
+    let read = counts.read(rt.alloc(), &mut perf_file, &mut records, &mut progress);
     progress.finish();
-    let printed = print_report(rt, &reader.perf_file, &counts);
-    read?;
+    if counts.samples.lacks_cpu {
+        return Err(InputError::Io(missing_cpu_error()).into());
+    }
+    let printed = print_report(rt, &perf_file, &counts);
+    kind.check_end(read?)?;
     printed
 }
 
-// Reports on a file or pipe that was opened.
-fn report_recording(
-    rt: &HostRuntime,
-    opened: Result<PerfFileReader<Source>, linux_perf_data::Error>,
-    size: Option<u64>,
-) -> Result<(), ProgramError> {
-    match opened {
-        Ok(mut reader) => report_records(rt, &mut reader, size),
-        Err(error) => Err(InputError::Metadata(error).into()),
-    }
+// Writes the report on the metadata and the records of a file or pipe.
+fn write_report(
+    alloc: Global,
+    perf_file: &PerfFile,
+    counts: &RecordCounts<'_>,
+    report: &mut Report,
+) -> Result<(), AllocError> {
+    summary::show(alloc, perf_file, counts, report)?;
+    header_info::show(alloc, perf_file, report);
+    events::show(perf_file, counts, report);
+    records::show(counts, report);
+    record_statistics::show(alloc, &counts.statistics, report)?;
+    build_ids::show(alloc, perf_file, report);
+    Ok(())
 }
 
 // Prints the report on the metadata and the records of a file or pipe.
 fn print_report(
     rt: &HostRuntime,
     perf_file: &PerfFile,
-    counts: &RecordCounts,
+    counts: &RecordCounts<'_>,
 ) -> Result<(), ProgramError> {
     let mut report = Report::new(rt.alloc(), rt.stdout()).map_err(InputError::Io)?;
-    header_info::show(rt.alloc(), perf_file, &mut report);
-    events::show(perf_file, counts, &mut report);
-    records::show(counts, &mut report);
-    record_statistics::show(rt.alloc(), &counts.statistics, &mut report);
-    build_ids::show(rt.alloc(), perf_file, &mut report);
+    write_report(rt.alloc(), perf_file, counts, &mut report).map_err(|_| InputError::OutOfMemory)?;
     report.finish()
 }
 
@@ -119,47 +137,48 @@ fn print_jit_report(
 }
 
 // Prints the report on the input at a path.
-fn report_input(rt: &HostRuntime, path: &str) -> Result<(), ProgramError> {
-    let input = OpenInput::open(rt, path).map_err(InputError::Io)?;
-    let kind = input.kind.ok_or(InputError::UnknownFormat)?;
-    let size = input.size;
-    let source = input.into_source(rt.alloc()).map_err(InputError::Io)?;
-    match kind {
-        InputKind::File => report_recording(
-            rt,
-            PerfFileReader::parse_file(rt.alloc(), source),
-            size,
-        ),
-        InputKind::Pipe => report_recording(
-            rt,
-            PerfFileReader::parse_pipe(rt.alloc(), source),
-            size,
-        ),
-        InputKind::JitDump => report_jitdump(rt, JitDumpReader::new(rt.alloc(), source)),
+fn report_input(
+    rt: &HostRuntime,
+    arguments: Arguments<'_>,
+    path: &str,
+) -> Result<(), ProgramError> {
+    let input = OpenInput::open_recording(rt, path)?;
+    if input.kind == Some(InputKind::JitDump) {
+        let source = input.into_source(rt.alloc()).map_err(InputError::Io)?;
+        return report_jitdump(rt, JitDumpReader::new(rt.alloc(), source));
     }
+    let size = input.size;
+    report_records(rt, arguments, Recording::open(rt.alloc(), input)?, size)
 }
 
-// Parses the arguments.
-fn parse(alloc: Global, words: &[String]) -> Result<ArgMatches<'_>, Error> {
-    command(alloc, NAME, ABOUT, RECORDING_OR_JITDUMP_HELP)?.try_get_matches_from(words)
-}
+// The program.
+struct Perfinfo;
 
-// Reports on the input that the arguments name. Returns the exit status.
-fn run(rt: &HostRuntime, matches: &ArgMatches<'_>) -> u8 {
-    let path = input_path(rt, matches.get_str(FILE));
-    match report_input(rt, path) {
-        Ok(()) => SUCCESS,
-        Err(error) => print_error(rt, NAME, display_name(path), &error),
+impl Program for Perfinfo {
+    const NAME: &'static str = NAME;
+
+    fn command<'a>(alloc: Global) -> Result<Command<'a>, AllocError> {
+        command(alloc, NAME, ABOUT, RECORDING_OR_JITDUMP_HELP)
+    }
+
+    // Reports on the input that the arguments name. Returns the exit status.
+    fn run(rt: &HostRuntime, matches: &ArgMatches<'_>) -> u8 {
+        let filter = match parse_filter(rt.alloc(), matches) {
+            Ok(filter) => filter,
+            Err(error) => return print_selection_error(rt, NAME, &error),
+        };
+        let arguments = Arguments {
+            filter,
+            is_quiet: is_quiet(matches),
+        };
+        let path = input_path(rt, input_argument(matches));
+        match report_input(rt, arguments, path) {
+            Ok(()) => SUCCESS,
+            Err(error) => print_error(rt, NAME, display_name(path), &error),
+        }
     }
 }
 
 fn main(rt: HostRuntime) -> ExitCode {
-    let status = match arguments(&rt) {
-        Ok(words) => match parse(rt.alloc(), &words) {
-            Ok(matches) => run(&rt, &matches),
-            Err(error) => print_clap_error(&rt, NAME, &error),
-        },
-        Err(error) => print_argument_error(&rt, NAME, &error),
-    };
-    ExitCode::from(status)
+    run_program::<Perfinfo>(&rt)
 }

@@ -1,25 +1,18 @@
 //! Counts what the bodies of kernel records contain: processes and threads, processors, mappings, lost
 //! records, switches.
-use crate::counting::{count_one, to_vec};
+use crate::counting::{count_one, ranked, to_vec};
 use crate::escaped_text::{Escaped, Hex};
-use crate::name_records::NameRecords;
 use crate::report::{Report, Spaced};
-use linux_perf_data::Error;
-use linux_perf_data::event::RawEventRecord;
 use linux_perf_data::raw::RawData;
 use perfdata_events::call_chain::CallChain;
 use perfdata_events::context_switch::ContextSwitchRecord;
 use perfdata_events::event::EventRecord;
-use perfdata_events::format::EventFormat;
 use perfdata_events::mmap2::{Mmap2FileId, Mmap2Record};
 use perfdata_events::read_values::ReadValues;
 use perfdata_events::sample::SampleRecord;
-use perfdata_events::sample_id::Task;
 use perfdata_spaces::address_spaces::AddressSpaces;
 use std::alloc::{AllocError, Global};
-use std::cmp::Reverse;
 use std::collections::BTreeMap;
-use std::mem;
 
 // Maximum number of mapped files in the report.
 const MAX_FILES: usize = 20;
@@ -79,8 +72,6 @@ struct SwitchCounts {
 #[derive(Drop)]
 pub struct RecordStatistics {
     processes: BTreeMap<i32, Process>,
-    /// The records that name threads, which `name_threads` applies.
-    name_records: NameRecords,
     samples_by_cpu: BTreeMap<u32, u64>,
     frames: u64,
     /// Number of counter values in samples.
@@ -104,7 +95,6 @@ impl RecordStatistics {
     pub(crate) fn new(alloc: Global) -> RecordStatistics {
         RecordStatistics {
             processes: BTreeMap::new(alloc),
-            name_records: NameRecords::new(alloc),
             samples_by_cpu: BTreeMap::new(alloc),
             frames: 0,
             counter_values: 0,
@@ -123,35 +113,22 @@ impl RecordStatistics {
         }
     }
 
-    /// Adds a kernel record, whose body has this format.
+    /// Adds a record whose body can't be parsed.
+    pub(crate) fn add_unparsed(&mut self) {
+        self.unparsed = self.unparsed.saturating_add(1);
+    }
+
+    /// Adds a kernel record, which was applied to the address spaces.
     pub(crate) fn add(
         &mut self,
         alloc: Global,
-        format: &EventFormat,
-        time: Option<u64>,
-        record: &RawEventRecord<'_>,
-    ) -> Result<(), AllocError> {
-        match format.parse(record) {
-            Ok(event) => self.add_event(alloc, time, record.misc, &event),
-            Err(_) => {
-                self.unparsed = self.unparsed.saturating_add(1);
-                Ok(())
-            }
-        }
-    }
-
-    // Adds a record by its type.
-    fn add_event(
-        &mut self,
-        alloc: Global,
-        time: Option<u64>,
-        misc: u16,
+        spaces: &AddressSpaces,
         event: &EventRecord<'_>,
     ) -> Result<(), AllocError> {
         match event {
             EventRecord::Sample(sample) => self.add_sample(alloc, sample),
-            EventRecord::Comm(comm) => self.name_records.add_comm(alloc, time, misc, comm),
-            EventRecord::Fork(fork) => self.name_records.add_fork(time, misc, fork),
+            EventRecord::Comm(comm) => self.name_thread(alloc, spaces, comm.pid, comm.tid),
+            EventRecord::Fork(fork) => self.name_thread(alloc, spaces, fork.pid, fork.tid),
             EventRecord::Mmap(mapping) => self.add_mapping(alloc, mapping.path),
             EventRecord::Mmap2(mapping) => self.add_mapping2(alloc, mapping),
             EventRecord::Lost(lost) => {
@@ -210,25 +187,30 @@ impl RecordStatistics {
         Ok(())
     }
 
-    // Names a thread.
-    fn name_thread(&mut self, alloc: Global, task: Task, name: &[u8]) -> Result<(), AllocError> {
-        let name = Vec::from_slice(alloc, name)?;
-        self.process(alloc, task.pid)?.thread(alloc, task.tid)?.name = name;
+    // Gives a thread of a process the name that the address spaces have for it.
+    fn name_thread(
+        &mut self,
+        alloc: Global,
+        spaces: &AddressSpaces,
+        pid: i32,
+        tid: i32,
+    ) -> Result<(), AllocError> {
+        let name = Vec::from_slice(alloc, spaces.comm(tid).unwrap_or(&[]))?;
+        self.process(alloc, pid)?.thread(alloc, tid)?.name = name;
         Ok(())
     }
 
-    /// Names the threads by the COMM and FORK records, in order of time. Nothing is mapped in the address
-    /// spaces, since no other record is applied.
-    pub(crate) fn name_threads(&mut self, alloc: Global) -> Result<(), AllocError> {
-        let records = mem::replace(&mut self.name_records, NameRecords::new(alloc));
-        let records = records.into_order()?;
-        let mut spaces = AddressSpaces::new(alloc);
-        for record in records.iter() {
-            spaces.apply(record.misc, &record.event())?;
-            let name = spaces.comm(record.task.tid).unwrap_or(&[]);
-            self.name_thread(alloc, record.task, name)?;
+    /// Returns the last name of a process, or an empty one.
+    pub(crate) fn process_name(&self, pid: i32) -> &[u8] {
+        match self.processes.get(&pid) {
+            Some(process) => process.thread_name(pid),
+            None => &[],
         }
-        Ok(())
+    }
+
+    /// Returns the number of records and samples that were lost.
+    pub(crate) fn lost(&self) -> u64 {
+        self.lost_records.saturating_add(self.lost_samples)
     }
 
     // Adds a mapping of a file.
@@ -292,25 +274,6 @@ impl SwitchCounts {
     }
 }
 
-// A path, and the number of its mappings.
-type FileEntry<'a> = (&'a Vec<u8>, &'a u64);
-
-// The key of a file that orders files by decreasing number of mappings.
-fn most_first(entry: &FileEntry<'_>) -> Reverse<u64> {
-    Reverse(*entry.1)
-}
-
-// Returns the mapped files, ordered by decreasing number of mappings and then by path.
-fn files_by_count(
-    alloc: Global,
-    files: &BTreeMap<Vec<u8>, u64>,
-) -> Result<Option<Vec<FileEntry<'_>>>, Error> {
-    let mut entries: Vec<FileEntry<'_>> = files.iter().collect(alloc)?;
-    entries.sort_by_key(most_first)?;
-    entries.truncate(MAX_FILES);
-    Ok(Some(entries))
-}
-
 // Writes a process: its name, its samples and its threads.
 fn show_process(pid: i32, process: &Process, report: &mut Report) {
     report.item(Spaced("process", pid), Escaped(process.thread_name(pid)));
@@ -338,15 +301,18 @@ fn show_processors(statistics: &RecordStatistics, report: &mut Report) {
 }
 
 // Writes the number of mappings and the files that have most of them.
-fn show_mappings(alloc: Global, statistics: &RecordStatistics, report: &mut Report) {
+fn show_mappings(
+    alloc: Global,
+    statistics: &RecordStatistics,
+    report: &mut Report,
+) -> Result<(), AllocError> {
     report.number("mappings", statistics.mappings);
     report.number("mapped files", statistics.files.len() as u64);
-    let by_count = files_by_count(alloc, &statistics.files);
-    if let Some(entries) = report.value_or_note("mapped files", by_count) {
-        for (path, count) in entries.iter() {
-            report.item(Escaped(path.as_slice()), **count);
-        }
+    let entries = ranked(alloc, &statistics.files)?;
+    for (path, count) in entries.iter().take(MAX_FILES) {
+        report.item(Escaped(path.as_slice()), **count);
     }
+    Ok(())
 }
 
 // Writes the build ids of mappings.
@@ -375,11 +341,18 @@ fn show_losses(statistics: &RecordStatistics, report: &mut Report) {
 }
 
 /// Writes the counts.
-pub(crate) fn show(alloc: Global, statistics: &RecordStatistics, report: &mut Report) {
+///
+/// Fails if memory runs out.
+pub(crate) fn show(
+    alloc: Global,
+    statistics: &RecordStatistics,
+    report: &mut Report,
+) -> Result<(), AllocError> {
     show_processes(statistics, report);
     show_processors(statistics, report);
     show_sizes(statistics, report);
-    show_mappings(alloc, statistics, report);
+    show_mappings(alloc, statistics, report)?;
     show_build_ids(statistics, report);
     show_losses(statistics, report);
+    Ok(())
 }

@@ -4,16 +4,20 @@ use crate::counting::{count_one, show_types};
 use crate::names::RecordTypes;
 use crate::record_statistics::RecordStatistics;
 use crate::report::Report;
+use crate::samples::SampleCounts;
 use linux_perf_data::event::{RawEventRecord, RecordType};
-use linux_perf_data::source::Source;
 use linux_perf_data::{
-    Error, PerfFile, PerfFileReader, PerfFileRecord, RawUserRecord, RecordPlace, UserRecord,
-    UserRecordType,
+    Error, PerfFile, PerfFileRecord, RawUserRecord, RecordPlace, UserRecord, UserRecordType,
 };
 use perfdata_cli::error::InputError;
-use perfdata_cli::position::{Position, record_end};
+use perfdata_cli::position::Position;
 use perfdata_cli::progress::Progress;
+use perfdata_cli::recording::RecordingRecords;
+use perfdata_events::event::EventRecord;
 use perfdata_events::formats::EventFormats;
+use perfdata_order::records::find_format;
+use perfdata_selection::filter::SampleFilter;
+use perfdata_spaces::address_spaces::AddressSpaces;
 use std::alloc::{AllocError, Global};
 use std::collections::BTreeMap;
 
@@ -54,30 +58,34 @@ impl EventCounts {
 
 /// Counts of all records.
 #[derive(Drop)]
-pub struct RecordCounts {
+pub struct RecordCounts<'a> {
     formats: EventFormats,
     per_event: Vec<EventCounts>,
     per_type: BTreeMap<u32, u64>,
-    records: u64,
     rounds: u64,
     aux_bytes: u64,
-    end: u64,
+    position: Position,
     /// What the bodies of kernel records contain.
     pub statistics: RecordStatistics,
+    /// The selected samples.
+    pub samples: SampleCounts<'a>,
+    /// What is mapped, and the names of threads.
+    pub spaces: AddressSpaces,
 }
 
-impl RecordCounts {
-    /// Creates counts with no records.
-    pub(crate) fn new(alloc: Global) -> RecordCounts {
+impl<'a> RecordCounts<'a> {
+    /// Creates counts with no records. The filter says which samples are selected.
+    pub(crate) fn new(alloc: Global, filter: SampleFilter<'a>) -> RecordCounts<'a> {
         RecordCounts {
             formats: EventFormats::new(alloc),
             per_event: Vec::new(alloc),
             per_type: BTreeMap::new(alloc),
-            records: 0,
             rounds: 0,
             aux_bytes: 0,
-            end: 0,
+            position: Position::START,
             statistics: RecordStatistics::new(alloc),
+            samples: SampleCounts::new(alloc, filter),
+            spaces: AddressSpaces::new(alloc),
         }
     }
 
@@ -87,6 +95,11 @@ impl RecordCounts {
             .get(index)
             .copied()
             .unwrap_or(EventCounts::ZERO)
+    }
+
+    // Returns the offset of the end of the last record in bytes, from the start of the first one.
+    fn end(&self) -> u64 {
+        self.position.offset.unwrap_or(0)
     }
 
     // Adds a record to the counts of its event.
@@ -106,28 +119,49 @@ impl RecordCounts {
         Ok(())
     }
 
-    // Adds the formats of the attributes that were read since the last call.
-    fn add_formats(&mut self, perf_file: &PerfFile) -> Result<(), AllocError> {
-        let added = perf_file.event_attributes().get(self.formats.len()..);
-        for event in added.unwrap_or(&[]) {
-            self.formats
-                .push_with_little_endian_flags(event.attributes(), perf_file.endian())?;
+    // Adds a record to the counts of its body.
+    fn add_parsed(
+        &mut self,
+        alloc: Global,
+        index: usize,
+        misc: u16,
+        event: &EventRecord<'_>,
+    ) -> Result<(), AllocError> {
+        self.spaces.apply(misc, event)?;
+        self.statistics.add(alloc, &self.spaces, event)?;
+        match event {
+            EventRecord::Sample(sample) => self.samples.add(&self.spaces, index, misc, sample),
+            EventRecord::Raw(raw) if raw.record_type == RecordType::SAMPLE => {
+                self.samples.add_undecoded(index)
+            }
+            _ => Ok(()),
         }
-        Ok(())
     }
 
     // Adds the record of an event to the counts of its body and of the event.
     fn add_event(
         &mut self,
         alloc: Global,
+        perf_file: &PerfFile,
         index: usize,
         timestamp: Option<u64>,
         record: &RawEventRecord<'_>,
     ) -> Result<(), AllocError> {
-        if let Some(format) = self.formats.get(index) {
-            self.statistics.add(alloc, format, timestamp, record)?;
+        self.count_for_event(index, record.record_type, timestamp)?;
+        let Some(format) = find_format(&mut self.formats, perf_file, index)? else {
+            return Ok(());
+        };
+        match format.parse(record) {
+            Ok(event) => self.add_parsed(alloc, index, record.misc, &event),
+            Err(_) if record.record_type == RecordType::SAMPLE => {
+                self.statistics.add_unparsed();
+                self.samples.add_undecoded(index)
+            }
+            Err(_) => {
+                self.statistics.add_unparsed();
+                Ok(())
+            }
         }
-        self.count_for_event(index, record.record_type, timestamp)
     }
 
     // Adds the body of a record to the counts. Returns the size in bytes of the aux data of an auxtrace
@@ -142,14 +176,14 @@ impl RecordCounts {
         match record {
             PerfFileRecord::UserRecord(user) => aux_data_size(alloc, user),
             PerfFileRecord::EventRecord { attr_index, event } => {
-                self.add_formats(perf_file)?;
-                self.add_event(alloc, *attr_index, place.timestamp, event)?;
+                self.add_event(alloc, perf_file, *attr_index, place.timestamp, event)?;
                 Ok(0)
             }
         }
     }
 
-    // Adds a record to all counts.
+    // Adds a record to all counts. Rounds and offsets are those of the input, whose records come in another
+    // order.
     fn add(
         &mut self,
         alloc: Global,
@@ -159,58 +193,41 @@ impl RecordCounts {
     ) -> Result<(), Error> {
         let aux_size = self.add_body(alloc, perf_file, place, record)?;
         count_one(&mut self.per_type, record.record_type().0)?;
-        self.records = self.records.saturating_add(1);
-        self.rounds = place.round;
+        self.rounds = self.rounds.max(place.round);
         self.aux_bytes = self.aux_bytes.saturating_add(aux_size);
-        self.end = record_end(place, record);
+        self.position.add(place, record);
         Ok(())
     }
 
     // Adds the remaining records until the end or the first error.
-    fn add_all<R: Source>(
+    fn add_all(
         &mut self,
         alloc: Global,
-        reader: &mut PerfFileReader<R>,
+        perf_file: &mut PerfFile,
+        records: &mut RecordingRecords,
         progress: &mut Progress<'_>,
     ) -> Result<(), Error> {
-        let (records, perf_file) = (&mut reader.record_iter, &mut reader.perf_file);
         for _ in 0..u64::MAX {
             let Some((place, record)) = records.next_record(perf_file)? else {
                 break;
             };
             self.add(alloc, perf_file, &place, &record)?;
-            progress.add_record(self.end);
+            progress.add_record(self.end());
         }
         Ok(())
     }
 
-    // Adds the remaining records until the end or the first error, and names the threads.
-    fn add_all_and_names<R: Source>(
+    /// Adds the remaining records until the end or the first error. Returns the number of records.
+    pub(crate) fn read(
         &mut self,
         alloc: Global,
-        reader: &mut PerfFileReader<R>,
+        perf_file: &mut PerfFile,
+        records: &mut RecordingRecords,
         progress: &mut Progress<'_>,
-    ) -> Result<(), Error> {
-        let added = self.add_all(alloc, reader, progress);
-        self.statistics.name_threads(alloc)?;
-        added
-    }
-
-    /// Adds the remaining records until the end or the first error, and names the threads.
-    pub(crate) fn read<R: Source>(
-        &mut self,
-        alloc: Global,
-        reader: &mut PerfFileReader<R>,
-        progress: &mut Progress<'_>,
-    ) -> Result<(), InputError> {
-        let read = self.add_all_and_names(alloc, reader, progress);
-        let position = Position {
-            records: self.records,
-            offset: Some(self.end),
-        };
-        match read {
-            Ok(()) => Ok(()),
-            Err(cause) => Err(InputError::with_position(position, cause)),
+    ) -> Result<u64, InputError> {
+        match self.add_all(alloc, perf_file, records, progress) {
+            Ok(()) => Ok(self.position.records),
+            Err(cause) => Err(InputError::with_position(self.position, cause)),
         }
     }
 }
@@ -229,9 +246,9 @@ fn aux_data_size(alloc: Global, user: &RawUserRecord<'_>) -> Result<u64, Error> 
 
 /// Writes the number of records of each type, the number of rounds, and the total sizes of aux data and of
 /// all records.
-pub(crate) fn show(counts: &RecordCounts, report: &mut Report) {
+pub(crate) fn show(counts: &RecordCounts<'_>, report: &mut Report) {
     show_types(RecordTypes::PerfFile, &counts.per_type, report);
     report.number("rounds before the last record", counts.rounds);
     report.number("bytes of aux data", counts.aux_bytes);
-    report.number("bytes of records", counts.end);
+    report.number("bytes of records", counts.end());
 }

@@ -61,6 +61,16 @@ impl Report {
         }
     }
 
+    /// Writes an empty line.
+    pub(crate) fn empty_line(&mut self) {
+        if self.write_error.is_some() {
+            return;
+        }
+        if let Err(error) = writeln!(self.out) {
+            self.write_error = Some(error);
+        }
+    }
+
     /// Writes a line without indentation.
     pub(crate) fn line<V: Display + Drop>(&mut self, name: &str, value: V) {
         self.write_indented("", name, value);

@@ -3,34 +3,48 @@
 
 mod listing;
 mod options;
+mod record_line;
+mod selected;
 mod tracked_line;
 
+use clap::{ArgMatches, Command};
 use listing::list_input;
-use options::{Options, parse};
-use perfdata_cli::command_line::{SUCCESS, arguments, print_argument_error, print_clap_error};
+use options::{Options, command_with_options};
+use perfdata_cli::arguments::{parse_filter, print_selection_error};
+use perfdata_cli::command_line::{Program, SUCCESS, run_program};
 use perfdata_cli::error::print_error;
 use perfdata_cli::input::{display_name, input_path};
+use std::alloc::{AllocError, Global};
 use std::process::ExitCode;
 
 // The program's name.
 const NAME: &str = "perfjson";
 
-// Lists the input that the options name. Returns the exit status.
-fn run(rt: &HostRuntime, options: &Options<'_>) -> u8 {
-    let path = input_path(rt, options.file);
-    match list_input(rt, options, path) {
-        Ok(()) => SUCCESS,
-        Err(error) => print_error(rt, NAME, display_name(path), &error),
+// The program.
+struct Perfjson;
+
+impl Program for Perfjson {
+    const NAME: &'static str = NAME;
+
+    fn command<'a>(alloc: Global) -> Result<Command<'a>, AllocError> {
+        command_with_options(alloc, NAME)
+    }
+
+    // Lists the input that the arguments name. Returns the exit status.
+    fn run(rt: &HostRuntime, matches: &ArgMatches<'_>) -> u8 {
+        let options = Options::new(matches);
+        let filter = match parse_filter(rt.alloc(), matches) {
+            Ok(filter) => filter,
+            Err(error) => return print_selection_error(rt, NAME, &error),
+        };
+        let path = input_path(rt, options.file);
+        match list_input(rt, &options, filter, path) {
+            Ok(()) => SUCCESS,
+            Err(error) => print_error(rt, NAME, display_name(path), &error),
+        }
     }
 }
 
 fn main(rt: HostRuntime) -> ExitCode {
-    let status = match arguments(&rt) {
-        Ok(words) => match parse(rt.alloc(), NAME, &words) {
-            Ok(options) => run(&rt, &options),
-            Err(error) => print_clap_error(&rt, NAME, &error),
-        },
-        Err(error) => print_argument_error(&rt, NAME, &error),
-    };
-    ExitCode::from(status)
+    run_program::<Perfjson>(&rt)
 }

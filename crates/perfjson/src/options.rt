@@ -1,6 +1,7 @@
 //! The program's command line.
-use clap::{Arg, ArgAction, Command, Error, value_parser};
-use perfdata_cli::command_line::{FILE, RECORDING_HELP, command};
+use clap::{Arg, ArgAction, ArgMatches, Command, value_parser};
+use perfdata_cli::arguments::{has_filter, input_argument, is_quiet};
+use perfdata_cli::command_line::{RECORDING_HELP, command};
 use std::alloc::{AllocError, Global};
 
 // What the program does.
@@ -24,10 +25,14 @@ pub struct Options<'a> {
     pub byte_limit: usize,
     /// Whether the records are listed in order of time.
     pub is_by_time: bool,
+    /// Whether only selected samples are listed.
+    pub is_filtered: bool,
+    /// Whether no messages but errors are printed.
+    pub is_quiet: bool,
 }
 
-// Returns the command with its options.
-fn command_with_options<'a>(alloc: Global, name: &'a str) -> Result<Command<'a>, AllocError> {
+/// Returns the command with its options.
+pub fn command_with_options<'a>(alloc: Global, name: &'a str) -> Result<Command<'a>, AllocError> {
     let by_time = Arg::new(alloc, BY_TIME)
         .long(BY_TIME)
         .action(ArgAction::SetTrue)
@@ -42,14 +47,17 @@ fn command_with_options<'a>(alloc: Global, name: &'a str) -> Result<Command<'a>,
         .arg(bytes)
 }
 
-/// Parses the arguments, of which the first is the program's name.
-pub fn parse<'a>(alloc: Global, name: &'a str, words: &'a [String]) -> Result<Options<'a>, Error> {
-    let matches = command_with_options(alloc, name)?.try_get_matches_from(words)?;
-    Ok(Options {
-        file: matches.get_str(FILE),
-        byte_limit: matches
-            .get_one::<usize>(BYTES)
-            .unwrap_or(DEFAULT_BYTE_LIMIT),
-        is_by_time: matches.get_flag(BY_TIME),
-    })
+impl<'a> Options<'a> {
+    /// Returns what parsed arguments select.
+    pub fn new(matches: &ArgMatches<'a>) -> Options<'a> {
+        Options {
+            file: input_argument(matches),
+            byte_limit: matches
+                .get_one::<usize>(BYTES)
+                .unwrap_or(DEFAULT_BYTE_LIMIT),
+            is_by_time: matches.get_flag(BY_TIME),
+            is_filtered: has_filter(matches),
+            is_quiet: is_quiet(matches),
+        }
+    }
 }

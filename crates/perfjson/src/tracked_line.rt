@@ -2,23 +2,23 @@
 ghost use Rattle.std.specs.Prelude.{true};
 ghost use Rattle.perfdata_json.specs.Line.{json_text, IsLineOf};
 
+use crate::record_line::RecordLine;
 use linux_perf_data::{Error, PerfFile, PerfFileRecord, RecordPlace};
 use perfdata_cli::position::Position;
 use perfdata_cli::progress::Progress;
-use perfdata_json::JsonLine;
 use perfdata_listing::LineFormat;
 
 /// The line of a record as JSON, which remembers where the record ends.
 #[derive(Drop)]
 pub struct TrackedLine<'a> {
-    line: JsonLine,
+    line: RecordLine,
     position: Position,
     progress: Progress<'a>,
 }
 
 impl<'a> TrackedLine<'a> {
     /// Creates an empty line before the first record.
-    pub(crate) fn new(line: JsonLine, progress: Progress<'a>) -> TrackedLine<'a> {
+    pub(crate) fn new(line: RecordLine, progress: Progress<'a>) -> TrackedLine<'a> {
         TrackedLine {
             line,
             position: Position::START,
@@ -26,10 +26,11 @@ impl<'a> TrackedLine<'a> {
         }
     }
 
-    /// Ends the progress. Returns the position after the last record.
-    pub(crate) fn finish(&self) -> Position {
+    /// Ends the progress. Returns the position after the last record, and the error of the record that ended
+    /// the listing, if one did.
+    pub(crate) fn finish(self) -> (Position, Option<Error>) {
         self.progress.finish();
-        self.position
+        (self.position, self.line.into_error())
     }
 }
 
@@ -38,7 +39,7 @@ impl LineFormat for TrackedLine<'_> {
 
     ghost allocates = { true };
 
-    ghost text = { λ tracked. json_text tracked.line };
+    ghost text = { λ tracked. json_text tracked.line.line };
 
     fn set(
         &mut self,

@@ -6,7 +6,8 @@ use Rattle.std.proofs.lemmas.Option.{slice_get_cases}
 use Rattle.std.specs.Map.{keys_of, lookup}
 use Rattle.indexmap.specs.IndexMap.{set_value_at}
 use Rattle.pprof.specs.Builders.{row_of, rows_of}
-use Rattle.pprof.specs.Samples.{AddsSamples, RaisesRow, Row, padded, raised, set_values, weighted}
+use Rattle.pprof.specs.Samples.{AddsSamples, Row, padded, raised, set_values, weighted}
+use Rattle.pprof.specs.steps.Samples.{RaisesRow}
 use Rattle.pprof.specs.declared.builder.RowKey.{RowKey}
 use Rattle.pprof.specs.declared.builder.WeightedSamples.{WeightedSamples}
 use Rattle.pprof.proofs.Interning.{at_map, some_same}

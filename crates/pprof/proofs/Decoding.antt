@@ -75,6 +75,9 @@ duration_in p = simp (numbers_in-append, numbers_in-messages, numbers_in-texts, 
 period_in : (p : ProfileValue) → number_in 12 (profile_fields p) ≡ p.period
 period_in p = simp (numbers_in-append, numbers_in-messages, numbers_in-texts, numbers_in-number, numbers_in-period_type, append-nil, first_of_list)
 
+comment_in : (p : ProfileValue) → number_in 13 (profile_fields p) ≡ p.comment
+comment_in p = simp (numbers_in-append, numbers_in-messages, numbers_in-texts, numbers_in-number, numbers_in-period_type, append-nil, first_of_list)
+
 default_in : (p : ProfileValue) → number_in 14 (profile_fields p) ≡ p.default_sample_type
 default_in p = simp (numbers_in-append, numbers_in-messages, numbers_in-texts, numbers_in-number, numbers_in-period_type, append-nil, first_of_list)
 
@@ -86,21 +89,23 @@ decoded_in {A} k fields value_of fields_of_one xs back found =
 
 -- Profiles with the same parts are the same.
 same_profile : (p q : ProfileValue) → p.sample_types ≡ q.sample_types → p.samples ≡ q.samples → p.mappings ≡ q.mappings → p.locations ≡ q.locations
-    → p.functions ≡ q.functions → p.strings ≡ q.strings → p.duration ≡ q.duration → p.period_type ≡ q.period_type → p.period ≡ q.period
+    → p.functions ≡ q.functions → p.strings ≡ q.strings → p.duration ≡ q.duration → p.period_type ≡ q.period_type → p.period ≡ q.period → p.comment ≡ q.comment
     → p.default_sample_type ≡ q.default_sample_type → p ≡ q
-same_profile p q sample_types samples mappings locations functions strings duration period_type period default_sample_type =
+same_profile p q sample_types samples mappings locations functions strings duration period_type period comment default_sample_type =
     let with_types = λ (x : List ValueType). record p { sample_types = x } in
     let with_samples = λ (x : List SampleValue). record p { sample_types = q.sample_types; samples = x } in
     let with_mappings = λ (x : List Mapping). record p { sample_types = q.sample_types; samples = q.samples; mappings = x } in
     let with_locations = λ (x : List Location). record p { sample_types = q.sample_types; samples = q.samples; mappings = q.mappings; locations = x } in
-    let with_functions = λ (x : List Function). record q { functions = x; strings = p.strings; duration = p.duration; period_type = p.period_type; period = p.period; default_sample_type = p.default_sample_type } in
-    let with_strings = λ (x : List (List ℕ)). record q { strings = x; duration = p.duration; period_type = p.period_type; period = p.period; default_sample_type = p.default_sample_type } in
-    let with_duration = λ (x : ℕ). record q { duration = x; period_type = p.period_type; period = p.period; default_sample_type = p.default_sample_type } in
-    let with_period_type = λ (x : Option ValueType). record q { period_type = x; period = p.period; default_sample_type = p.default_sample_type } in
-    let with_period = λ (x : ℕ). record q { period = x; default_sample_type = p.default_sample_type } in
+    let with_functions = λ (x : List Function). record q { functions = x; strings = p.strings; duration = p.duration; period_type = p.period_type; period = p.period; comment = p.comment; default_sample_type = p.default_sample_type } in
+    let with_strings = λ (x : List (List ℕ)). record q { strings = x; duration = p.duration; period_type = p.period_type; period = p.period; comment = p.comment; default_sample_type = p.default_sample_type } in
+    let with_duration = λ (x : ℕ). record q { duration = x; period_type = p.period_type; period = p.period; comment = p.comment; default_sample_type = p.default_sample_type } in
+    let with_period_type = λ (x : Option ValueType). record q { period_type = x; period = p.period; comment = p.comment; default_sample_type = p.default_sample_type } in
+    let with_period = λ (x : ℕ). record q { period = x; comment = p.comment; default_sample_type = p.default_sample_type } in
+    let with_comment = λ (x : ℕ). record q { comment = x; default_sample_type = p.default_sample_type } in
     let with_default = λ (x : ℕ). record q { default_sample_type = x } in
     ap with_types sample_types ∙ (ap with_samples samples ∙ (ap with_mappings mappings ∙ (ap with_locations locations ∙ (ap with_functions functions
-    ∙ (ap with_strings strings ∙ (ap with_duration duration ∙ (ap with_period_type period_type ∙ (ap with_period period ∙ ap with_default default_sample_type))))))))
+    ∙ (ap with_strings strings ∙ (ap with_duration duration ∙ (ap with_period_type period_type ∙ (ap with_period period ∙ (ap with_comment comment
+    ∙ ap with_default default_sample_type)))))))))
 
 pub profile : (p : ProfileValue) → profile_of (profile_fields p) ≡ p
 profile p =
@@ -111,7 +116,8 @@ profile p =
     let locations = decoded_in 4 fields location_of location_fields p.locations location (locations_in p) in
     let functions = decoded_in 5 fields function_of function_fields p.functions function (functions_in p) in
     let period_type = ap (λ (bs : List (List ℕ)). first_of (map (λ (b : List ℕ). value_type_of (fields_of b)) bs)) (period_type_in p) ∙ period_type_back p.period_type in
-    same_profile (profile_of fields) p sample_types samples mappings locations functions (strings_in p) (duration_in p) period_type (period_in p) (default_in p)
+    same_profile (profile_of fields) p sample_types samples mappings locations functions (strings_in p) (duration_in p) period_type (period_in p) (comment_in p)
+    (default_in p)
 
 pub decoding : DecodesEncoded
 decoding p = ap profile_of (fields_of-message (profile_fields p)) ∙ profile p

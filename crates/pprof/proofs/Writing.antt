@@ -7,7 +7,8 @@ use Rattle.std.proofs.lemmas.List.Folds.{flat_map-map}
 use Rattle.std.specs.List.{flat_map}
 use Rattle.std.specs.String.{string_bytes}
 use Rattle.pprof.specs.Messages.{SampleValue, sample_fields, sample_value, text_fields}
-use Rattle.pprof.specs.Wire.{Appends, Field, bytes_field, contents_bytes, message_bytes, message_field, message_fields, number_field, packed_field, varint}
+use Rattle.pprof.specs.Wire.{Field, bytes_field, contents_bytes, message_bytes, message_field, message_fields, number_field, packed_field, varint}
+use Rattle.pprof.specs.steps.Wire.{Appends}
 use Rattle.pprof.specs.declared.profile.Sample.{Sample}
 
 pub message_bytes-append : (fields more : List Field) → message_bytes (fields ++ more) ≡ message_bytes fields ++ message_bytes more

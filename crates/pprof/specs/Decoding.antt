@@ -130,6 +130,7 @@ profile_of fields = record {
   duration = number_in 10 fields;
   period_type = first_of (messages_in 11 value_type_of fields);
   period = number_in 12 fields;
+  comment = number_in 13 fields;
   default_sample_type = number_in 14 fields;
 }
 

@@ -10,3 +10,4 @@ pub mod Strings
 pub mod Tables
 pub mod Texts
 pub mod Wire
+pub mod steps

@@ -32,6 +32,7 @@ pub record ProfileValue : Type 0 where
   pub duration : ℕ
   pub period_type : Option ValueType
   pub period : ℕ
+  pub comment : ℕ
   pub default_sample_type : ℕ
 
 abbrev pub profile_value : Profile → ProfileValue
@@ -45,6 +46,7 @@ profile_value p = record {
   duration = p.duration;
   period_type = p.period_type;
   period = p.period;
+  comment = p.comment;
   default_sample_type = p.default_sample_type;
 }
 
@@ -80,7 +82,7 @@ abbrev pub profile_fields : ProfileValue → List Field
 profile_fields p = message_fields 1 value_type_fields p.sample_types ++ message_fields 2 sample_fields p.samples
     ++ message_fields 3 mapping_fields p.mappings ++ message_fields 4 location_fields p.locations
     ++ message_fields 5 function_fields p.functions ++ text_fields 6 p.strings ++ number_field 10 p.duration
-    ++ period_type_fields p.period_type ++ number_field 12 p.period ++ number_field 14 p.default_sample_type
+    ++ period_type_fields p.period_type ++ number_field 12 p.period ++ number_field 13 p.comment ++ number_field 14 p.default_sample_type
 
 -- The bytes of a profile.
 abbrev pub encode : ProfileValue → List ℕ

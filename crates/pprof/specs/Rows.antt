@@ -1,6 +1,5 @@
 -- Rows with an index or an id.
-use Rattle.std.specs.Prelude.{◌≡◌, ℕ, ◌+◌, ◌-◌, ◌<◌, ◌≤◌, Bool, true, List, [], ◌∷◌, ◌++◌, ◌⊎◌, length, slice_get, Some}
-use Rattle.indexmap.specs.IndexSet.{insert_key}
+use Rattle.std.specs.Prelude.{◌≡◌, ℕ, ◌+◌, ◌-◌, ◌<◌, ◌≤◌, List, [], ◌∷◌, ◌++◌, ◌⊎◌, length, slice_get, Some}
 
 -- No row is there twice.
 abbrev pub AreDistinct : {A : Type 0} → List A → Type 0
@@ -24,12 +23,6 @@ pub record IsId (id count : ℕ) : Type 0 where
 pub record Identifies {A : Type 0} (old : List A) (row : A) (id : ℕ) (new : List A) : Type 0 where
   pub is_id : IsId id (length new)
   pub interns : Interns old row (id - 1) new
-
--- The same, if rows are the same when a test says so.
-pub record IdentifiesBy {A : Type 0} (eq : A → A → Bool) (old : List A) (row : A) (id : ℕ) (new : List A) : Type 0 where
-  pub is_id : IsId id (length new)
-  pub stored : (same : A) × (slice_get new (id - 1) ≡ Some same) × (eq row same ≡ true)
-  pub adds : new ≡ insert_key eq old row
 
 -- The rows with their ids, of which the first is `id`.
 abbrev pub numbered : {A B : Type 0} → (ℕ → A → B) → ℕ → List A → List B

@@ -42,11 +42,6 @@ set_values [] index values = []
 set_values (row ∷ rows) zero values = record { location_ids = row.location_ids; labels = row.labels; values = values } ∷ rows
 set_values (row ∷ rows) (suc index) values = row ∷ set_values rows index values
 
--- A weight is added to the values of the row with an index.
-abbrev pub RaisesRow : List Row → ℕ → ℕ → WeightedSamples → List Row → Type 0
-RaisesRow old index type_count weight new = (row : Row) → slice_get old index ≡ Some row
-    → new ≡ set_values old index (weighted weight (padded type_count row.values))
-
 -- A row has these labels and locations.
 pub record HasKey (labels : List Label) (location_ids : List ℕ) (row : Row) : Type 0 where
   pub labels_are : row.labels ≡ labels

@@ -65,4 +65,5 @@ pub record Builds (tables : Tables) (summary : Summary) (profile : ProfileValue)
   pub duration : profile.duration ≡ summary.duration
   pub period_type : profile.period_type ≡ summary.period_type
   pub period : profile.period ≡ summary.period
+  pub comment : profile.comment ≡ summary.comment
   pub default_sample_type : profile.default_sample_type ≡ summary.default_sample_type

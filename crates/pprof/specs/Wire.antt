@@ -1,5 +1,5 @@
 -- The wire format of protocol buffers: numbers, keys, and the fields of a message.
-use Rattle.std.specs.Prelude.{◌≡◌, ℕ, zero, suc, ◌+◌, ◌*◌, ◌/◌, ◌%◌, ◌==◌, nat_lt, if◌then◌else◌, List, [], ◌∷◌, ◌++◌, length}
+use Rattle.std.specs.Prelude.{ℕ, zero, suc, ◌+◌, ◌*◌, ◌/◌, ◌%◌, ◌==◌, nat_lt, if◌then◌else◌, List, [], ◌∷◌, ◌++◌, length}
 use Rattle.std.specs.List.{flat_map}
 
 -- The bytes of a number: seven bits in each, the lowest first, and 128 added to each but the last. At most `most` bytes are
@@ -50,7 +50,3 @@ message_field k fields = bytes_field k (message_bytes fields)
 -- A field for each message.
 abbrev pub message_fields : {A : Type 0} → ℕ → (A → List Field) → List A → List Field
 message_fields k fields_of messages = flat_map (λ message. message_field k (fields_of message)) messages
-
--- The fields are appended to bytes.
-pub record Appends (old : List ℕ) (fields : List Field) (new : List ℕ) : Type 0 where
-  pub is : new ≡ old ++ message_bytes fields

@@ -6,8 +6,10 @@ ghost use Rattle.indexmap.specs.IndexSet.{IsUnique};
 ghost use Rattle.pprof.specs.Builders.{rows_of};
 ghost use Rattle.pprof.specs.Labels.{HasLabels, IsKeyOf, number_labels, thread_labels};
 ghost use Rattle.pprof.specs.Messages.{profile_value, sample_value};
-ghost use Rattle.pprof.specs.Rows.{AreDistinct, Grows, Identifies, IdentifiesBy, Interns, numbered};
-ghost use Rattle.pprof.specs.Samples.{AddsSamples, RaisesRow, raised, sample_row, weighted};
+ghost use Rattle.pprof.specs.Rows.{AreDistinct, Grows, Identifies, Interns, numbered};
+ghost use Rattle.pprof.specs.steps.Rows.{IdentifiesBy};
+ghost use Rattle.pprof.specs.Samples.{AddsSamples, raised, sample_row, weighted};
+ghost use Rattle.pprof.specs.steps.Samples.{RaisesRow};
 ghost use Rattle.pprof.specs.Strings.{texts_of};
 ghost use Rattle.pprof.specs.Tables.{Builds, function_row, known_id, location_row, mapping_row};
 ghost use Rattle.pprof.specs.Tables.{no_rows};
@@ -92,6 +94,8 @@ pub struct Summary {
     pub period_type: Option<ValueType>,
     /// The number of events between two samples, or 0.
     pub period: u64,
+    /// A comment, or 0.
+    pub comment: u64,
     /// The name of the sample type that is shown first.
     pub default_sample_type: u64,
 }
@@ -287,6 +291,7 @@ impl Builder {
             duration: summary.duration,
             period_type: summary.period_type,
             period: summary.period,
+            comment: summary.comment,
             default_sample_type: summary.default_sample_type,
         })
     }

@@ -4,7 +4,8 @@ ghost use Rattle.std.specs.String.{string_bytes};
 ghost use Rattle.pprof.specs.Messages.{encode, function_fields, label_fields, location_fields};
 ghost use Rattle.pprof.specs.Messages.{mapping_fields, period_type_fields, profile_value};
 ghost use Rattle.pprof.specs.Messages.{sample_fields, sample_value, text_fields, value_type_fields};
-ghost use Rattle.pprof.specs.Wire.{Appends, number_field};
+ghost use Rattle.pprof.specs.Wire.{number_field};
+ghost use Rattle.pprof.specs.steps.Wire.{Appends};
 
 use crate::profile::{Function, Label, Location, Mapping, Profile, Sample, ValueType};
 use crate::wire::{Message, push_bytes, push_message, push_messages, push_number, push_packed};
@@ -134,6 +135,7 @@ pub fn encode(alloc: Global, profile: &Profile) -> Result<Vec<u8>, AllocError>
     push_number(&mut bytes, 10, profile.duration)?;
     push_period_type(alloc, &mut bytes, profile.period_type)?;
     push_number(&mut bytes, 12, profile.period)?;
+    push_number(&mut bytes, 13, profile.comment)?;
     push_number(&mut bytes, 14, profile.default_sample_type)?;
     Ok(bytes)
 }

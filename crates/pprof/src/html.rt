@@ -6,7 +6,7 @@ ghost use Rattle.pprof.specs.Pages.{Embeds};
 mod page;
 
 use base64::engine::general_purpose::STANDARD;
-use page::{END, START};
+use page::{BODY, END, START, STYLE};
 use std::alloc::{AllocError, Global};
 
 // Returns the bytes of a profile in base64 between two texts.
@@ -20,12 +20,29 @@ fn page_between(alloc: Global, start: &str, profile: &[u8], end: &str) -> Result
     Ok(page)
 }
 
+/// What a page says of its profile, as text of HTML, in which `<`, `>`, `&` and quotes are escaped.
+#[derive(Clone, Copy)]
+pub struct PageTexts<'a> {
+    /// The title.
+    pub title: &'a str,
+    /// The heading.
+    pub heading: &'a str,
+}
+
 /// Returns a page that shows a profile, whose bytes [`encode`](crate::encode::encode) returns. The page loads
 /// nothing else.
 ///
 /// Fails if memory runs out.
-pub fn profile_page(alloc: Global, profile: &[u8]) -> Result<String, AllocError>
+pub fn profile_page(
+    alloc: Global,
+    texts: PageTexts<'_>,
+    profile: &[u8],
+) -> Result<String, AllocError>
     ensures { IfOk result (λ page. Embeds profile.now (string_bytes page)) }
 {
-    page_between(alloc, START, profile, END)
+    let mut start = String::new(alloc);
+    for part in [START, texts.title, STYLE, texts.heading, BODY] {
+        start.push_str(part)?;
+    }
+    page_between(alloc, start.as_str(), profile, END)
 }

@@ -98,6 +98,8 @@ pub struct Profile {
     pub period_type: Option<ValueType>,
     /// The number of events between two samples.
     pub period: u64,
+    /// A comment, or 0.
+    pub comment: u64,
     /// The name of the sample type that is shown first.
     pub default_sample_type: u64,
 }

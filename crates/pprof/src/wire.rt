@@ -1,7 +1,8 @@
 //! Writes the fields of messages in the wire format of protocol buffers.
 ghost use Rattle.std.specs.Prelude.{◌≡◌, ◌<◌, ◌*◌, ◌^◌, ◌++◌, List, OnOk};
 ghost use Rattle.std.specs.List.{flat_map};
-ghost use Rattle.pprof.specs.Wire.{Appends, Field, bytes_field, message_field, message_fields};
+ghost use Rattle.pprof.specs.Wire.{Field, bytes_field, message_field, message_fields};
+ghost use Rattle.pprof.specs.steps.Wire.{Appends};
 ghost use Rattle.pprof.specs.Wire.{number_field, packed_field, varint};
 
 use std::alloc::{AllocError, Global};

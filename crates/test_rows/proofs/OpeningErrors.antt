@@ -1,7 +1,7 @@
 -- The errors of opening bytes in memory are errors of these bytes.
 use Rattle.std.proofs.Common.{◌≡◌, ◌≢◌, ℕ, ◌++◌, List, [], ◌∷◌, refl, sym, subst, ◌∙◌, append-nil, Option, None, Some, inl, inr}
 use Rattle.std.specs.Prelude.{IfSome, IsTrue}
-use Rattle.perfdata_base.specs.Source.{State, Position, EndedOrPaused, prepend}
+use Rattle.perfdata_sources.specs.Source.{State, Position, EndedOrPaused, prepend}
 use Rattle.perfdata_sections.specs.declared.error.Error.{Error}
 use Rattle.perfdata_sections.specs.declared.error.Error.TheVariants.{Memory}
 use Rattle.linux_perf_data.specs.FileOpening.{IsFileError, SourceErrorInOpening}

@@ -178,6 +178,16 @@ impl<'a> Arg<'a> {
         }
     }
 
+    /// How many values one use takes.
+    pub fn num_args(self, range: ::std::ops::RangeInclusive<usize>) -> Arg<'a> {
+        self.with(|arg| arg.num_args(range))
+    }
+
+    /// The value of a use without one.
+    pub fn default_missing_value(self, value: &'a str) -> Arg<'a> {
+        self.with(|arg| arg.default_missing_value(value.to_string()))
+    }
+
     /// The arguments that can't be used with it.
     pub fn conflicts_with_all(self, ids: &[&'a str]) -> Result<Arg<'a>, AllocError> {
         let ids: ::std::vec::Vec<_> = ids.iter().map(|id| ::clap::Id::from(id.to_string())).collect();

@@ -17,6 +17,8 @@ pub mod itoa;
 pub mod json;
 pub mod macros;
 pub mod prelude;
+#[cfg(feature = "programs")]
+pub mod regex;
 pub mod serde;
 pub mod std;
 

@@ -31,7 +31,7 @@ pub fn call(call: &Call<'_>, out: &mut Output) -> Tested<bool> {
         "write-line" => output::push_write(call, out)?,
         "flush" => output::push_flush(call, out)?,
         "finish" => output::push_finish(call, out)?,
-        "read-file" | "read-pipe" => reading::push_reading(call, out)?,
+        "read-file" | "read-unfinished" | "read-pipe" => reading::push_reading(call, out)?,
         "order-file" | "order-pipe" => orders::push_ordered(call, out)?,
         "sort" => orders::push_sorted(call, out)?,
         "metadata" => metadata::push_metadata(call, out)?,

@@ -4,6 +4,7 @@ use super::metadata::push_accessors;
 use super::sources::{SourceCall, push_sources};
 use crate::language::{Call, Output, Tested};
 use crate::library::Global;
+use dewikura::perfdata_base::header::PerfHeader;
 use dewikura::linux_perf_data::in_memory::{InMemoryReader, InMemoryRecords};
 use dewikura::linux_perf_data::raw::RawData;
 use dewikura::linux_perf_data::source::{PlacedSource, Source};
@@ -46,6 +47,18 @@ pub fn open<C: PlacedSource>(is_pipe: bool, source: C) -> Opened<PerfRecordIter<
         false => PerfFileReader::parse_file(Global, source)?,
         true => PerfFileReader::parse_pipe(Global, source)?,
     };
+    Ok((reader.perf_file, reader.record_iter))
+}
+
+/// The call that reads a file whose recording wasn't finished, or whose end is missing.
+const UNFINISHED: &str = "read-unfinished";
+
+/// Opens the input of a call.
+fn open_input<C: PlacedSource>(call: &str, source: C) -> Opened<PerfRecordIter<C>> {
+    if call != UNFINISHED {
+        return open(is_pipe(call), source);
+    }
+    let reader = PerfFileReader::parse_unfinished_file(Global, source)?;
     Ok((reader.perf_file, reader.record_iter))
 }
 
@@ -179,8 +192,13 @@ impl Reading<'_> {
 
 impl SourceCall for Reading<'_> {
     fn push<C: PlacedSource>(&self, source: C, out: &mut Output) -> Tested {
-        self.push_opened(open(is_pipe(self.call.case.call), source), out)
+        self.push_opened(open_input(self.call.case.call, source), out)
     }
+}
+
+/// The offset of the data section of a file; 0 if its header can't be read.
+fn data_offset(bytes: &[u8]) -> u64 {
+    PerfHeader::parse_from(&mut Cursor::new(bytes)).map_or(0, |header| header.data_section.offset)
 }
 
 /// Reads the records of an input, one line a record. The line of an error begins with `open:` if the opening returns it, else with
@@ -189,11 +207,13 @@ impl SourceCall for Reading<'_> {
 /// With the option `of=NAMES` each line ends with the values of these accessors after its call. With `other=file` or `other=pipe` the
 /// calls get the `PerfFile` of the second input.
 pub fn push_reading(call: &Call<'_>, out: &mut Output) -> Tested {
-    let is_pipe = is_pipe(call.case.call);
-    let opened = open_in_memory(is_pipe, call.bytes);
-    let first_offset = opened
-        .as_ref()
-        .map_or(0, |(_, records)| records.first_record_offset());
+    let is_unfinished = call.case.call == UNFINISHED;
+    let opened = open_in_memory(is_pipe(call.case.call), call.bytes);
+    let first_offset = match &opened {
+        _ if is_unfinished => data_offset(call.bytes),
+        Ok((_, records)) => records.first_record_offset(),
+        Err(_) => 0,
+    };
     let reading = Reading {
         call: *call,
         first_offset,
@@ -201,7 +221,7 @@ pub fn push_reading(call: &Call<'_>, out: &mut Output) -> Tested {
     let mut read = Output::default();
     push_sources(call, &reading, &mut read)?;
     out.text.push_str(&read.text);
-    if call.is_plain() {
+    if call.is_plain() && !is_unfinished {
         let mut in_memory = Output::default();
         reading.push_opened(opened, &mut in_memory)?;
         out.append_other(&read, "in memory", &in_memory);

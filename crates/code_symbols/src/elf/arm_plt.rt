@@ -1,8 +1,8 @@
 //! The entries of the procedure linkage table of 32-bit Arm, whose sizes follow from their code.
 
 ghost use Rattle.std.specs.Prelude.{◌≡◌, ◌<◌, ◌≤◌, ◌+◌, IfOk, IfSome, length};
-ghost use Rattle.code_symbols.specs.ArmPlt.{AreEntries, arm_size, coded_size, is_thumb_table};
-ghost use Rattle.code_symbols.specs.ArmPlt.{start_size, thumb_size};
+ghost use Rattle.code_symbols.specs.steps.ArmPlt.{AreEntries, arm_size, coded_size, is_thumb_table};
+ghost use Rattle.code_symbols.specs.steps.ArmPlt.{start_size, thumb_size};
 
 use crate::elf::header::FileHeader;
 use crate::elf::input::{Encoding, TableEntry};

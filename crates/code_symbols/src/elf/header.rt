@@ -52,6 +52,9 @@ pub(crate) const DYNSYM: u32 = 11;
 /// The section indices of symbols that don't fit into their entries (`SHT_SYMTAB_SHNDX`).
 pub(crate) const SYMTAB_INDICES: u32 = 18;
 
+/// The versions of the symbols of `.dynsym` (`SHT_GNU_versym`).
+pub(crate) const VERSIONS: u32 = 0x6fff_ffff;
+
 // The flag of a section with code (`SHF_EXECINSTR`).
 const CODE_FLAG: u64 = 4;
 

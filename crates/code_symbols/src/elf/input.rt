@@ -1,6 +1,6 @@
 //! Tables of an ELF file, and the numbers in their entries.
 ghost use Rattle.std.specs.Prelude.{◌≡◌, ◌≤◌, slice_index};
-ghost use Rattle.code_symbols.specs.Elf.{by_class, number_at, word_at};
+ghost use Rattle.code_symbols.specs.steps.Elf.{by_class, number_at, word_at};
 
 use crate::error::{ElfError, ElfTable};
 use perfdata_base::endian;

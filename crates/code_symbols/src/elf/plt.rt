@@ -2,8 +2,9 @@
 
 ghost use Rattle.std.specs.Prelude.{◌≡◌, ◌⊎◌, ◌+◌, ◌*◌, ◌%◌, ◌^◌, ◌<◌, ◌++◌, ◌∷◌, [], ℕ, List};
 ghost use Rattle.std.specs.Prelude.{All, IfOk, IfSome, OnErr, OnOk, false, filter};
-ghost use Rattle.code_symbols.specs.Plt.{AddsInOrder, AddsPlt, IsInPointerOrder, IsMade};
-ghost use Rattle.code_symbols.specs.Plt.{IsOfFile, IsRelocation, fixed_entries, fixed_entry, has_entry};
+ghost use Rattle.code_symbols.specs.Plt.{IsInPointerOrder};
+ghost use Rattle.code_symbols.specs.steps.Plt.{AddsInOrder, AddsPlt, IsMade};
+ghost use Rattle.code_symbols.specs.steps.Plt.{IsOfFile, IsRelocation, fixed_entries, fixed_entry, has_entry};
 ghost use Rattle.code_symbols.specs.declared.ranked.RankedSymbol.{RankedSymbol};
 
 use crate::elf::arm_plt::{CodedEntries, coded_entries};
@@ -291,7 +292,7 @@ pub(crate) struct PltRelocations {
 }
 
 impl PltRelocations {
-    ghost use Rattle.code_symbols.specs.PltRelocations.{AreOfFile};
+    ghost use Rattle.code_symbols.specs.steps.PltRelocations.{AreOfFile};
 
     pub(crate) fn read(alloc: Global, context: &PltContext<'_>) -> Result<PltRelocations, ElfError>
         ensures { IfOk result (λ p. AreOfFile context.now p) }
@@ -494,6 +495,7 @@ fn add_entry(
             name_end: symbols.names.len(),
         },
         is_made: true,
+        is_compatibility: false,
         is_weak: false,
         is_global: true,
         section_end: u64::MAX,

@@ -1,7 +1,8 @@
 //! String tables.
 ghost use Rattle.std.specs.Prelude.{◌≡◌, ◌≤◌, IfOk, length};
 ghost use Rattle.std.proofs.Props.{props};
-ghost use Rattle.code_symbols.specs.Strings.{AreNuls, IsStringAt, IsStringEnd};
+ghost use Rattle.code_symbols.specs.Strings.{AreNuls};
+ghost use Rattle.code_symbols.specs.steps.Strings.{IsStringAt, IsStringEnd};
 
 use crate::text::part_end;
 use std::alloc::{AllocError, Global};
@@ -29,7 +30,7 @@ fn find_nuls(alloc: Global, bytes: &[u8]) -> Result<Vec<usize>, AllocError>
 }
 
 impl Strings {
-    ghost use Rattle.code_symbols.specs.StringTable.{bytes_of};
+    ghost use Rattle.code_symbols.specs.steps.StringTable.{bytes_of};
 
     pub(crate) fn new(alloc: Global, bytes: Vec<u8>) -> Result<Strings, AllocError>
         ensures { IfOk result (λ s. bytes_of s ≡ bytes.items) }

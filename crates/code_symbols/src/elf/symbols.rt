@@ -1,11 +1,13 @@
 //! The entries of symbol tables.
 
 ghost use Rattle.std.specs.Option.{option_map};
-ghost use Rattle.std.specs.Prelude.{◌≡◌, ◌<◌, true, IfSome, slice_get};
-ghost use Rattle.code_symbols.specs.Elf.{AddsEntries, IsDefined, IsOffsetOfAddress, IsRanked};
-ghost use Rattle.code_symbols.specs.Elf.{IsSymbolOffset};
-ghost use Rattle.code_symbols.specs.Elf.{elf_symbol_in, section_index_of, section_offset};
-ghost use Rattle.code_symbols.specs.Elf.{symbol_address};
+ghost use Rattle.std.specs.Prelude.{◌≡◌, ◌<◌, true, IfSome, slice_get, slice_index};
+ghost use Rattle.code_symbols.specs.steps.Elf.{AddsEntries, IsDefined, IsOffsetOfAddress, IsRanked};
+ghost use Rattle.code_symbols.specs.steps.Elf.{IsSymbolOffset};
+ghost use Rattle.code_symbols.specs.steps.Elf.{elf_symbol_in, section_index_of, section_offset};
+ghost use Rattle.code_symbols.specs.steps.Elf.{symbol_address};
+ghost use Rattle.code_symbols.specs.steps.Elf.{IsCompatibility, is_hidden};
+ghost use Rattle.code_symbols.specs.steps.Versions.{IsOtherVersion};
 
 use crate::elf::header::{FileHeader, RELOCATABLE, Section, Segment};
 use crate::elf::input::{Encoding, TableEntry};
@@ -13,6 +15,7 @@ use crate::elf::strings::Strings;
 use crate::error::{ElfError, ElfTable};
 use crate::ranked::RankedSymbol;
 use crate::symbol::Symbol;
+use memchr::memchr;
 
 // The bindings of global and weak symbols (`STB_GLOBAL`, `STB_WEAK`).
 const GLOBAL: u8 = 1;
@@ -50,6 +53,12 @@ const FIRST_RESERVED: u16 = 0xff00;
 // The 32-bit machine of Arm (`EM_ARM`). Bit 0 of a function's value there says in which mode it runs.
 const ARM: u16 = 40;
 
+// From this number on, a version isn't the default one of its name (bit 15 of an entry of `.gnu.version`).
+const FIRST_HIDDEN_VERSION: u16 = 0x8000;
+
+// What separates a name from its version. Two of them separate it from its default version.
+const VERSION_MARK: u8 = b'@';
+
 // What the symbols of a file refer to.
 #[derive(Clone, Copy)]
 pub(crate) struct SymbolContext<'a> {
@@ -58,6 +67,8 @@ pub(crate) struct SymbolContext<'a> {
     pub(crate) text_sections: &'a [bool],
     // The section indices of all symbols, four bytes each, or none.
     pub(crate) section_indices: &'a [u8],
+    // The versions of all symbols, two bytes each, or none.
+    pub(crate) versions: &'a [u8],
     pub(crate) segments: &'a [Segment],
     pub(crate) names: &'a Strings,
 }
@@ -100,6 +111,31 @@ pub(crate) fn parse_symbol(entry: TableEntry<'_>) -> ElfSymbol
 // Whether a name is that of a mark between code and data in code for Arm and RISC-V.
 fn is_mapping_symbol(name: &[u8]) -> bool {
     name.len() >= 2 && name[0] == b'$' && matches!(name[1], b'a' | b'd' | b't' | b'x')
+}
+
+// The byte of a name at an offset, or 0 after its end.
+fn name_byte(name: &[u8], at: usize) -> u8
+    ensures { result ≡ slice_index name.now at }
+{
+    if at < name.len() { name[at] } else { 0 }
+}
+
+// Whether a name has a version that isn't its default one: `NAME@VERSION`, not `NAME@@VERSION`.
+fn is_other_version(name: &[u8]) -> bool
+    ensures { IsOtherVersion name.now result }
+{
+    match memchr(VERSION_MARK, name) {
+        Some(at) => at > 0 && name_byte(name, at + 1) != VERSION_MARK,
+        None => false,
+    }
+}
+
+// The length of a name without its default version.
+fn printed_len(name: &[u8]) -> usize {
+    match memchr(VERSION_MARK, name) {
+        Some(at) if at > 0 && name_byte(name, at.saturating_add(1)) == VERSION_MARK => at,
+        _ => name.len(),
+    }
 }
 
 // The offset of an address in a file with these segments.
@@ -207,6 +243,24 @@ impl SymbolContext<'_> {
         }
     }
 
+    // Whether the version of the symbol with an index isn't the default one of its name.
+    fn is_hidden(&self, symbol_index: usize) -> bool
+        ensures { result ≡ is_hidden self.now symbol_index }
+    {
+        let entry = TableEntry {
+            encoding: self.header.encoding,
+            bytes: self.versions,
+        };
+        entry.read_u16(symbol_index.saturating_mul(2)) >= FIRST_HIDDEN_VERSION
+    }
+
+    // Whether a symbol is kept for old programs, by its name or by its version.
+    fn is_compatibility(&self, symbol: &ElfSymbol, symbol_index: usize) -> bool
+        ensures { IsCompatibility self.now symbol.now symbol_index result }
+    {
+        is_other_version(self.names.string(symbol.name as usize)) || self.is_hidden(symbol_index)
+    }
+
     // The symbol of the entry with an index, if it is listed.
     fn ranked(&self, symbol: &ElfSymbol, symbol_index: usize) -> Option<RankedSymbol>
         ensures { IfSome result (λ r. IsRanked self.now symbol.now symbol_index r) }
@@ -216,7 +270,8 @@ impl SymbolContext<'_> {
             return None;
         }
         let name_start = symbol.name as usize;
-        let name_end = self.names.string_end(name_start);
+        let name = self.names.string(name_start);
+        let name_end = name_start.saturating_add(printed_len(name));
         if name_end <= name_start {
             return None;
         }
@@ -233,6 +288,7 @@ impl SymbolContext<'_> {
                 name_end,
             },
             is_made: false,
+            is_compatibility: self.is_compatibility(symbol, symbol_index),
             is_weak: symbol.binding == WEAK,
             is_global: symbol.binding == GLOBAL,
             section_end: section_end(section, symbol.value, start),

@@ -2,10 +2,11 @@
 //! IDENTIFIER.
 ghost use Rattle.std.specs.Prelude.{◌≡◌, if◌then◌else◌, None, Some};
 ghost use Rattle.std.specs.Option.{option_or};
-ghost use Rattle.perfdata_base.specs.ParseInfo.{is_set};
+ghost use Rattle.perfdata_identifiers.specs.ParseInfo.{is_set};
 ghost use Rattle.linux_perf_data.specs.Descriptions.{described_attribute, described_attributes};
-ghost use Rattle.linux_perf_data.specs.Consistency.{first_without_identifier, TestsIdOffsets};
-ghost use Rattle.linux_perf_data.specs.Consistency.{TestsSampleIdAll, ChecksEach, ChecksConsistency};
+ghost use Rattle.linux_perf_data.specs.Consistency.{first_without_identifier};
+ghost use Rattle.linux_perf_data.specs.steps.Consistency.{TestsIdOffsets};
+ghost use Rattle.linux_perf_data.specs.steps.Consistency.{TestsSampleIdAll, ChecksEach, ChecksConsistency};
 
 use bitflags::Flags;
 use perfdata_base::attr::{AttrFlags, PerfEventAttr, SampleFormat};

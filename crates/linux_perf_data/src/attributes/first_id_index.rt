@@ -19,7 +19,8 @@ impl FirstIdIndex {
     ghost use Rattle.std.specs.Prelude.{ℕ, ◌<◌, List, None, slice_index_or, vec_len};
     ghost use Rattle.std.specs.BTreeMap.{get};
     ghost use Rattle.std.specs.Ordering.{nat_cmp};
-    ghost use Rattle.linux_perf_data.specs.FirstIdIndex.{AddsIds, IndexesAttributes, id_lists_of};
+    ghost use Rattle.linux_perf_data.specs.FirstIdIndex.{IndexesAttributes, id_lists_of};
+    ghost use Rattle.linux_perf_data.specs.steps.FirstIdIndex.{AddsIds};
 
     // An index that contains no attributes.
     pub(crate) fn new(alloc: Global) -> FirstIdIndex

@@ -2,8 +2,9 @@
 ghost use Rattle.std.specs.Prelude.{◌≡◌, ◌++◌, ◌<◌, ℕ, length, map, IfOk, None, OnOk};
 ghost use Rattle.std.specs.List.Sorted.{IsPermutation};
 ghost use Rattle.linux_perf_data.specs.Descriptions.{described_attributes};
-ghost use Rattle.linux_perf_data.specs.IdPairs.{last_index_of_id, id_pairs_of, rank_of_id, AreOrdered};
-ghost use Rattle.linux_perf_data.specs.IdPairs.{AreAscending, IsInsertionPoint, TestsLastOfId, TestsPairAt};
+ghost use Rattle.linux_perf_data.specs.steps.IdPairs.{last_index_of_id, id_pairs_of, rank_of_id, AreOrdered};
+ghost use Rattle.linux_perf_data.specs.IdPairs.{AreAscending};
+ghost use Rattle.linux_perf_data.specs.steps.IdPairs.{IsInsertionPoint, TestsLastOfId, TestsPairAt};
 
 use perfdata_sections::feature_sections::AttributeDescription;
 use std::alloc::{AllocError, Global};
@@ -77,7 +78,8 @@ fn last_of_each(alloc: Global, ordered: &[(u64, usize)]) -> Result<Vec<(u64, usi
 }
 
 impl IdTable {
-    ghost use Rattle.linux_perf_data.specs.IdTable.{id_lookup, id_lookup_in_pairs, InsertsId, InsertsIds};
+    ghost use Rattle.linux_perf_data.specs.IdTable.{id_lookup, id_lookup_in_pairs};
+    ghost use Rattle.linux_perf_data.specs.steps.IdTable.{InsertsId, InsertsIds};
 
     // Builds a table without identifiers.
     pub(crate) fn empty(alloc: Global) -> IdTable

@@ -1,8 +1,10 @@
 //! The attribute of each record, and the parse info of its records, for an iterator.
 ghost use Rattle.std.specs.Prelude.{◌≡◌, ◌<◌, IfOk, IfSome, length, vec_len};
 ghost use Rattle.linux_perf_data.specs.Attribute.{AreConsistent};
-ghost use Rattle.linux_perf_data.specs.Descriptions.{described_attributes, CollectsParseInfos};
-ghost use Rattle.linux_perf_data.specs.IdBounds.{CacheIndicesBelow, ResolvesIds, TableIndicesBelow};
+ghost use Rattle.linux_perf_data.specs.Descriptions.{described_attributes};
+ghost use Rattle.linux_perf_data.specs.steps.Descriptions.{CollectsParseInfos};
+ghost use Rattle.linux_perf_data.specs.IdBounds.{CacheIndicesBelow, TableIndicesBelow};
+ghost use Rattle.linux_perf_data.specs.steps.IdBounds.{ResolvesIds};
 
 use crate::attributes::consistency::{
     first_without_identifier, has_identifier, next_without_identifier,
@@ -58,9 +60,11 @@ fn build_table(alloc: Global, attributes: &[AttributeDescription]) -> Result<IdT
 }
 
 impl AttributeLookup {
-    ghost use Rattle.linux_perf_data.specs.AttributeLookup.{AddsAttribute, ChecksNextAttribute, BuildsLookup};
-    ghost use Rattle.linux_perf_data.specs.AttributeLookup.{HasOnly, KeepsAttributes, ResolvesEvent};
-    ghost use Rattle.linux_perf_data.specs.AttributeLookup.{ResolvesId, parse_info_at};
+    ghost use Rattle.linux_perf_data.specs.steps.AttributeLookup.{AddsAttribute, ChecksNextAttribute};
+    ghost use Rattle.linux_perf_data.specs.steps.AttributeLookup.{BuildsLookup};
+    ghost use Rattle.linux_perf_data.specs.steps.AttributeLookup.{HasOnly, KeepsAttributes, ResolvesEvent};
+    ghost use Rattle.linux_perf_data.specs.AttributeLookup.{parse_info_at};
+    ghost use Rattle.linux_perf_data.specs.steps.AttributeLookup.{ResolvesId};
 
     // Builds the lookup of consistent attributes.
     pub(crate) fn new(

@@ -1,10 +1,11 @@
 //! The names that the section EVENT_DESC gives attributes, and their table.
 ghost use Rattle.std.specs.Prelude.{◌≡◌, vec_len, length, IfOk, OnOk};
 ghost use Rattle.std.specs.Option.{option_map};
-ghost use Rattle.linux_perf_data.specs.AttributeSources.{ParsesEventDesc};
+ghost use Rattle.linux_perf_data.specs.steps.AttributeSources.{ParsesEventDesc};
 ghost use Rattle.linux_perf_data.specs.Descriptions.{described_attributes};
-ghost use Rattle.linux_perf_data.specs.FirstIds.{IndexesFirstIds, InsertsFirstId};
-ghost use Rattle.linux_perf_data.specs.Names.{CopiesName, names_in, name_bytes_of};
+ghost use Rattle.linux_perf_data.specs.FirstIds.{IndexesFirstIds};
+ghost use Rattle.linux_perf_data.specs.steps.FirstIds.{InsertsFirstId};
+ghost use Rattle.linux_perf_data.specs.steps.Names.{CopiesName, names_in, name_bytes_of};
 
 use byteorder::{BigEndian, LittleEndian};
 use perfdata_base::raw::Endianness;
@@ -90,8 +91,8 @@ fn index_first_ids(
 }
 
 impl NameTable {
-    ghost use Rattle.linux_perf_data.specs.NameTable.{name_from_table, ClonesNames, ReadsNameTable};
-    ghost use Rattle.linux_perf_data.specs.NameTable.{NamesAttributes, TestsEndian};
+    ghost use Rattle.linux_perf_data.specs.steps.NameTable.{name_from_table, ClonesNames, ReadsNameTable};
+    ghost use Rattle.linux_perf_data.specs.steps.NameTable.{NamesAttributes, TestsEndian};
 
     // Parses the section EVENT_DESC. Without the section, the table is empty and no attribute has a name.
     pub(crate) fn read(

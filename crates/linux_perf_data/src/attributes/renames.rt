@@ -3,10 +3,11 @@ ghost use Rattle.std.specs.Prelude.{◌≡◌, ◌≢◌, ◌<◌, length};
 ghost use Rattle.std.specs.List.{All};
 ghost use Rattle.std.specs.Option.{option_map};
 ghost use Rattle.linux_perf_data.specs.Descriptions.{described_attributes};
-ghost use Rattle.linux_perf_data.specs.FirstIdIndex.{IndexesAll};
+ghost use Rattle.linux_perf_data.specs.steps.FirstIdIndex.{IndexesAll};
 ghost use Rattle.linux_perf_data.specs.Names.{NamedBy};
-ghost use Rattle.linux_perf_data.specs.Renames.{AppendsRenames, AreRenamesFor, FindsRenames, HasOtherFirstId};
-ghost use Rattle.linux_perf_data.specs.Renames.{IsUnlistedOrKept, KeepsName, TestsSameName};
+ghost use Rattle.linux_perf_data.specs.steps.Renames.{AppendsRenames, AreRenamesFor, FindsRenames};
+ghost use Rattle.linux_perf_data.specs.steps.Renames.{HasOtherFirstId};
+ghost use Rattle.linux_perf_data.specs.steps.Renames.{IsUnlistedOrKept, KeepsName, TestsSameName};
 
 use crate::attributes::first_id_index::FirstIdIndex;
 use crate::attributes::names::NameTable;

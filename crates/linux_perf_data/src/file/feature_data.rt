@@ -1,11 +1,13 @@
 //! The feature table after the data section, and the bytes of each feature.
-ghost use Rattle.perfdata_base.specs.Source.{PausesOnlyOnError};
+ghost use Rattle.perfdata_sources.specs.Source.{PausesOnlyOnError};
 ghost use Rattle.std.specs.Prelude.{◌≡◌};
-ghost use Rattle.perfdata_base.specs.Features.{features_of};
-ghost use Rattle.perfdata_base.specs.Endian.{number_in};
+ghost use Rattle.perfdata_identifiers.specs.Features.{features_of};
+ghost use Rattle.perfdata_sources.specs.Endian.{number_in};
 ghost use Rattle.perfdata_base.specs.Section.{ParsesSectionEntry};
-ghost use Rattle.linux_perf_data.specs.FeatureData.{SeeksToOffset, ReadsFeatureTable, ReadsSectionBytes};
-ghost use Rattle.linux_perf_data.specs.FeatureData.{ReadsFeatureData, ReadsFeatures, feature_entries_of};
+ghost use Rattle.linux_perf_data.specs.steps.FeatureData.{SeeksToOffset, ReadsFeatureTable};
+ghost use Rattle.linux_perf_data.specs.steps.FeatureData.{ReadsSectionBytes};
+ghost use Rattle.linux_perf_data.specs.steps.FeatureData.{ReadsFeatureData, ReadsFeatures};
+ghost use Rattle.linux_perf_data.specs.steps.FeatureData.{feature_entries_of};
 
 use byteorder::{BigEndian, LittleEndian};
 use indexmap::IndexMap;
@@ -30,7 +32,7 @@ pub(crate) fn seek_to_offset<C: PlacedSource>(source: &mut C, offset: u64) -> Re
 }
 
 // Reads a table entry at the position of the source.
-fn read_section_entry<C: PlacedSource>(
+pub(crate) fn read_section_entry<C: PlacedSource>(
     source: &mut C,
     endian: Endianness,
 ) -> io::Result<PerfFileSection>
@@ -82,7 +84,7 @@ fn read_section_data<C: PlacedSource>(
 }
 
 // Reads the sections of all entries of a table.
-fn read_feature_data<C: PlacedSource>(
+pub(crate) fn read_feature_data<C: PlacedSource>(
     alloc: Global,
     source: &mut C,
     table: &[(Feature, PerfFileSection)],

@@ -1,12 +1,13 @@
 //! The opening of a file: header, sections, attributes, and a seek to the data section.
-ghost use Rattle.perfdata_base.specs.Source.{PausesOnlyOnError};
+ghost use Rattle.perfdata_sources.specs.Source.{PausesOnlyOnError};
 ghost use Rattle.std.specs.Prelude.{◌≡◌, IfErr};
 ghost use Rattle.std.specs.Option.{option_map};
-ghost use Rattle.linux_perf_data.specs.AttributeSources.{known_sections, ReadsAttributes, ReadsTypesSection};
-ghost use Rattle.linux_perf_data.specs.AttributeSources.{ParsesMetaEventTypes, ReadsSimpleperfSection};
-ghost use Rattle.linux_perf_data.specs.AttributeSources.{ReadsAttrsSection};
-ghost use Rattle.linux_perf_data.specs.FileOpening.{RecognizesMagic, OpensAfterHeader, OpensPerfFile};
-ghost use Rattle.linux_perf_data.specs.FileOpening.{ReadsSections, ReadsConsistentAttributes};
+ghost use Rattle.linux_perf_data.specs.AttributeSources.{known_sections, ReadsAttributes};
+ghost use Rattle.linux_perf_data.specs.steps.AttributeSources.{ReadsTypesSection};
+ghost use Rattle.linux_perf_data.specs.steps.AttributeSources.{ParsesMetaEventTypes, ReadsSimpleperfSection};
+ghost use Rattle.linux_perf_data.specs.steps.AttributeSources.{ReadsAttrsSection};
+ghost use Rattle.linux_perf_data.specs.steps.FileOpening.{RecognizesMagic, OpensAfterHeader, OpensPerfFile};
+ghost use Rattle.linux_perf_data.specs.steps.FileOpening.{ReadsSections, ReadsConsistentAttributes};
 ghost use Rattle.linux_perf_data.specs.FeatureNumbers.{event_desc, simpleperf_meta_info};
 ghost use Rattle.linux_perf_data.specs.FeatureData.{feature_data_of};
 ghost use Rattle.linux_perf_data.specs.NamedErrors.{IsFileOpeningError};
@@ -194,7 +195,7 @@ fn read_sections<C: PlacedSource>(
 
 // Reads the attributes of a file with these feature sections. Fails without attributes, and if they are
 // inconsistent.
-fn read_consistent_attributes<C: PlacedSource>(
+pub(crate) fn read_consistent_attributes<C: PlacedSource>(
     alloc: Global,
     source: &mut C,
     endian: Endianness,

@@ -1,6 +1,6 @@
 //! Records in memory as entries of an array: plain numbers that outlive the reader.
 ghost use Rattle.std.specs.Prelude.{◌≡◌, ◌+◌, ◌<◌, ◌≤◌, ◌^◌, length};
-ghost use Rattle.linux_perf_data.specs.FileWalk.{IsWalkOf};
+ghost use Rattle.linux_perf_data.specs.steps.FileWalk.{IsWalkOf};
 ghost use Rattle.linux_perf_data.specs.InMemoryReading.{first_record_offset_of, input_of};
 ghost use Rattle.linux_perf_data.specs.RecordEntries.{record_entry_at};
 ghost use Rattle.linux_perf_data.specs.RecordViews.{record_view_of};
@@ -92,10 +92,10 @@ impl RecordEntry {
 }
 
 impl<'a> InMemoryRecords<'a> {
-    ghost use Rattle.linux_perf_data.specs.FileWalk.{IsNextRecord, IsWalkAhead};
+    ghost use Rattle.linux_perf_data.specs.steps.FileWalk.{IsNextRecord, IsWalkAhead};
     ghost use Rattle.linux_perf_data.specs.RecordEntries.{ReadsEntries};
-    ghost use Rattle.linux_perf_data.specs.WalkEntries.{ReadsEntriesOfWalk, TakesEntryOfWalk};
-    ghost use Rattle.linux_perf_data.specs.WalkEntries.{TakesRecordOfWalk, WritesMoreEntries};
+    ghost use Rattle.linux_perf_data.specs.steps.WalkEntries.{ReadsEntriesOfWalk, TakesEntryOfWalk};
+    ghost use Rattle.linux_perf_data.specs.steps.WalkEntries.{TakesRecordOfWalk, WritesMoreEntries};
 
     // Takes the next record of a walk from these records, which stay where the walk started.
     #[inline(always)]

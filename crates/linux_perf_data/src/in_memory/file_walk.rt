@@ -2,11 +2,12 @@
 //! own, which stay in registers.
 ghost use Rattle.std.specs.Prelude.{◌≡◌, ◌≤◌, ◌<◌, ◌^◌, IfSome, Some, length};
 ghost use Rattle.std.specs.List.{slice_range};
-ghost use Rattle.linux_perf_data.specs.AttributeLookup.{HasOnly, KeepsAttributes};
-ghost use Rattle.linux_perf_data.specs.InMemory.{TakesFileRecord};
-ghost use Rattle.linux_perf_data.specs.FileWalk.{IsNextRecord, IsWalkOf, MovesIter, MovesPast};
-ghost use Rattle.linux_perf_data.specs.FileWalk.{PeeksNextRecord, StartsWalk, remaining_in, with_lookup};
-ghost use Rattle.linux_perf_data.specs.RecordViews.{IdentifiesRecord};
+ghost use Rattle.linux_perf_data.specs.steps.AttributeLookup.{HasOnly, KeepsAttributes};
+ghost use Rattle.linux_perf_data.specs.steps.InMemory.{TakesFileRecord};
+ghost use Rattle.linux_perf_data.specs.steps.FileWalk.{IsNextRecord, IsWalkOf, MovesIter, MovesPast};
+ghost use Rattle.linux_perf_data.specs.steps.FileWalk.{PeeksNextRecord, StartsWalk, remaining_in};
+ghost use Rattle.linux_perf_data.specs.steps.FileWalk.{with_lookup};
+ghost use Rattle.linux_perf_data.specs.steps.RecordViews.{IdentifiesRecord};
 
 use crate::attributes::lookup::AttributeLookup;
 use crate::in_memory::framing::remaining;

@@ -1,8 +1,9 @@
 //! Takes the parts of a record from bytes in memory, without a copy.
 ghost use Rattle.std.specs.Prelude.{◌≡◌, ◌≢◌, ◌+◌, ◌^◌, ◌<◌, ◌≤◌, [], drop, length, Ok};
 ghost use Rattle.std.specs.Io.Cursor.{cursor_inner, cursor_position};
-ghost use Rattle.linux_perf_data.specs.InMemory.{SkipsAuxData, TakesRecordBody, memory_state};
-ghost use Rattle.linux_perf_data.specs.RecordFraming.{SkipsBody};
+ghost use Rattle.linux_perf_data.specs.InMemory.{memory_state};
+ghost use Rattle.linux_perf_data.specs.steps.InMemory.{SkipsAuxData, TakesRecordBody};
+ghost use Rattle.linux_perf_data.specs.steps.RecordFraming.{SkipsBody};
 
 use crate::records::framing::is_compressed;
 use perfdata_base::endian::read_u64;

@@ -1,7 +1,7 @@
 //! Takes records from bytes in memory. The calls are those of a `PerfRecordIter` over a cursor, but the body
 //! buffer stays empty.
 ghost use Rattle.std.specs.Prelude.{◌≡◌};
-ghost use Rattle.linux_perf_data.specs.InMemory.{ProcessesBody, TakesFileRecord, TakesRecord};
+ghost use Rattle.linux_perf_data.specs.steps.InMemory.{ProcessesBody, TakesFileRecord, TakesRecord};
 
 use crate::in_memory::file_walk::FileWalk;
 use crate::in_memory::raw_record::{RawRecord, take_raw_record};

@@ -1,8 +1,8 @@
 //! Takes raw records from bytes in memory. A whole one is taken at once, as are all records of an input
 //! without an error; any other is taken part by part.
 ghost use Rattle.std.specs.Prelude.{◌≡◌, []};
-ghost use Rattle.linux_perf_data.specs.InMemory.{EndsOrFails, TakesRawRecord};
-ghost use Rattle.linux_perf_data.specs.InMemoryWholeRecords.{TakesWholeRecord};
+ghost use Rattle.linux_perf_data.specs.steps.InMemory.{EndsOrFails, TakesRawRecord};
+ghost use Rattle.linux_perf_data.specs.steps.InMemoryWholeRecords.{TakesWholeRecord};
 
 use crate::in_memory::framing::{remaining, skip_bytes, take_record_body};
 use crate::records::buffered::has_no_pending_header;

@@ -1,6 +1,7 @@
 //! The map from the keys of paths to build ids.
 ghost use Rattle.perfdata_records.specs.BuildIdEvent.{build_id_entry_of};
-ghost use Rattle.linux_perf_data.specs.BuildIds.{InsertsEntry, ParsesBuildIds};
+ghost use Rattle.linux_perf_data.specs.BuildIds.{ParsesBuildIds};
+ghost use Rattle.linux_perf_data.specs.steps.BuildIds.{InsertsEntry};
 
 use perfdata_base::event::CpuMode;
 use perfdata_base::raw::Endianness;

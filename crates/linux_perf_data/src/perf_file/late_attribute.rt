@@ -21,9 +21,9 @@ pub(crate) enum LateNames {
 }
 
 impl PerfFile {
-    ghost use Rattle.linux_perf_data.specs.LateSteps.{FindsLateNames, AreNamesForAll, AreLateNamesFor};
-    ghost use Rattle.linux_perf_data.specs.LateSteps.{IsNameFor, HasSpareCapacity, ReservesOne};
-    ghost use Rattle.linux_perf_data.specs.LateSteps.{PushesAttribute, PushesNamed};
+    ghost use Rattle.linux_perf_data.specs.steps.LateSteps.{FindsLateNames, AreNamesForAll, AreLateNamesFor};
+    ghost use Rattle.linux_perf_data.specs.steps.LateSteps.{IsNameFor, HasSpareCapacity, ReservesOne};
+    ghost use Rattle.linux_perf_data.specs.steps.LateSteps.{PushesAttribute, PushesNamed};
 
     // Reserves capacity for one more attribute.
     pub(crate) fn reserve_one(&mut self) -> Result<(), Error>

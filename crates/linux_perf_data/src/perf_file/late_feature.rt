@@ -11,9 +11,9 @@ use perfdata_sections::error::Error;
 use std::alloc::Global;
 
 impl PerfFile {
-    ghost use Rattle.linux_perf_data.specs.LateSteps.{FindsFileRenames, IndexesFile, ReplacesEventDesc};
-    ghost use Rattle.linux_perf_data.specs.LateSteps.{ReplacesFeature};
-    ghost use Rattle.linux_perf_data.specs.FirstIdIndex.{IndexesAll};
+    ghost use Rattle.linux_perf_data.specs.steps.LateSteps.{FindsFileRenames, IndexesFile, ReplacesEventDesc};
+    ghost use Rattle.linux_perf_data.specs.steps.LateSteps.{ReplacesFeature};
+    ghost use Rattle.linux_perf_data.specs.steps.FirstIdIndex.{IndexesAll};
     ghost use Rattle.linux_perf_data.specs.PerfFile.{descriptions_of_file};
 
     // Replaces the data of a feature. If the feature is EVENT_DESC, `name_table` must be `None`.

@@ -1,7 +1,7 @@
 //! The bytes of the sections of features, and their parsers without a source.
 ghost use Rattle.std.specs.Prelude.{◌≡◌, ◌≤◌, length, take, drop};
 ghost use Rattle.std.specs.Option.{option_map};
-ghost use Rattle.perfdata_base.specs.Endian.{number_in};
+ghost use Rattle.perfdata_sources.specs.Endian.{number_in};
 ghost use Rattle.linux_perf_data.specs.FeatureData.{feature_data_of};
 ghost use Rattle.linux_perf_data.specs.Values.{ParsesStringSection, ParsesStringList, ParsesU64};
 ghost use Rattle.linux_perf_data.specs.Values.{ParsesNrCpus, ParsesSampleTimes, ParsesCompression};

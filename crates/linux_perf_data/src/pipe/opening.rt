@@ -1,12 +1,13 @@
 //! The opening of a pipe: its header, and its metadata records up to the record header that ends them.
 ghost use Rattle.std.specs.Prelude.{◌≡◌, ◌≤◌};
-ghost use Rattle.perfdata_base.specs.Source.{PausesOnlyOnError};
-ghost use Rattle.linux_perf_data.specs.Pauses.{PausesOnlyWithoutHeader, PausesOnlyWithoutPendingHeader};
-ghost use Rattle.linux_perf_data.specs.Pauses.{PausesOnlyInEndedOpening};
-ghost use Rattle.linux_perf_data.specs.PipeOpening.{OpensPerfPipe};
-ghost use Rattle.linux_perf_data.specs.PipeSteps.{FinishesOpening, NamesConsistentAttributes};
-ghost use Rattle.linux_perf_data.specs.PipeSteps.{OpensAfterPipeHeader, ReadsMetadata, ReadsMetadataBody};
-ghost use Rattle.linux_perf_data.specs.PipeSteps.{ReadsNext};
+ghost use Rattle.perfdata_sources.specs.Source.{PausesOnlyOnError};
+ghost use Rattle.linux_perf_data.specs.steps.Pauses.{PausesOnlyWithoutHeader, PausesOnlyWithoutPendingHeader};
+ghost use Rattle.linux_perf_data.specs.steps.Pauses.{PausesOnlyInEndedOpening};
+ghost use Rattle.linux_perf_data.specs.steps.PipeOpening.{OpensPerfPipe};
+ghost use Rattle.linux_perf_data.specs.steps.PipeSteps.{FinishesOpening, NamesConsistentAttributes};
+ghost use Rattle.linux_perf_data.specs.steps.PipeSteps.{OpensAfterPipeHeader, ReadsMetadata};
+ghost use Rattle.linux_perf_data.specs.steps.PipeSteps.{ReadsMetadataBody};
+ghost use Rattle.linux_perf_data.specs.steps.PipeSteps.{ReadsNext};
 ghost use Rattle.std.specs.Option.{option_map};
 
 use crate::attributes::consistency::check_consistency;

@@ -1,15 +1,19 @@
 //! Reads the parts of a record from a source: record header, body, aux data.
 ghost use Rattle.std.specs.Prelude.{◌≡◌, ◌+◌, ◌<◌, ◌≤◌, [], length, IfErr, IfSome, vec_capacity};
-ghost use Rattle.perfdata_base.specs.Endian.{number_in};
+ghost use Rattle.perfdata_sources.specs.Endian.{number_in};
 ghost use Rattle.perfdata_sections.specs.declared.error.Error.TheVariants.{Memory};
-ghost use Rattle.perfdata_base.specs.Source.{PausesOnlyOnError};
-ghost use Rattle.linux_perf_data.specs.BufferedRecord.{PeeksKernelRecord, PeeksWholeRecord, StartsWithHeader};
-ghost use Rattle.linux_perf_data.specs.BufferedRecord.{WholeRecordLength};
-ghost use Rattle.linux_perf_data.specs.RecordInput.{TakesPendingHeader, input_source_state};
-ghost use Rattle.linux_perf_data.specs.Pauses.{PausesOnlyAtEndOrError, PausesOnlyIfTruncated};
-ghost use Rattle.linux_perf_data.specs.RecordFraming.{ChecksBodySize, ChecksRecordEnd, SkipsBody};
-ghost use Rattle.linux_perf_data.specs.RecordFraming.{AppendsBody, BodyExceedsCapacity, ReadsRecordBody};
-ghost use Rattle.linux_perf_data.specs.RecordFraming.{ReadsRecordHeader, ReadsAuxData, TestsCompressed};
+ghost use Rattle.perfdata_sources.specs.Source.{PausesOnlyOnError};
+ghost use Rattle.linux_perf_data.specs.steps.BufferedRecord.{PeeksKernelRecord, PeeksWholeRecord};
+ghost use Rattle.linux_perf_data.specs.steps.BufferedRecord.{StartsWithHeader};
+ghost use Rattle.linux_perf_data.specs.steps.BufferedRecord.{WholeRecordLength};
+ghost use Rattle.linux_perf_data.specs.RecordInput.{input_source_state};
+ghost use Rattle.linux_perf_data.specs.steps.RecordInput.{TakesPendingHeader};
+ghost use Rattle.linux_perf_data.specs.Pauses.{PausesOnlyAtEndOrError};
+ghost use Rattle.linux_perf_data.specs.steps.Pauses.{PausesOnlyIfTruncated};
+ghost use Rattle.linux_perf_data.specs.steps.RecordFraming.{ChecksBodySize, ChecksRecordEnd, SkipsBody};
+ghost use Rattle.linux_perf_data.specs.steps.RecordFraming.{AppendsBody, BodyExceedsCapacity};
+ghost use Rattle.linux_perf_data.specs.steps.RecordFraming.{ReadsRecordBody};
+ghost use Rattle.linux_perf_data.specs.steps.RecordFraming.{ReadsRecordHeader, ReadsAuxData, TestsCompressed};
 
 use crate::records::input::{RecordInput, next_header_bytes};
 use perfdata_base::endian::read_u64;

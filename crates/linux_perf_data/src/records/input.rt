@@ -1,9 +1,9 @@
 //! The input of an iterator: the data section of a file, or a pipe with a pending header.
 ghost use Rattle.std.specs.Prelude.{◌≡◌, length};
-ghost use Rattle.linux_perf_data.specs.RecordInput.{AnswersTruncation, TakesPendingHeader};
+ghost use Rattle.linux_perf_data.specs.steps.RecordInput.{AnswersTruncation, TakesPendingHeader};
 ghost use Rattle.linux_perf_data.specs.RecordInput.{input_source_state};
 ghost use Rattle.linux_perf_data.specs.Pauses.{PausesOnlyAtEndOrError};
-ghost use Rattle.linux_perf_data.specs.RecordFraming.{ReadsHeaderBytes};
+ghost use Rattle.linux_perf_data.specs.steps.RecordFraming.{ReadsHeaderBytes};
 
 use perfdata_base::event::PerfEventHeader;
 use perfdata_base::source::{Source, fill};

@@ -1,7 +1,7 @@
 //! The iterator over records.
 ghost use Rattle.std.specs.Prelude.{◌≡◌, ◌↔◌, ◌≤◌, [], IsTrue, IfSome, IfErr, vec_capacity};
 ghost use Rattle.perfdata_sections.specs.declared.error.Error.TheVariants.{Memory};
-ghost use Rattle.perfdata_base.specs.Raw.{bytes_of};
+ghost use Rattle.perfdata_sources.specs.Raw.{bytes_of};
 ghost use Rattle.linux_perf_data.specs.NamedErrors.{IsRecordError};
 ghost use Rattle.linux_perf_data.specs.Pauses.{PausesOnlyAtEndOrError};
 
@@ -58,8 +58,8 @@ pub(crate) struct IdentifiedRecord {
 impl IdentifiedRecord {
     ghost use Rattle.perfdata_records.specs.FileRecord.{file_record_body};
     ghost use Rattle.linux_perf_data.specs.RecordViews.{record_view_of, record_view_at, attr_index_by_origin};
-    ghost use Rattle.linux_perf_data.specs.RecordViews.{IdentifiesRecord};
-    ghost use Rattle.linux_perf_data.specs.AttributeLookup.{HasOnly, KeepsAttributes};
+    ghost use Rattle.linux_perf_data.specs.steps.RecordViews.{IdentifiesRecord};
+    ghost use Rattle.linux_perf_data.specs.steps.AttributeLookup.{HasOnly, KeepsAttributes};
 
     // Identifies the record with this record header and body, at this offset and in this round.
     #[inline(always)]
@@ -214,10 +214,11 @@ impl<R> PerfRecordIter<R> {
 impl<R: Source> PerfRecordIter<R> {
     ghost use Rattle.linux_perf_data.specs.BufferedRecord.{IsFinished, IsNextBuffered, ContainsNextRecord};
     ghost use Rattle.linux_perf_data.specs.BufferedRecord.{TestsNextBuffered};
-    ghost use Rattle.linux_perf_data.specs.Iter.{MemoryOnlyToGrow, TestsMayStart, Advances, NextRecord};
+    ghost use Rattle.linux_perf_data.specs.Iter.{MemoryOnlyToGrow, Advances, NextRecord};
+    ghost use Rattle.linux_perf_data.specs.steps.Iter.{TestsMayStart};
     ghost use Rattle.linux_perf_data.specs.Iter.{section_size_of, iter_source_state};
-    ghost use Rattle.linux_perf_data.specs.IterSteps.{RawRecordExceedsBuffer, ReadsRawRecord};
-    ghost use Rattle.linux_perf_data.specs.IterSteps.{ProcessesRecord};
+    ghost use Rattle.linux_perf_data.specs.steps.IterSteps.{RawRecordExceedsBuffer, ReadsRawRecord};
+    ghost use Rattle.linux_perf_data.specs.steps.IterSteps.{ProcessesRecord};
     ghost use Rattle.std.specs.Io.BufRead.{Rests};
     ghost use Rattle.std.specs.Borrow.{sem};
     ghost use Rattle.linux_perf_data.specs.contracts.records.iter.PerfRecordIter.{the_row};

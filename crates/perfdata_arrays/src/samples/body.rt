@@ -1,7 +1,7 @@
 //! The fields of a sample up to its call chain.
 ghost use Rattle.std.specs.Prelude.{◌≡◌};
 ghost use Rattle.std.specs.Option.{option_map};
-ghost use Rattle.perfdata_base.specs.Raw.{bytes_of};
+ghost use Rattle.perfdata_sources.specs.Raw.{bytes_of};
 ghost use Rattle.perfdata_events.specs.CallChain.{chain_values_of};
 ghost use Rattle.perfdata_events.specs.Format.{Decodes};
 ghost use Rattle.perfdata_arrays.specs.Bodies.{IsBody, chain_after_values, values_of_words, words};

@@ -3,9 +3,10 @@ ghost use Rattle.std.specs.Prelude.{◌≡◌, ◌<◌, ◌≤◌, ◌^◌, ◌-
 ghost use Rattle.linux_perf_data.specs.PerfFile.{attributes_of_file, endian_of_file};
 ghost use Rattle.linux_perf_data.specs.RecordViews.{record_view_of};
 ghost use Rattle.linux_perf_data.specs.declared.records.iter.RecordPlace.{RecordPlace};
-ghost use Rattle.perfdata_arrays.specs.Decoding.{wants};
-ghost use Rattle.perfdata_arrays.specs.SampleRecords.{AddsFrames, ArePartsOf, frames_of_body, sample_kind};
-ghost use Rattle.perfdata_arrays.specs.SampleRecords.{ExceedsFrames};
+ghost use Rattle.perfdata_arrays.specs.steps.Decoding.{wants};
+ghost use Rattle.perfdata_arrays.specs.SampleRecords.{ArePartsOf, frames_of_body, sample_kind};
+ghost use Rattle.perfdata_arrays.specs.steps.SampleRecords.{AddsFrames};
+ghost use Rattle.perfdata_arrays.specs.steps.SampleRecords.{ExceedsFrames};
 ghost use Rattle.perfdata_events.specs.CallChain.{chain_values_of};
 ghost use Rattle.perfdata_arrays.specs.Samples.{chain_entries};
 ghost use Rattle.perfdata_arrays.specs.Overwrites.{with_entries_at};

@@ -1,8 +1,8 @@
 //! Kernel records.
 
-use crate::event::RecordType;
-use crate::place::RecordParseInfo;
-use crate::raw::RawData;
+use perfdata_identifiers::place::RecordParseInfo;
+use perfdata_sources::event::RecordType;
+use perfdata_sources::raw::RawData;
 
 /// A kernel record whose body is borrowed.
 #[derive(Clone, Copy, Debug)]

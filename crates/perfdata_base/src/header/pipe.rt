@@ -1,12 +1,12 @@
 //! The header of a perf.data pipe.
 ghost use Rattle.std.specs.Prelude.{◌≡◌, ◌+◌, ◌≤◌, length};
-ghost use Rattle.perfdata_base.specs.Source.{State};
+ghost use Rattle.perfdata_sources.specs.Source.{State};
 ghost use Rattle.perfdata_base.specs.PipeHeader.{pipe_header_of, ParsesPipeHeader, ParsesPipeHeaderWithExtra};
 ghost use Rattle.perfdata_base.specs.PipeHeader.{PausesOnlyInExtra};
 
-use crate::endian::read_u64;
 use crate::header::endian_by_first_byte;
-use crate::source::{Source, read_exact, skip_up_to};
+use perfdata_sources::endian::read_u64;
+use perfdata_sources::source::{Source, read_exact, skip_up_to};
 use std::io::Result;
 
 /// The header of a perf.data pipe (`perf_pipe_file_header`).

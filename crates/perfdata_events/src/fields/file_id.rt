@@ -1,11 +1,11 @@
 //! The identity of a mapped file.
 ghost use Rattle.std.specs.Prelude.{◌≡◌, length, IfOk};
-ghost use Rattle.perfdata_base.specs.Raw.{bytes_of, IsSingle};
+ghost use Rattle.perfdata_sources.specs.Raw.{bytes_of, IsSingle};
 ghost use Rattle.perfdata_events.specs.Single.{KeepsSingle};
 ghost use Rattle.perfdata_events.specs.SingleParts.{SingleFileId};
-ghost use Rattle.perfdata_base.specs.Endian.{number_in};
+ghost use Rattle.perfdata_sources.specs.Endian.{number_in};
 ghost use Rattle.perfdata_events.specs.Format.{Decodes};
-ghost use Rattle.perfdata_events.specs.FileId.{ReadsBuildId};
+ghost use Rattle.perfdata_events.specs.steps.FileId.{ReadsBuildId};
 
 use crate::fields::numbers::{field_u32, field_u64};
 use crate::fields::text::invalid_data;

@@ -1,6 +1,6 @@
 //! Numbers at offsets of a record's fixed part.
 ghost use Rattle.std.specs.Prelude.{◌≡◌, ◌+◌, ◌≤◌, length};
-ghost use Rattle.perfdata_base.specs.Endian.{number_in};
+ghost use Rattle.perfdata_sources.specs.Endian.{number_in};
 ghost use Rattle.perfdata_events.specs.Fields.{u16_at, u32_at, u64_at, i32_at};
 
 use perfdata_base::endian::{read_u16, read_u32, read_u64};

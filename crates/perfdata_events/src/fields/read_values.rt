@@ -1,12 +1,12 @@
 //! The values of counters.
-ghost use Rattle.perfdata_base.specs.Raw.{bytes_of};
+ghost use Rattle.perfdata_sources.specs.Raw.{bytes_of};
 ghost use Rattle.std.specs.Prelude.{IfSome};
 ghost use Rattle.perfdata_events.specs.Single.{KeepsSingle, NoParts};
 ghost use Rattle.perfdata_events.specs.SingleParts.{SingleGroup, SingleValuesOf};
-ghost use Rattle.perfdata_base.specs.Endian.{number_in};
+ghost use Rattle.perfdata_sources.specs.Endian.{number_in};
 ghost use Rattle.perfdata_events.specs.Format.{Decodes, optional};
 ghost use Rattle.std.specs.Option.{option_map};
-ghost use Rattle.perfdata_base.specs.ParseInfo.{is_set};
+ghost use Rattle.perfdata_identifiers.specs.ParseInfo.{is_set};
 ghost use Rattle.perfdata_events.specs.ReadFormat.{ID, LOST};
 ghost use Rattle.perfdata_events.specs.SampleFormat.{READ};
 
@@ -165,7 +165,7 @@ impl SingleValues {
 
 impl<'a> GroupValues<'a> {
     ghost use Rattle.std.specs.Prelude.{◌≡◌, ◌≤◌, ◌<◌, IfSome, IfNone};
-    ghost use Rattle.perfdata_base.specs.ParseInfo.{is_set};
+    ghost use Rattle.perfdata_identifiers.specs.ParseInfo.{is_set};
     ghost use Rattle.perfdata_events.specs.ReadValues.{group_values, group_of, counter_width, counter_count};
     ghost use Rattle.perfdata_events.specs.ReadValues.{counter_at};
 

@@ -1,10 +1,10 @@
 //! Optional words of eight bytes each, and lists of numbers.
 ghost use Rattle.std.specs.Prelude.{◌≡◌, ◌<◌, ◌*◌, [], ◌∷◌, length, take};
 ghost use Rattle.std.specs.Prelude.{IfErr, IfOk, IfSome, IfNone, OnErr, OnOk};
-ghost use Rattle.perfdata_base.specs.Raw.{DropsPrefix, EndsBefore, bytes_of};
+ghost use Rattle.perfdata_sources.specs.Raw.{DropsPrefix, EndsBefore, bytes_of};
 ghost use Rattle.perfdata_events.specs.Single.{KeepsSingle, NoParts};
 ghost use Rattle.perfdata_events.specs.SingleParts.{SingleNumbers};
-ghost use Rattle.perfdata_base.specs.Endian.{number_in};
+ghost use Rattle.perfdata_sources.specs.Endian.{number_in};
 ghost use Rattle.perfdata_events.specs.Format.{Decodes, fixed};
 ghost use Rattle.perfdata_events.specs.Fields.{u32_at, u64_at};
 ghost use Rattle.perfdata_events.specs.Words.{word, u64s, u64s_in};

@@ -1,11 +1,11 @@
 //! The fields of a sample from its weight on.
 ghost use Rattle.std.specs.Prelude.{◌≡◌, ◌||◌, IfSome};
 ghost use Rattle.std.specs.Option.{option_map};
-ghost use Rattle.perfdata_base.specs.Raw.{bytes_of, IsSingle};
+ghost use Rattle.perfdata_sources.specs.Raw.{bytes_of, IsSingle};
 ghost use Rattle.perfdata_events.specs.Single.{KeepsSingle, NoParts};
 ghost use Rattle.perfdata_events.specs.SingleParts.{SingleEnd};
-ghost use Rattle.perfdata_base.specs.Endian.{number_in};
-ghost use Rattle.perfdata_base.specs.ParseInfo.{is_set};
+ghost use Rattle.perfdata_sources.specs.Endian.{number_in};
+ghost use Rattle.perfdata_identifiers.specs.ParseInfo.{is_set};
 ghost use Rattle.perfdata_events.specs.Format.{Decodes, optional};
 ghost use Rattle.perfdata_events.specs.SampleEnd.{aux_data};
 ghost use Rattle.perfdata_events.specs.SampleFormat.{WEIGHT, WEIGHT_STRUCT};

@@ -1,10 +1,10 @@
 //! The parts of samples whose size is in the record.
 ghost use Rattle.std.specs.Prelude.{◌≡◌, ◌==◌, not, IfSome};
-ghost use Rattle.perfdata_base.specs.Raw.{bytes_of, IsSingle};
+ghost use Rattle.perfdata_sources.specs.Raw.{bytes_of, IsSingle};
 ghost use Rattle.perfdata_events.specs.Single.{KeepsSingle};
 ghost use Rattle.perfdata_events.specs.SingleParts.{SingleBranches, SingleNumbers, SingleStack};
-ghost use Rattle.perfdata_base.specs.Endian.{number_in};
-ghost use Rattle.perfdata_base.specs.ParseInfo.{is_set};
+ghost use Rattle.perfdata_sources.specs.Endian.{number_in};
+ghost use Rattle.perfdata_identifiers.specs.ParseInfo.{is_set};
 ghost use Rattle.perfdata_events.specs.Format.{Decodes, optional};
 ghost use Rattle.perfdata_events.specs.SampleFormat.{BRANCH_STACK, RAW, STACK_USER};
 ghost use Rattle.perfdata_events.specs.Words.{u64s, u64s_in};

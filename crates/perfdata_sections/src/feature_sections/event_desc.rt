@@ -1,6 +1,6 @@
 //! The section EVENT_DESC: attributes with names and ids.
 ghost use Rattle.std.specs.Prelude.{◌≡◌, ◌≢◌, IfErr};
-ghost use Rattle.perfdata_base.specs.Source.{PausesOnlyOnError};
+ghost use Rattle.perfdata_sources.specs.Source.{PausesOnlyOnError};
 ghost use Rattle.perfdata_sections.specs.ParsedPart.{NoPauseIfOutOfMemory};
 ghost use Rattle.perfdata_sections.specs.EventDesc.{EventNeedsMemory, EventsNeedMemory, EventDescNeedsMemory};
 ghost use Rattle.perfdata_sections.specs.EventDesc.{ReadsNameAndIds, ReadsPaddedFrame, ReadsEvent};

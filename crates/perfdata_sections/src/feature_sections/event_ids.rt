@@ -1,7 +1,8 @@
 //! Event ids, of eight bytes each.
 ghost use Rattle.std.specs.Prelude.{◌≡◌, ◌++◌, ◌≤◌, ◌/◌, length, OnErr, OnOk};
-ghost use Rattle.perfdata_base.specs.Source.{PausesOnlyOnError};
-ghost use Rattle.perfdata_sections.specs.EventIds.{AppendsIds, ReadsIds, u64s_of};
+ghost use Rattle.perfdata_sources.specs.Source.{PausesOnlyOnError};
+ghost use Rattle.perfdata_sections.specs.EventIds.{ReadsIds, u64s_of};
+ghost use Rattle.perfdata_sections.specs.steps.EventIds.{AppendsIds};
 ghost use Rattle.perfdata_sections.specs.ParsedPart.{NoPauseIfOutOfMemory};
 
 use perfdata_base::raw::FileOrder;

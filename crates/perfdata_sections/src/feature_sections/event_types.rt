@@ -1,7 +1,7 @@
 //! The event types section: attributes, and the sections of their ids.
 ghost use Rattle.std.specs.Prelude.{◌≡◌, ◌+◌, ◌*◌, ◌^◌, ◌<◌, length, IfOk, OnOk};
-ghost use Rattle.perfdata_base.specs.Source.{PausesOnlyOnError, at_offset};
-ghost use Rattle.perfdata_sections.specs.AttributeDescription.{CopiesName};
+ghost use Rattle.perfdata_sources.specs.Source.{PausesOnlyOnError, at_offset};
+ghost use Rattle.perfdata_sections.specs.steps.AttributeDescription.{CopiesName};
 ghost use Rattle.perfdata_sections.specs.EventTypes.{type_name_at, ids_end, ReadsSectionEntryAt};
 ghost use Rattle.perfdata_sections.specs.EventTypes.{ReadsEventTypeEntryAt, ReadsEventTypeEntries};
 ghost use Rattle.perfdata_sections.specs.EventTypes.{ReadsSectionIds, DescribesEntries, ReadsDescriptions};

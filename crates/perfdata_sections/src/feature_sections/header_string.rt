@@ -1,7 +1,7 @@
 //! Strings with a length prefix.
 ghost use Rattle.std.specs.Prelude.{◌≡◌, string_bytes};
 ghost use Rattle.std.specs.Option.{option_map};
-ghost use Rattle.perfdata_base.specs.Source.{State, PausesOnlyOnError};
+ghost use Rattle.perfdata_sources.specs.Source.{State, PausesOnlyOnError};
 ghost use Rattle.perfdata_sections.specs.ParsedPart.{NoPauseIfOutOfMemory};
 ghost use Rattle.perfdata_sections.specs.HeaderString.{before_nul, utf8_text, ReadsHeaderString};
 ghost use Rattle.perfdata_sections.specs.HeaderString.{ParsesHeaderString};

@@ -1,9 +1,10 @@
 //! The section PMU_MAPPINGS.
 ghost use Rattle.std.specs.Prelude.{◌≡◌, ◌<◌, IfOk, OnErr, length, string_bytes};
 ghost use Rattle.std.specs.Option.{option_map};
-ghost use Rattle.perfdata_base.specs.Source.{State, PausesOnlyOnError};
+ghost use Rattle.perfdata_sources.specs.Source.{State, PausesOnlyOnError};
 ghost use Rattle.perfdata_sections.specs.ParsedPart.{NoPauseIfOutOfMemory};
-ghost use Rattle.perfdata_sections.specs.PmuMappings.{CollectsUnit, SortsUnits, ReadsPmuUnit, ReadsPmuUnits};
+ghost use Rattle.perfdata_sections.specs.PmuMappings.{ReadsPmuUnit, ReadsPmuUnits};
+ghost use Rattle.perfdata_sections.specs.steps.PmuMappings.{CollectsUnit, SortsUnits};
 ghost use Rattle.perfdata_sections.specs.PmuMappings.{ReadsPmus, ParsesPmus};
 
 use crate::feature_sections::header_string::HeaderString;

@@ -1,6 +1,6 @@
 //! The attribute section of a simpleperf file.
 ghost use Rattle.std.specs.Prelude.{◌≡◌};
-ghost use Rattle.perfdata_base.specs.Source.{PausesOnlyOnError};
+ghost use Rattle.perfdata_sources.specs.Source.{PausesOnlyOnError};
 ghost use Rattle.perfdata_sections.specs.SimpleperfAttrs.{ReadsSimpleperfAttrs};
 
 use crate::error::{Error, ReadError};

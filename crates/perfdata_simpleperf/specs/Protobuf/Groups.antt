@@ -25,7 +25,8 @@ pub record GroupItem (open_groups bytes inner rest : List ℕ) : Type 0 where
 -- consecutive complete items
 pub data GroupItems : List ℕ → List ℕ → List ℕ → List ℕ → Type 0 where
   no_items : {open_groups bytes : List ℕ} → GroupItems open_groups bytes open_groups bytes
-  item_then : {open_groups bytes inner mid last rest : List ℕ} → GroupItem open_groups bytes inner mid → GroupItems inner mid last rest → GroupItems open_groups bytes last rest
+  item_then : {open_groups bytes inner mid last rest : List ℕ} → GroupItem open_groups bytes inner mid → GroupItems inner mid last rest
+      → GroupItems open_groups bytes last rest
 
 -- the rest of a group after its start key, up to its end
 abbrev pub GroupAt : ℕ → List ℕ → List ℕ → Type 0

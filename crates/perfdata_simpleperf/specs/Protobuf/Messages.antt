@@ -45,7 +45,8 @@ IsInvalidContents SubmessageError _ _ _ = ⊥
 module _ (Submessage : Message → List ℕ → Type 0) (message : Message) where
   abbrev pub FieldsWith : List ℕ → List FieldValue → List ℕ → Type 0
   FieldsWith bs [] rest = bs ≡ rest
-  FieldsWith bs (p ∷ ps) rest = (mid : List ℕ) × FieldAt message bs p mid × IsValidContents Submessage (field_type message p.field_number) p.contents × FieldsWith mid ps rest
+  FieldsWith bs (p ∷ ps) rest =
+      (mid : List ℕ) × FieldAt message bs p mid × IsValidContents Submessage (field_type message p.field_number) p.contents × FieldsWith mid ps rest
 
 -- the bytes begin with a field whose contents are invalid
 pub record FieldContentsError (Invalid : FieldType → Contents → DecodeError → Type 0) (message : Message) (bs : List ℕ) (e : DecodeError) : Type 0 where
@@ -55,7 +56,8 @@ pub record FieldContentsError (Invalid : FieldType → Contents → DecodeError 
   pub error : Invalid (field_type message field.field_number) field.contents e
 
 -- complete fields, followed by an error
-pub record MessageErrorWith (Submessage : Message → List ℕ → Type 0) (Invalid : FieldType → Contents → DecodeError → Type 0) (message : Message) (bs : List ℕ) (e : DecodeError) : Type 0 where
+pub record MessageErrorWith (Submessage : Message → List ℕ → Type 0) (Invalid : FieldType → Contents → DecodeError → Type 0) (message : Message) (bs : List ℕ)
+    (e : DecodeError) : Type 0 where
   pub fields : List FieldValue
   pub mid : List ℕ
   pub earlier : FieldsWith Submessage message bs fields mid
@@ -107,7 +109,8 @@ NeedsMemory SubmessageNeeds (field_types.Submessage m) (bytes b) = SubmessageNee
 NeedsMemory SubmessageNeeds _ _ = ⊥
 
 -- complete fields with valid contents, followed by a complete field for whose contents memory can run out
-pub record MessageNeedsMemory (Submessage : Message → List ℕ → Type 0) (SubmessageNeeds : Message → List ℕ → Type 0) (message : Message) (bs : List ℕ) : Type 0 where
+pub record MessageNeedsMemory (Submessage : Message → List ℕ → Type 0) (SubmessageNeeds : Message → List ℕ → Type 0) (message : Message)
+    (bs : List ℕ) : Type 0 where
   pub fields : List FieldValue
   pub mid : List ℕ
   pub earlier : FieldsWith Submessage message bs fields mid

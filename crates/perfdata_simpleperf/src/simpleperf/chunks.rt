@@ -3,7 +3,7 @@ ghost use Rattle.std.specs.Prelude.{◌≡◌, ◌⊎◌, ℕ, List, IfOk, IfErr
 ghost use Rattle.perfdata_simpleperf.specs.FileRecord.{FileValue, record_value};
 ghost use Rattle.perfdata_simpleperf.specs.Chunks.{ChunkError, ChunkAt, IsChunkReadError, AreChunks};
 ghost use Rattle.perfdata_simpleperf.specs.Chunks.{ChunkNeedsMemory, FirstChunkError, ReportsChunkError};
-ghost use Rattle.perfdata_base.specs.declared.endian.Endianness.{Endianness};
+ghost use Rattle.perfdata_sources.specs.declared.endian.Endianness.{Endianness};
 ghost use Rattle.perfdata_sections.specs.declared.error.Error.{Error};
 ghost use Rattle.perfdata_sections.specs.declared.error.Error.TheVariants.{Memory};
 

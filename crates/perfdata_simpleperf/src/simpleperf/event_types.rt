@@ -2,8 +2,10 @@
 ghost use Rattle.std.specs.Prelude.{IfOk, OnErr, Some};
 ghost use Rattle.perfdata_simpleperf.specs.MetaInfo.{map_text_at};
 ghost use Rattle.perfdata_simpleperf.specs.EventTypeInfo.{EventType, line_fields, event_type_info};
-ghost use Rattle.perfdata_simpleperf.specs.EventTypeInfo.{DescribesEvent, BeginsWithEvents, ParsesEvent};
-ghost use Rattle.perfdata_simpleperf.specs.EventTypeInfo.{ParsesEventTypes, ReturnsEventTypes, IsFirstThree};
+ghost use Rattle.perfdata_simpleperf.specs.EventTypeInfo.{DescribesEvent, BeginsWithEvents};
+ghost use Rattle.perfdata_simpleperf.specs.steps.EventTypeInfo.{ParsesEvent};
+ghost use Rattle.perfdata_simpleperf.specs.EventTypeInfo.{ParsesEventTypes, ReturnsEventTypes};
+ghost use Rattle.perfdata_simpleperf.specs.steps.EventTypeInfo.{IsFirstThree};
 
 use perfdata_sections::event_type::SimplePerfEventType;
 use std::alloc::{AllocError, Global};

@@ -3,7 +3,7 @@ ghost use Rattle.std.specs.Prelude.{◌≡◌, ◌⊎◌, List, IfOk, IfErr, IsE
 ghost use Rattle.std.specs.IoError.{error_kind};
 ghost use Rattle.std.specs.declared.io.ErrorKind.{ErrorKind};
 ghost use Rattle.std.specs.declared.io.ErrorKind.TheVariants.{OutOfMemory};
-ghost use Rattle.perfdata_base.specs.Endian.{number_in};
+ghost use Rattle.perfdata_sources.specs.Endian.{number_in};
 ghost use Rattle.perfdata_simpleperf.specs.FileRecord.{FileValue, record_value};
 ghost use Rattle.perfdata_simpleperf.specs.FileSection.{IsFileSectionOf, FileSectionError};
 ghost use Rattle.perfdata_simpleperf.specs.FileSection.{ReportsFileSectionError, ReportsV1Error};

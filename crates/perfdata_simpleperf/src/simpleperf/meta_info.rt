@@ -1,7 +1,8 @@
 //! Parses simpleperf's meta info: pairs of strings.
 ghost use Rattle.std.specs.Prelude.{◌≡◌, ◌∷◌};
 ghost use Rattle.std.specs.Iterator.{YieldsFirstBy, item_count};
-ghost use Rattle.perfdata_simpleperf.specs.MetaInfo.{nul_segments, InsertsPair, ParsesMetaInfo};
+ghost use Rattle.perfdata_simpleperf.specs.MetaInfo.{nul_segments, ParsesMetaInfo};
+ghost use Rattle.perfdata_simpleperf.specs.steps.MetaInfo.{InsertsPair};
 ghost use Rattle.perfdata_simpleperf.specs.MetaInfoPairs.{remaining_segments, remaining_pairs, pair_of};
 
 use crate::simpleperf::nul_text::split_at_nul;

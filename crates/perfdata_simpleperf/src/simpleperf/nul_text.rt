@@ -1,7 +1,7 @@
 //! Reads NUL-terminated strings.
 ghost use Rattle.std.specs.Prelude.{ℕ, List, IfOk, IfErr, MatchOption};
 ghost use Rattle.std.specs.IoError.{error_kind};
-ghost use Rattle.perfdata_base.specs.Raw.{HasNoNul, SplitsAtNul};
+ghost use Rattle.perfdata_sources.specs.Raw.{HasNoNul, SplitsAtNul};
 ghost use Rattle.perfdata_simpleperf.specs.NulText.{TextAt, TextError, ReadsNulText};
 
 use memchr::memchr;

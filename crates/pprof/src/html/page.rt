@@ -1,6 +1,7 @@
-//! The parts of the page that are always the same. The bytes of a profile in base64 are between them.
+//! The parts of the page that are always the same. Its title, its heading and the bytes of a profile in
+//! base64 are between them.
 
-/// The start of the page.
+/// The start of the page, up to its title.
 pub(crate) const START: &str = r##"<!DOCTYPE html>
 <html lang="en">
 <head>
@@ -10,7 +11,10 @@ pub(crate) const START: &str = r##"<!DOCTYPE html>
  content="default-src 'none'; base-uri 'none'; form-action 'none'; img-src data:;
  script-src 'unsafe-inline'; style-src 'unsafe-inline'">
 <link rel="icon" href="data:,">
-<title>Profile</title>
+<title>"##;
+
+/// What is between the title and the heading.
+pub(crate) const STYLE: &str = r##"</title>
 <style>
 :root { color-scheme: light dark; --back: #fff; --ink: #202020; --edge: #ccc; --mark: #ddeaff; }
 @media (prefers-color-scheme: dark) {
@@ -45,7 +49,11 @@ td button:focus-visible { outline: 2px solid; }
 </head>
 <body>
 <header>
-<h1 id="title">Profile</h1>
+<h1 id="title">"##;
+
+/// What is between the heading and the profile.
+pub(crate) const BODY: &str = r##"</h1>
+<output id="shown"></output>
 <label>Thread <select id="thread"><option value="">all</option></select></label>
 <label>Count <select id="column"></select></label>
 <label>View
@@ -230,7 +238,8 @@ pub(crate) const END: &str = r##"</script>
       }
     });
   }
-  const share = weight => (total ? 100 * weight / total : 0).toFixed(2) + " %";
+  const share = weight =>
+    (total ? Math.floor((20000 * weight + total) / (2 * total)) / 100 : 0).toFixed(2) + " %";
 
   // The table of functions, and those of the callers and callees of the selected one.
   function fill(table, title, heads, rows) {
@@ -403,8 +412,7 @@ pub(crate) const END: &str = r##"</script>
     add();
     grow();
     canvas.setAttribute("aria-label", "Flame graph of " + chosen.length + " stacks, " + total + " " + what());
-    const program = mappings[1] ? string(mappings[1][5]).split("/").pop() + ": " : "";
-    element("title").textContent = document.title = program + total + " " + what();
+    element("shown").textContent = total + " " + what();
     search();
   }
   function showAll() {

@@ -31,3 +31,23 @@ impl Iterator for Args {
         self.0.size_hint()
     }
 }
+
+/// Why there is no value of a variable.
+#[derive(Clone, Debug, PartialEq, Eq)]
+pub enum VarError {
+    /// There is no such variable.
+    NotPresent,
+    /// The value isn't UTF-8.
+    NotUnicode,
+    /// Out of memory.
+    OutOfMemory,
+}
+
+/// The value of a variable of the environment.
+pub fn var<R: Env>(_: &R, name: &str) -> Result<String, VarError> {
+    match env::var(name) {
+        Ok(value) => Ok(String::from_std(value)),
+        Err(env::VarError::NotPresent) => Err(VarError::NotPresent),
+        Err(env::VarError::NotUnicode(_)) => Err(VarError::NotUnicode),
+    }
+}

@@ -1,6 +1,6 @@
 use Rattle.std.proofs.Common.{◌∷◌, arith}
 use Rattle.std.proofs.lemmas.Result.{err_from_is_err_and}
-use Rattle.code_cfi.specs.Rows.{moment_of}
+use Rattle.code_cfi.specs.steps.Rows.{moment_of}
 use Rattle.code_cfi.proofs.ErrorLemmas.{if_any_error}
 use Rattle.code_cfi.proofs.UniqueRuns.{run_first, no_run_read, no_run_step}
 use Rattle.code_cfi.proofs.row_program.run.Goals as goal

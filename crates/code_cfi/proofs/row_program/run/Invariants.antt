@@ -1,5 +1,6 @@
 use Rattle.std.proofs.Common.{◌≤◌, length}
-use Rattle.code_cfi.specs.Rows.{Moment, moment_of, Runs}
+use Rattle.code_cfi.specs.Rows.{Moment, Runs}
+use Rattle.code_cfi.specs.steps.Rows.{moment_of}
 use Rattle.code_cfi.proofs.row_program.run.Given as goal
 
 -- what the instructions that are left lead to, all instructions lead to, and the other way round

@@ -1,5 +1,5 @@
 use Rattle.std.proofs.lemmas.Result.{IfErr-weaker}
-use Rattle.code_cfi.specs.Rows.{moment_of}
+use Rattle.code_cfi.specs.steps.Rows.{moment_of}
 use Rattle.code_cfi.proofs.UniqueRuns.{no_step_in_fde, no_step_of_cfa}
 use Rattle.code_cfi.proofs.row_program.step.Goals as goal
 

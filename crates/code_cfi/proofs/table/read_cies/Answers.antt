@@ -1,7 +1,8 @@
 use Rattle.std.proofs.Common.{◌++◌, ◌∷◌, [], List, length, arith, subst, sym}
 use Rattle.std.specs.Prelude.{All}
 use Rattle.std.proofs.lemmas.List.Elements.{All-push}
-use Rattle.code_cfi.specs.Tables.{CiesOf, IsCieOf, AreRising}
+use Rattle.code_cfi.specs.Tables.{CiesOf, IsCieOf}
+use Rattle.code_cfi.specs.steps.Tables.{AreRising}
 use Rattle.code_cfi.specs.declared.cie.Cie.{Cie}
 use Rattle.code_cfi.proofs.UniqueFdes.{AreBefore, offset_of_piece, before_push, before_less, below_next, rising_push}
 use Rattle.code_cfi.proofs.TableLemmas.{cie_of_piece, pieces_push, cies_push, cies_skip}

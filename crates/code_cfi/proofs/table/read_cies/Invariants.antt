@@ -1,6 +1,7 @@
 use Rattle.std.proofs.Common.{◌≤◌, List, Option, length}
 use Rattle.std.specs.Prelude.{All}
-use Rattle.code_cfi.specs.Tables.{Pieces, CiesOf, IsCieOf, AreRising}
+use Rattle.code_cfi.specs.Tables.{Pieces, CiesOf, IsCieOf}
+use Rattle.code_cfi.specs.steps.Tables.{AreRising}
 use Rattle.code_cfi.specs.declared.entry.CfiEntry.{CfiEntry}
 use Rattle.code_cfi.proofs.UniqueFdes.{AreBefore}
 use Rattle.code_cfi.proofs.table.read_cies.Given as goal

@@ -1,7 +1,7 @@
 use Rattle.std.proofs.Common.{◌≡◌, ℕ, ◌-◌, ◌<◌, length, Bool}
 use Rattle.code_unwind.specs.Chains.{frame_limit}
 use Rattle.code_unwind.specs.Expressions.{remaining_of}
-use Rattle.code_unwind.specs.Steps.{Finds}
+use Rattle.code_unwind.specs.FrameSteps.{Finds}
 use Rattle.code_unwind.specs.declared.code.MappedCode.{MappedCode}
 use Rattle.code_unwind.proofs.ChainLemmas.{Leads}
 use Rattle.code_unwind.proofs.chain.push_frames.Given as goal

@@ -1,7 +1,8 @@
 use Rattle.std.proofs.Common.{◌≡◌, ◌++◌, ℕ, List, length}
 use Rattle.std.proofs.lemmas.Result.{err_from_is_err_and, IfErr-weaker, IfOk-weaker}
 use Rattle.demangle_text.specs.Cursor.{position_of, unread}
-use Rattle.demangle_text.specs.Legacy.{AppendsPart, IsPart, written, separator, text_of_part}
+use Rattle.demangle_text.specs.Legacy.{IsPart, written, text_of_part}
+use Rattle.demangle_text.specs.steps.Legacy.{AppendsPart, separator}
 use Rattle.demangle_text.specs.Text.{IsWhy, text_of}
 use Rattle.demangle_text.proofs.WriteLemmas.{appends_part, why_separator, why_written}
 use Rattle.demangle_text.proofs.legacy.write_next.Goals as goal

@@ -1,6 +1,6 @@
 use Rattle.std.proofs.Common.{rules, arith, ◌≡◌, ℕ, ◌+◌, ◌-◌, ◌∙◌, ◌++◌, List, length, vec_len, drop, refl, sym, ap, subst, inl, inr, Err, w32, length-append, length-drop}
 use Rattle.std.proofs.lemmas.Int.{to_z-of_z}
-use Rattle.perfdata_base.specs.Endian.{number_in}
+use Rattle.perfdata_sources.specs.Endian.{number_in}
 use Rattle.perfdata_records.specs.BuildIdEvent.{IsTruncatedBuildIdEntry, build_id_entry_of}
 use Rattle.perfdata_records.specs.DsoKey.{key_of}
 use Rattle.linux_perf_data.proofs.BuildIdUniqueness.{not_truncated}

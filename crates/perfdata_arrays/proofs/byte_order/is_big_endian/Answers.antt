@@ -2,7 +2,7 @@ use Rattle.std.proofs.Common.{◌≡◌, ◌∙◌, Bool, true, false, take, ref
 use Rattle.std.proofs.lemmas.Bool.Decides.{Decides-eqb}
 use Rattle.std.proofs.lemmas.Slice.Eq.{slice_eq-Decides}
 use Rattle.std.specs.Prelude.{IfNone}
-use Rattle.perfdata_base.specs.declared.endian.Endianness.TheVariants.{BigEndian}
+use Rattle.perfdata_sources.specs.declared.endian.Endianness.TheVariants.{BigEndian}
 use Rattle.perfdata_base.specs.Header.{IsUnknownMagic, magic_of}
 use Rattle.perfdata_arrays.proofs.byte_order.is_big_endian.Goals as goal
 

@@ -1,5 +1,5 @@
 use Rattle.std.proofs.Common.{arith, ◌≡◌, ◌+◌, ◌∙◌, ap, sym, subst, refl, inr, length, ℕ, List}
-use Rattle.perfdata_base.specs.Endian.{number_in}
+use Rattle.perfdata_sources.specs.Endian.{number_in}
 use Rattle.perfdata_jit.specs.JitRecords.{IsLoad, IsLoadError}
 use Rattle.perfdata_arrays.proofs.JitLemmas.{body_bytes, is_load_at, name_in_bounds}
 use Rattle.perfdata_arrays.proofs.jit.parse_load.Goals as goal

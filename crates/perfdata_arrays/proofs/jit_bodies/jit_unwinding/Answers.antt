@@ -1,5 +1,5 @@
 use Rattle.std.proofs.Common.{arith, ◌+◌, ◌++◌, ap, refl, inl, inr, length, length-append, length-drop}
-use Rattle.perfdata_base.specs.Raw.{bytes_of}
+use Rattle.perfdata_sources.specs.Raw.{bytes_of}
 use Rattle.perfdata_arrays.proofs.JitBodiesLemmas.{is_unwinding_at}
 use Rattle.perfdata_arrays.proofs.jit_bodies.jit_unwinding.Goals as goal
 

@@ -1,6 +1,7 @@
 use Rattle.std.proofs.Common.{arith, ◌+◌, ◌^◌, ◌<◌, ◌∙◌, ap, refl, subst, sym, inl, length-drop}
-use Rattle.perfdata_base.specs.Endian.{number_in}
-use Rattle.perfdata_arrays.specs.JitDebug.{debug_end, debug_entries_at}
+use Rattle.perfdata_sources.specs.Endian.{number_in}
+use Rattle.perfdata_arrays.specs.JitDebug.{debug_entries_at}
+use Rattle.perfdata_arrays.specs.steps.JitDebug.{debug_end}
 use Rattle.linux_perf_data.specs.RecordEntries.{with_prefix}
 use Rattle.perfdata_arrays.proofs.JitDebugLemmas.{debug_end-within, paths_of_body}
 use Rattle.perfdata_arrays.proofs.jit_debug.jit_debug_info.Goals as goal

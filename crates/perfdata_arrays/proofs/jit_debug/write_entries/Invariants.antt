@@ -1,5 +1,6 @@
 use Rattle.std.proofs.Common.{◌≡◌, ◌-◌, ◌≤◌, length, take}
-use Rattle.perfdata_arrays.specs.JitDebug.{debug_end, debug_entries_at}
+use Rattle.perfdata_arrays.specs.JitDebug.{debug_entries_at}
+use Rattle.perfdata_arrays.specs.steps.JitDebug.{debug_end}
 use Rattle.linux_perf_data.specs.RecordEntries.{with_prefix}
 use Rattle.perfdata_arrays.proofs.jit_debug.write_entries.Given as goal
 

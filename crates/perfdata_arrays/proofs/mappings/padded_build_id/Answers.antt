@@ -1,6 +1,6 @@
 use Rattle.std.proofs.Common.{◌≡◌, ℕ, ◌++◌, List, length, take, drop, min, ap, ◌∙◌, arith, replicate}
 use Rattle.std.proofs.lemmas.List.{length-take-le}
-use Rattle.perfdata_base.specs.Raw.{bytes_of}
+use Rattle.perfdata_sources.specs.Raw.{bytes_of}
 use Rattle.perfdata_arrays.proofs.OverwriteLemmas.{take-with_prefix}
 use Rattle.perfdata_arrays.proofs.mappings.padded_build_id.Goals as goal
 

@@ -1,5 +1,5 @@
 use Rattle.std.proofs.Common.{subst, sym}
-use Rattle.perfdata_arrays.specs.MetaPairs.{FindsPair}
+use Rattle.perfdata_arrays.specs.steps.MetaPairs.{FindsPair}
 use Rattle.perfdata_arrays.proofs.MetaPairsLemmas.{no_value, pair_found}
 use Rattle.perfdata_arrays.proofs.meta_info.find_pair.Goals as goal
 

@@ -1,6 +1,6 @@
 use Rattle.std.proofs.Common.{rules, ◌≡◌, ◌∙◌, ◌∷◌, [], ap, take}
 use Rattle.std.proofs.lemmas.List.{take_rest}
-use Rattle.perfdata_base.specs.Endian.{number_in}
+use Rattle.perfdata_sources.specs.Endian.{number_in}
 use Rattle.perfdata_base.specs.Header.{file_header_in, file_header_of}
 use Rattle.perfdata_base.proofs.header.parse_header.Goals as goal
 

@@ -1,5 +1,5 @@
 use Rattle.std.proofs.Common.{arith, refl, ◌∙◌, ◌-◌, ◌<◌, ◌≤◌, length, take, drop, length-take, length-drop}
-use Rattle.perfdata_base.proofs.ConsumedLemmas.{consumed_none, consumed_more, consumed_no_more, none_read, failed_later, consumed_none_later, prefix_and_part, length-refilled}
+use Rattle.perfdata_sources.proofs.ConsumedLemmas.{consumed_none, consumed_more, consumed_no_more, none_read, failed_later, consumed_none_later, prefix_and_part, length-refilled}
 use Rattle.std.proofs.lemmas.Result.{err_from_is_err_and}
 use Rattle.std.proofs.lemmas.Slice.{take-put_mid_below}
 use Rattle.perfdata_jit.proofs.read_until_eof.fill_until_eof.Goals as goal

@@ -1,5 +1,5 @@
 use Rattle.std.proofs.Common.{◌≡◌, ◌-◌, ◌≤◌, length, take}
-use Rattle.perfdata_base.specs.Source.{Consumed}
+use Rattle.perfdata_sources.specs.Source.{Consumed}
 use Rattle.perfdata_jit.specs.BufferedReader.{SameCounts}
 use Rattle.perfdata_jit.proofs.read_until_eof.fill_until_eof.Given as goal
 

@@ -1,7 +1,7 @@
 use Rattle.std.proofs.Common.{arith, inr, ◌+◌, ◌++◌, ◌∷◌, [], length, length-append, sym, ap, ◌∙◌, subst}
 use Rattle.std.proofs.lemmas.Result.{err_from_is_err_and}
-use Rattle.perfdata_base.specs.Endian.{number_in}
-use Rattle.perfdata_base.specs.Raw.{bytes_of}
+use Rattle.perfdata_sources.specs.Endian.{number_in}
+use Rattle.perfdata_sources.specs.Raw.{bytes_of}
 use Rattle.perfdata_jit.specs.JitRecords.{AreDebugEntries}
 use Rattle.perfdata_jit.proofs.Entries.{entries_more}
 use Rattle.perfdata_jit.proofs.records.read_entries.Goals as goal

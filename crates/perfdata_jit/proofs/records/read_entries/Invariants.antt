@@ -1,5 +1,5 @@
-use Rattle.perfdata_base.specs.Endian.{number_in}
-use Rattle.perfdata_base.specs.Raw.{bytes_of}
+use Rattle.perfdata_sources.specs.Endian.{number_in}
+use Rattle.perfdata_sources.specs.Raw.{bytes_of}
 use Rattle.perfdata_jit.specs.JitRecords.{ReadsDebugEntries}
 use Rattle.perfdata_jit.proofs.records.read_entries.Given as goal
 

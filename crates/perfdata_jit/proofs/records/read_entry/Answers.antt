@@ -1,7 +1,7 @@
 use Rattle.std.proofs.Common.{arith, sym, ◌∙◌}
-use Rattle.perfdata_base.specs.Endian.{number_in}
-use Rattle.perfdata_base.specs.Raw.{bytes_of}
-use Rattle.perfdata_base.proofs.Numbers.{in_reads_first}
+use Rattle.perfdata_sources.specs.Endian.{number_in}
+use Rattle.perfdata_sources.specs.Raw.{bytes_of}
+use Rattle.perfdata_sources.proofs.Numbers.{in_reads_first}
 use Rattle.perfdata_jit.proofs.Fields.{number_at, number_within}
 use Rattle.perfdata_jit.proofs.records.read_entry.Goals as goal
 

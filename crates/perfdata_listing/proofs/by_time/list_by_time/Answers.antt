@@ -1,6 +1,6 @@
 use Rattle.std.proofs.Common.{arith, Ok, subst}
 use Rattle.perfdata_order.proofs.InMemorySteps.{returns_each_record_once, reads_records_of_input}
-use Rattle.perfdata_listing.specs.ByTime.{ListsNextByTime}
+use Rattle.perfdata_listing.specs.steps.ByTime.{ListsNextByTime}
 use Rattle.perfdata_listing.proofs.ByTimeLemmas.{listed_none, listed_more, listed_to_end, listing_fails, returned_fits}
 use Rattle.perfdata_listing.proofs.by_time.list_by_time.Goals as goal
 

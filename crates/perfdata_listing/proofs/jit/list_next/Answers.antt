@@ -2,7 +2,7 @@ use Rattle.std.proofs.Common.{Ok, ap, ◌∙◌, subst}
 use Rattle.std.specs.Io.KnownBytes.{Appends}
 use Rattle.std.proofs.KnownBytes.{Keeps-refl}
 use Rattle.perfdata_jit.specs.JitDumpReader.{NextJitRecord}
-use Rattle.perfdata_listing.specs.Output.{AppendsPrefix}
+use Rattle.perfdata_listing_lines.specs.Output.{AppendsPrefix}
 use Rattle.perfdata_listing.proofs.jit.list_next.Goals as goal
 
 pub returns-in-Ok : goal.returns-in-Ok

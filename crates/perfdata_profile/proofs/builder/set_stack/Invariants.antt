@@ -1,6 +1,7 @@
 use Rattle.std.proofs.Common.{take, List}
-use Rattle.perfdata_profile.specs.Building.{HasStack}
-use Rattle.perfdata_profile.specs.Locating.{CacheHolds, LocatorGrows, located_lists}
+use Rattle.perfdata_profile.specs.steps.Building.{HasStack}
+use Rattle.perfdata_profile.specs.Locating.{CacheHolds, located_lists}
+use Rattle.perfdata_profile.specs.steps.Locating.{LocatorGrows}
 use Rattle.perfdata_profile.specs.Values.{AreLocations}
 use Rattle.perfdata_spaces.specs.AddressSpaces.{Follows, mapping_values}
 use Rattle.perfdata_spaces.specs.Effects.{Applied}

@@ -1,5 +1,5 @@
 use Rattle.std.proofs.Common.{rules, length, length-drop, ap, ◌∙◌, ◌++◌, ◌∷◌, [], arith}
-use Rattle.perfdata_base.specs.Raw.{bytes_of}
+use Rattle.perfdata_sources.specs.Raw.{bytes_of}
 use Rattle.perfdata_records.proofs.Ids.{ids_more}
 use Rattle.perfdata_records.proofs.user_record.parse_ids.Goals as goal
 

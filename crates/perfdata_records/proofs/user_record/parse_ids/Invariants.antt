@@ -1,6 +1,6 @@
 use Rattle.std.proofs.Common.{◌≤◌, length}
 use Rattle.std.specs.Prelude.{◌≡◌, ◌%◌}
-use Rattle.perfdata_base.specs.Raw.{bytes_of}
+use Rattle.perfdata_sources.specs.Raw.{bytes_of}
 use Rattle.perfdata_records.proofs.Ids.{AreSoFar}
 use Rattle.perfdata_records.proofs.user_record.parse_ids.Given as goal
 

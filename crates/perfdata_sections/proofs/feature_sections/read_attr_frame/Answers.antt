@@ -1,5 +1,5 @@
 use Rattle.std.proofs.Common.{rules, arith, ◌≡◌, length}
-use Rattle.perfdata_base.proofs.Attrs.{first_eight_front}
+use Rattle.perfdata_sources.proofs.Attrs.{first_eight_front}
 use Rattle.perfdata_sections.proofs.Frames.{frame_header_error, frame_too_long, frame_whole, frame_rest_error}
 use Rattle.perfdata_sections.proofs.feature_sections.read_attr_frame.Goals as goal
 

@@ -1,5 +1,5 @@
-use Rattle.perfdata_base.specs.Endian.{number_in}
-use Rattle.perfdata_base.proofs.Numbers.{in_reads_first}
+use Rattle.perfdata_sources.specs.Endian.{number_in}
+use Rattle.perfdata_sources.proofs.Numbers.{in_reads_first}
 use Rattle.perfdata_sections.proofs.EventPrefixes.{event_desc_or_not, event_desc_or_some_error}
 use Rattle.perfdata_sections.proofs.laws.event_desc_is_decidable.Goals as goal
 

@@ -1,5 +1,5 @@
-use Rattle.perfdata_base.specs.Endian.{number_in}
-use Rattle.perfdata_base.proofs.Numbers.{in_reads_first}
+use Rattle.perfdata_sources.specs.Endian.{number_in}
+use Rattle.perfdata_sources.proofs.Numbers.{in_reads_first}
 use Rattle.perfdata_sections.proofs.EventPrefixes.{event_desc_is_unique, event_desc_or_error}
 use Rattle.perfdata_sections.proofs.EventErrors.{desc_error}
 use Rattle.perfdata_sections.proofs.laws.event_desc_is_unique.Goals as goal

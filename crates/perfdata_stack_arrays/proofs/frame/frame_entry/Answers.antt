@@ -1,7 +1,7 @@
 use Rattle.std.proofs.Common.{ℕ, subst, w32}
 use Rattle.std.proofs.lemmas.Int.{to_z-of_z}
 use Rattle.perfdata_stack_arrays.proofs.Finding.{frame_found, one_of_bool}
-use Rattle.perfdata_stack_arrays.specs.Frames.{FindsFileOffset}
+use Rattle.perfdata_stack_arrays.specs.steps.Frames.{FindsFileOffset}
 use Rattle.perfdata_stack_arrays.proofs.frame.frame_entry.Goals as goal
 
 pub returns : goal.returns

@@ -4,7 +4,7 @@ use Rattle.std.proofs.lemmas.List.{append-nil}
 use Rattle.perfdata_stacks.specs.Frames.{remaining_frames, sample_frames}
 use Rattle.perfdata_stacks.specs.declared.frames.SampleFrame.{SampleFrame}
 use Rattle.perfdata_stack_arrays.proofs.Finding.{writes_more, writes_none}
-use Rattle.perfdata_stack_arrays.specs.Frames.{WritesFrames}
+use Rattle.perfdata_stack_arrays.specs.steps.Frames.{WritesFrames}
 use Rattle.perfdata_stack_arrays.proofs.frame.write_frames.Goals as goal
 
 pub frames-init : goal.frames-init

@@ -3,7 +3,8 @@ use Rattle.perfdata_spaces.specs.AddressSpaces.{Follows}
 use Rattle.perfdata_spaces.specs.Effects.{Applied}
 use Rattle.perfdata_stacks.specs.Frames.{remaining_frames}
 use Rattle.perfdata_stacks.specs.declared.frames.SampleFrame.{SampleFrame}
-use Rattle.perfdata_stack_arrays.specs.Frames.{WritesFrames, frames_in}
+use Rattle.perfdata_stack_arrays.specs.Frames.{frames_in}
+use Rattle.perfdata_stack_arrays.specs.steps.Frames.{WritesFrames}
 use Rattle.perfdata_stack_arrays.proofs.frame.write_frames.Given as goal
 
 abbrev pub invariant-frames : goal.invariant-frames

@@ -1,8 +1,10 @@
 use Rattle.std.proofs.Common.{◌≡◌, ◌∙◌, ℕ, ℤ, Option, ap, of_z, rules, subst, sym, to_z, w32}
 use Rattle.std.proofs.lemmas.Int.{to_z-of_z}
 use Rattle.perfdata_events.specs.declared.fields.task.Task.{Task}
-use Rattle.perfdata_stack_arrays.specs.Frames.{WritesFrames, frames_in}
-use Rattle.perfdata_stack_arrays.specs.Names.{IsNameAt, range_of}
+use Rattle.perfdata_stack_arrays.specs.Frames.{frames_in}
+use Rattle.perfdata_stack_arrays.specs.steps.Frames.{WritesFrames}
+use Rattle.perfdata_stack_arrays.specs.Names.{IsNameAt}
+use Rattle.perfdata_stack_arrays.specs.steps.Names.{range_of}
 use Rattle.perfdata_stack_arrays.specs.Stacks.{stack_entry_of, task_of}
 use Rattle.perfdata_stack_arrays.specs.declared.names.TextRange.{TextRange}
 use Rattle.perfdata_stack_arrays.proofs.stack.write_stack.Goals as goal

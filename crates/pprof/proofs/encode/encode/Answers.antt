@@ -1,7 +1,8 @@
 use Rattle.std.proofs.Common.{map}
 use Rattle.std.specs.String.{string_bytes}
 use Rattle.pprof.specs.Messages.{function_fields, location_fields, mapping_fields, sample_fields, sample_value, text_fields, value_type_fields}
-use Rattle.pprof.specs.Wire.{Appends, message_fields}
+use Rattle.pprof.specs.Wire.{message_fields}
+use Rattle.pprof.specs.steps.Wire.{Appends}
 use Rattle.pprof.proofs.Writing.{more, samples_of, started}
 use Rattle.pprof.proofs.encode.encode.Goals as goal
 
@@ -22,4 +23,4 @@ returns c =
     rw (← c.as_slice-6.ensures.value) c.in_ok-push_texts.ensures in
     let tables = more (more (more (more (more types samples) mappings) locations) functions) strings in
     let summary = more (more (more tables c.in_ok-push_number.ensures) c.in_ok-push_period_type.ensures) c.in_ok-push_number-2.ensures in
-    started c.new-bytes.ensures.items (more summary c.in_ok-push_number-3.ensures)
+    started c.new-bytes.ensures.items (more (more summary c.in_ok-push_number-3.ensures) c.in_ok-push_number-4.ensures)

@@ -1,7 +1,8 @@
 use Rattle.std.proofs.Common.{take}
 use Rattle.std.specs.List.{flat_map}
 use Rattle.std.specs.String.{string_bytes}
-use Rattle.pprof.specs.Wire.{Appends, bytes_field}
+use Rattle.pprof.specs.Wire.{bytes_field}
+use Rattle.pprof.specs.steps.Wire.{Appends}
 use Rattle.pprof.proofs.encode.push_texts.Given as goal
 
 abbrev pub invariant-texts : goal.invariant-texts

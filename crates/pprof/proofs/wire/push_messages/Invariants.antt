@@ -1,5 +1,6 @@
 use Rattle.std.proofs.Common.{take}
-use Rattle.pprof.specs.Wire.{Appends, message_fields}
+use Rattle.pprof.specs.Wire.{message_fields}
+use Rattle.pprof.specs.steps.Wire.{Appends}
 use Rattle.pprof.proofs.wire.push_messages.Given as goal
 
 abbrev pub invariant-messages : goal.invariant-messages

@@ -1,6 +1,7 @@
 use Rattle.std.proofs.Common.{ℕ, List, subst, sym}
 use Rattle.std.specs.Prelude.{All}
-use Rattle.code_cfi.specs.Tables.{AreRising, IsFdeOf, SortedFdesOf}
+use Rattle.code_cfi.specs.Tables.{IsFdeOf, SortedFdesOf}
+use Rattle.code_cfi.specs.steps.Tables.{AreRising}
 use Rattle.code_cfi.specs.declared.cie.Cie.{Cie}
 use Rattle.code_cfi.proofs.table.EntryTable.new.Goals as goal
 

@@ -1,7 +1,8 @@
 use Rattle.std.proofs.Common.{◌<◌, length, refl, rules}
 use Rattle.std.proofs.lemmas.Result.{err_from_is_err_and}
 use Rattle.std.proofs.lemmas.Grind.{merely}
-use Rattle.code_cfi.specs.Rows.{Moment, moment_of}
+use Rattle.code_cfi.specs.Rows.{Moment}
+use Rattle.code_cfi.specs.steps.Rows.{moment_of}
 use Rattle.code_cfi.proofs.UniqueRows.{no_cie_run, no_fde_run}
 use Rattle.code_cfi.proofs.table.EntryTable.row.Goals as goal
 

@@ -1,6 +1,6 @@
 use Rattle.std.proofs.Common.{◌≡◌, ◌≤◌, ℕ, List, length, rules, subst, sym}
 use Rattle.std.proofs.lemmas.Result.{IfErr-weaker}
-use Rattle.code_cfi.specs.Rows.{moment_of, NoRun}
+use Rattle.code_cfi.specs.steps.Rows.{moment_of, NoRun}
 use Rattle.code_cfi.specs.TableRows.{encoding_in, program_in}
 use Rattle.code_cfi.proofs.table.EntryTable.run.Goals as goal
 

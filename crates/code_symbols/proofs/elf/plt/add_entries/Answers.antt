@@ -1,5 +1,5 @@
 use Rattle.std.proofs.Common.{sym, subst, arith}
-use Rattle.code_symbols.specs.Plt.{AddsPlt}
+use Rattle.code_symbols.specs.steps.Plt.{AddsPlt}
 use Rattle.code_symbols.specs.declared.elf.plt.PltEntry.{PltEntry}
 use Rattle.code_symbols.specs.declared.elf.plt.Relocation.{Relocation}
 use Rattle.code_symbols.specs.declared.elf.plt.RelocationKind.TheVariants.{Other}

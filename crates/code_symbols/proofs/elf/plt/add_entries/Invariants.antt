@@ -1,4 +1,4 @@
-use Rattle.code_symbols.specs.Plt.{AddsPlt}
+use Rattle.code_symbols.specs.steps.Plt.{AddsPlt}
 use Rattle.code_symbols.proofs.elf.plt.add_entries.Given as goal
 
 abbrev pub invariant-relocations : goal.invariant-relocations

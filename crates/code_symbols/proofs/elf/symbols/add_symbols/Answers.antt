@@ -1,5 +1,5 @@
 use Rattle.std.proofs.Common.{ℕ, ◌+◌, ◌≤◌, List, length, sym, subst, arith}
-use Rattle.code_symbols.specs.Elf.{AddsEntries}
+use Rattle.code_symbols.specs.steps.Elf.{AddsEntries}
 use Rattle.code_symbols.proofs.EntryLemmas.{adds_more, next_offset, of_entry}
 use Rattle.code_symbols.proofs.elf.symbols.add_symbols.Goals as goal
 use Rattle.code_symbols.proofs.elf.symbols.add_symbols.Goals.{in-Some+in_ok-push, in_default}

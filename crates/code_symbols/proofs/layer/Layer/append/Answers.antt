@@ -1,7 +1,8 @@
 use Rattle.std.proofs.Common.{◌≡◌, ◌+◌, ◌<◌, [], ◌∷◌, ◌++◌, ◌∙◌, arith, ap, sym, subst, take, None, Some}
 use Rattle.std.specs.Prelude.{if◌then◌else◌, is_ok}
 use Rattle.std.specs.List.Sorted.{IsNonDecreasingBy}
-use Rattle.code_symbols.specs.Boundaries.{IsAppendPoint, symbol_from}
+use Rattle.code_symbols.specs.Boundaries.{symbol_from}
+use Rattle.code_symbols.specs.steps.Boundaries.{IsAppendPoint}
 use Rattle.code_symbols.specs.declared.boundary.Boundary.{Boundary}
 use Rattle.code_symbols.proofs.AppendLemmas.{appended-same, sorted-second}
 use Rattle.code_symbols.proofs.layer.Layer.append.Goals as goal

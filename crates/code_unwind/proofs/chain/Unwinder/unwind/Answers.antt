@@ -1,5 +1,5 @@
 use Rattle.code_unwind.specs.Chains.{frame_limit, first_frame}
-use Rattle.code_unwind.specs.Steps.{Finds}
+use Rattle.code_unwind.specs.FrameSteps.{Finds}
 use Rattle.code_unwind.proofs.ChainLemmas.{result_mapped}
 use Rattle.code_unwind.proofs.chain.Unwinder.unwind.Goals as goal
 

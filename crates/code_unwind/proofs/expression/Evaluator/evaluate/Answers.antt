@@ -1,6 +1,7 @@
 use Rattle.std.proofs.Common.{◌≡◌, List, ℕ, [], ◌∷◌, length, Err, refl, inr, subst, arith}
 use Rattle.std.proofs.lemmas.Result.{err_from_is_err_and}
-use Rattle.code_unwind.specs.Expressions.{Context, moment_at, RunsFrom}
+use Rattle.code_unwind.specs.Expressions.{Context, RunsFrom}
+use Rattle.code_unwind.specs.steps.Expressions.{moment_at}
 use Rattle.code_unwind.proofs.ExpressionLemmas.{ends_with_top, spends_same}
 use Rattle.code_unwind.proofs.expression.Evaluator.evaluate.Goals as goal
 

@@ -1,5 +1,6 @@
 use Rattle.std.proofs.Common.{ℕ, ◌-◌, ◌≤◌, length, Result}
-use Rattle.code_unwind.specs.Expressions.{moment_at, remaining_of, RunsFrom, Evaluates}
+use Rattle.code_unwind.specs.Expressions.{remaining_of, RunsFrom, Evaluates}
+use Rattle.code_unwind.specs.steps.Expressions.{moment_at}
 use Rattle.code_unwind.specs.declared.expression.ExpressionError.{ExpressionError}
 use Rattle.code_unwind.proofs.expression.Evaluator.evaluate.Given as goal
 

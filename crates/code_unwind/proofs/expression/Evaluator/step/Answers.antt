@@ -1,8 +1,10 @@
 use Rattle.std.proofs.Common.{◌+◌, ◌-◌, ◌%◌, ◌^◌, ◌<◌, ℕ, length, ap, subst, refl, inl, inr, arith}
 use Rattle.std.proofs.lemmas.Result.{err_from_is_err_and}
-use Rattle.code_unwind.specs.Expressions.{Context, moment_at}
+use Rattle.code_unwind.specs.Expressions.{Context}
+use Rattle.code_unwind.specs.steps.Expressions.{moment_at}
 use Rattle.code_unwind.specs.Operations.{NoOperation}
-use Rattle.code_unwind.specs.ExpressionStack.{stack_of, effect}
+use Rattle.code_unwind.specs.ExpressionStack.{effect}
+use Rattle.code_unwind.specs.steps.ExpressionStack.{stack_of}
 use Rattle.code_unwind.proofs.ExpressionLemmas.{bytes_from, next_at, leaves_ok, leaves_err}
 use Rattle.code_unwind.proofs.expression.Evaluator.step.Goals as goal
 

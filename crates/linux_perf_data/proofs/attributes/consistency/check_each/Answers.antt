@@ -1,5 +1,5 @@
 use Rattle.std.proofs.Common.{◌≡◌, ◌≢◌, ◌∙◌, true, false, ap, sym, subst, refl, arith}
-use Rattle.perfdata_base.specs.ParseInfo.{is_set}
+use Rattle.perfdata_identifiers.specs.ParseInfo.{is_set}
 use Rattle.linux_perf_data.specs.Attribute.{Attribute, ConformsTo, FirstNonconformingAt, missing_identifier, sample_id_all_differs, has_identifier, has_sample_id_all}
 use Rattle.linux_perf_data.specs.Descriptions.{described_attribute, described_attributes}
 use Rattle.linux_perf_data.proofs.ConsistencyChecks.{all_more, all_consumed, inconsistent_here}

@@ -1,5 +1,5 @@
 use Rattle.std.proofs.Common.{◌≡◌, false, true, get_or, ap, sym, ◌∙◌, arith}
-use Rattle.perfdata_base.specs.ParseInfo.{is_set}
+use Rattle.perfdata_identifiers.specs.ParseInfo.{is_set}
 use Rattle.linux_perf_data.specs.Attribute.{has_identifier}
 use Rattle.linux_perf_data.specs.Descriptions.{described_attribute}
 use Rattle.linux_perf_data.proofs.OneMoreAttribute.{looked_at}

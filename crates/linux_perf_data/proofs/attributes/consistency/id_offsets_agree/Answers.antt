@@ -1,5 +1,5 @@
 use Rattle.std.proofs.Common.{◌≡◌, ◌∙◌, ap, sym}
-use Rattle.perfdata_base.specs.ParseInfo.{id_parse_info_of}
+use Rattle.perfdata_identifiers.specs.ParseInfo.{id_parse_info_of}
 use Rattle.linux_perf_data.specs.Attribute.{Attribute}
 use Rattle.linux_perf_data.specs.Descriptions.{described_attribute}
 use Rattle.linux_perf_data.proofs.ConsistencyChecks.{all_more, one_of_all, all_consumed, offsets_equal, offsets_apart}

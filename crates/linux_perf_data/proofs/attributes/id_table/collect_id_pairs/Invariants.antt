@@ -1,6 +1,6 @@
 use Rattle.std.proofs.Common.{◌≡◌, ◌++◌, drop}
 use Rattle.linux_perf_data.specs.Descriptions.{described_attributes}
-use Rattle.linux_perf_data.specs.IdPairs.{id_pairs_of}
+use Rattle.linux_perf_data.specs.steps.IdPairs.{id_pairs_of}
 use Rattle.linux_perf_data.proofs.attributes.id_table.collect_id_pairs.Given as goal
 
 abbrev pub invariant-attributes : goal.invariant-attributes

@@ -1,8 +1,8 @@
 use Rattle.std.proofs.Common.{◌≡◌, ℕ}
 use Rattle.std.proofs.lemmas.Result.{IfOk-weaker}
 use Rattle.linux_perf_data.specs.Descriptions.{described_attributes}
-use Rattle.linux_perf_data.specs.IdBounds.{ResolvesIds}
-use Rattle.linux_perf_data.specs.IdPairs.{last_index_of_id}
+use Rattle.linux_perf_data.specs.steps.IdBounds.{ResolvesIds}
+use Rattle.linux_perf_data.specs.steps.IdPairs.{last_index_of_id}
 use Rattle.linux_perf_data.specs.IdTable.{id_lookup}
 use Rattle.linux_perf_data.proofs.LookupIds.{table_of_one, table_of_several}
 use Rattle.linux_perf_data.proofs.attributes.lookup.build_table.Goals as goal

@@ -1,5 +1,5 @@
 use Rattle.std.proofs.Common.{◌∙◌, ap}
-use Rattle.perfdata_base.specs.ParseInfo.{parse_info_of}
+use Rattle.perfdata_identifiers.specs.ParseInfo.{parse_info_of}
 use Rattle.linux_perf_data.proofs.ConsistencyChecks.{infos_more, infos_all}
 use Rattle.linux_perf_data.proofs.attributes.lookup.collect_parse_infos.Goals as goal
 

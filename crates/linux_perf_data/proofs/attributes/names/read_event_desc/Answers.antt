@@ -1,7 +1,7 @@
 use Rattle.std.proofs.Common.{◌∙◌, ap}
 use Rattle.std.specs.Io.Cursor.{cursor_position}
-use Rattle.perfdata_base.specs.Source.{memory_source_at}
-use Rattle.perfdata_base.specs.declared.endian.Endianness.TheVariants.{LittleEndian, BigEndian}
+use Rattle.perfdata_sources.specs.Source.{memory_source_at}
+use Rattle.perfdata_sources.specs.declared.endian.Endianness.TheVariants.{LittleEndian, BigEndian}
 use Rattle.linux_perf_data.proofs.FileAttributes.{event_desc_read}
 use Rattle.linux_perf_data.proofs.attributes.names.read_event_desc.Goals as goal
 

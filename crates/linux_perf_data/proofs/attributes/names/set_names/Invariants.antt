@@ -1,6 +1,6 @@
 use Rattle.std.proofs.Common.{◌≡◌, length, take, drop, vec_len}
 use Rattle.linux_perf_data.specs.Descriptions.{described_attributes}
-use Rattle.linux_perf_data.specs.Names.{names_in, name_bytes_of}
+use Rattle.linux_perf_data.specs.steps.Names.{names_in, name_bytes_of}
 use Rattle.linux_perf_data.proofs.attributes.names.set_names.Given as goal
 
 abbrev pub invariant-attributes : goal.invariant-attributes

@@ -1,7 +1,7 @@
 use Rattle.std.proofs.Common.{rules, ◌≡◌, ◌∙◌, ◌<◌, [], length, length-set, arith, subst}
 use Rattle.std.specs.List.{All}
 use Rattle.std.proofs.lemmas.List.{nil_from_length}
-use Rattle.linux_perf_data.specs.Renames.{AreRenamesFor, Rename}
+use Rattle.linux_perf_data.specs.steps.Renames.{AreRenamesFor, Rename}
 use Rattle.linux_perf_data.proofs.Naming.{renamed}
 use Rattle.linux_perf_data.proofs.RenameLemmas.{all_but_last, rename_applied, renames_applied}
 use Rattle.linux_perf_data.proofs.attributes.renames.apply_renames.Goals as goal

@@ -1,7 +1,7 @@
 use Rattle.std.proofs.Common.{◌≡◌, ◌<◌, length, vec_len}
 use Rattle.std.specs.List.{All}
 use Rattle.linux_perf_data.specs.Descriptions.{described_attributes}
-use Rattle.linux_perf_data.specs.Renames.{AreRenamesFor}
+use Rattle.linux_perf_data.specs.steps.Renames.{AreRenamesFor}
 use Rattle.linux_perf_data.specs.declared.attributes.names.NameTable.{NameTable}
 use Rattle.linux_perf_data.proofs.attributes.renames.apply_renames.Given as goal
 

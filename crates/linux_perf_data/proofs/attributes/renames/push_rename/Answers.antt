@@ -1,8 +1,8 @@
 use Rattle.std.proofs.Common.{◌≡◌, ◌∙◌, [], ap, sym}
 use Rattle.std.proofs.lemmas.List.{get_or-map}
 use Rattle.perfdata_sections.specs.AttributeDescription.{ids_in}
-use Rattle.linux_perf_data.specs.NameTable.{name_from_table}
-use Rattle.linux_perf_data.specs.Renames.{ids_at}
+use Rattle.linux_perf_data.specs.steps.NameTable.{name_from_table}
+use Rattle.linux_perf_data.specs.steps.Renames.{ids_at}
 use Rattle.linux_perf_data.proofs.RenameLemmas.{renamed_more}
 use Rattle.linux_perf_data.proofs.attributes.renames.push_rename.Goals as goal
 

@@ -1,7 +1,7 @@
 use Rattle.std.proofs.Common.{◌∙◌, ◌++◌, ap, sym, take, get_or, rules, take-append-drop, drop-cons}
 use Rattle.std.proofs.lemmas.List.{take_more}
 use Rattle.std.proofs.lemmas.Result.{err_from_is_err_and}
-use Rattle.perfdata_base.specs.declared.features.Feature.{Feature}
+use Rattle.perfdata_identifiers.specs.declared.features.Feature.{Feature}
 use Rattle.perfdata_base.specs.declared.section.PerfFileSection.{PerfFileSection}
 use Rattle.linux_perf_data.proofs.FeatureTables.{data_more, data_error, data_put}
 use Rattle.linux_perf_data.proofs.file.feature_data.read_feature_data.Goals as goal

@@ -1,5 +1,5 @@
 use Rattle.std.proofs.Common.{◌≡◌, take}
-use Rattle.linux_perf_data.specs.FeatureData.{feature_entries_of}
+use Rattle.linux_perf_data.specs.steps.FeatureData.{feature_entries_of}
 use Rattle.linux_perf_data.proofs.FeatureTables.{DataSoFar}
 use Rattle.linux_perf_data.proofs.file.feature_data.read_feature_data.Given as goal
 

@@ -1,7 +1,7 @@
 use Rattle.std.proofs.Common.{subst}
 use Rattle.std.proofs.lemmas.Result.{err_from_is_err_and}
-use Rattle.perfdata_base.specs.Features.{features_of}
-use Rattle.linux_perf_data.specs.FeatureData.{ReadsFeatureData, feature_entries_of}
+use Rattle.perfdata_identifiers.specs.Features.{features_of}
+use Rattle.linux_perf_data.specs.steps.FeatureData.{ReadsFeatureData, feature_entries_of}
 use Rattle.linux_perf_data.proofs.FeatureTables.{sections_read, table_error}
 use Rattle.linux_perf_data.proofs.file.feature_data.read_features.Goals as goal
 

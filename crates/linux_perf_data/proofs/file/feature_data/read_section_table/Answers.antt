@@ -1,6 +1,6 @@
 use Rattle.std.proofs.Common.{◌∙◌, ap, rules}
 use Rattle.std.proofs.lemmas.Result.{err_from_is_err_and}
-use Rattle.perfdata_base.specs.Features.{features_of, remaining_features}
+use Rattle.perfdata_identifiers.specs.Features.{features_of, remaining_features}
 use Rattle.linux_perf_data.proofs.FeatureTables.{table_none, table_more, table_truncated, table_full}
 use Rattle.linux_perf_data.proofs.file.feature_data.read_section_table.Goals as goal
 

@@ -1,6 +1,6 @@
 use Rattle.std.proofs.Common.{◌≡◌}
-use Rattle.perfdata_base.specs.Features.{features_of, remaining_features}
-use Rattle.linux_perf_data.specs.FeatureData.{feature_entries_of}
+use Rattle.perfdata_identifiers.specs.Features.{features_of, remaining_features}
+use Rattle.linux_perf_data.specs.steps.FeatureData.{feature_entries_of}
 use Rattle.linux_perf_data.proofs.FeatureTables.{SoFar}
 use Rattle.linux_perf_data.proofs.file.feature_data.read_section_table.Given as goal
 

@@ -1,7 +1,7 @@
 use Rattle.std.proofs.Common.{subst}
 use Rattle.std.specs.Option.{option_map}
 use Rattle.std.proofs.lemmas.Result.{err_from_is_err_and}
-use Rattle.linux_perf_data.specs.AttributeSources.{ReadsSimpleperfSection}
+use Rattle.linux_perf_data.specs.steps.AttributeSources.{ReadsSimpleperfSection}
 use Rattle.linux_perf_data.proofs.FileAttributes.{desc_read, types_read, meta_info_error, named_read}
 use Rattle.linux_perf_data.proofs.NamedErrors.{file_event_desc, file_types, file_simpleperf, file_attrs, file_meta_info}
 use Rattle.linux_perf_data.proofs.file.opening.read_attributes.Goals as goal

@@ -2,7 +2,7 @@ use Rattle.std.proofs.Common.{◌≢◌, Ok, Err, length, rules, subst}
 use Rattle.std.proofs.lemmas.Result.{err_from_is_err_and}
 use Rattle.linux_perf_data.specs.Attribute.{AreConsistent}
 use Rattle.linux_perf_data.specs.AttributeSources.{ReadsAttributes}
-use Rattle.linux_perf_data.specs.Consistency.{ChecksConsistency}
+use Rattle.linux_perf_data.specs.steps.Consistency.{ChecksConsistency}
 use Rattle.linux_perf_data.specs.Descriptions.{described_attributes}
 use Rattle.linux_perf_data.proofs.FileOpenings.{sources_both, sources_error, attributes_none, attributes_inconsistent, attributes_consistent}
 use Rattle.linux_perf_data.proofs.file.opening.read_consistent_attributes.Goals as goal

@@ -1,6 +1,6 @@
 use Rattle.std.proofs.Common.{◌≡◌, refl, sym, subst}
 use Rattle.std.proofs.lemmas.Result.{err_from_is_err_and}
-use Rattle.perfdata_base.specs.Source.{memory_source_at}
+use Rattle.perfdata_sources.specs.Source.{memory_source_at}
 use Rattle.linux_perf_data.specs.OpenedFile.{FileParsed, FileParseError}
 use Rattle.linux_perf_data.specs.InMemory.{memory_state, IsInPlace}
 use Rattle.linux_perf_data.proofs.InMemoryPlaces.{file_in_place}

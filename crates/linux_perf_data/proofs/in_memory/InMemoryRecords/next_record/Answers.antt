@@ -1,5 +1,5 @@
 use Rattle.std.proofs.Common.{rules, ◌≡◌, sym, ap, subst, length, take, drop, ◌+◌, ◌≤◌}
-use Rattle.perfdata_base.specs.Raw.{bytes_of, IsSingle}
+use Rattle.perfdata_sources.specs.Raw.{bytes_of, IsSingle}
 use Rattle.linux_perf_data.specs.RecordViews.{record_view_of, record_view_with}
 use Rattle.linux_perf_data.specs.Iter.{ReturnsRecord}
 use Rattle.linux_perf_data.specs.InMemory.{memory_state, with_buffer}

@@ -1,10 +1,12 @@
 use Rattle.std.proofs.Common.{rules, arith, ◌≡◌, refl, sym, ap, subst, length, take, drop, ◌+◌, ◌≤◌}
-use Rattle.perfdata_base.specs.Raw.{bytes_of, IsSingle}
-use Rattle.linux_perf_data.specs.FileWalk.{IsWalkAhead, records_at_walk, with_lookup}
-use Rattle.linux_perf_data.specs.RecordViews.{IdentifiesRecord, record_view_of, record_view_with}
+use Rattle.perfdata_sources.specs.Raw.{bytes_of, IsSingle}
+use Rattle.linux_perf_data.specs.steps.FileWalk.{IsWalkAhead, records_at_walk, with_lookup}
+use Rattle.linux_perf_data.specs.RecordViews.{record_view_of, record_view_with}
+use Rattle.linux_perf_data.specs.steps.RecordViews.{IdentifiesRecord}
 use Rattle.linux_perf_data.specs.Iter.{ReturnsRecord}
-use Rattle.linux_perf_data.specs.WalkEntries.{TakesRecordOfWalk}
-use Rattle.linux_perf_data.specs.InMemory.{IsInPlace, RecordTaken, memory_state, with_buffer}
+use Rattle.linux_perf_data.specs.steps.WalkEntries.{TakesRecordOfWalk}
+use Rattle.linux_perf_data.specs.InMemory.{IsInPlace, memory_state, with_buffer}
+use Rattle.linux_perf_data.specs.steps.InMemory.{RecordTaken}
 use Rattle.linux_perf_data.proofs.FileRecordsTaken.{taken_with_body}
 use Rattle.linux_perf_data.proofs.InMemoryPlaces.{body_in_place, body_ends_in_place}
 use Rattle.linux_perf_data.proofs.WalksAhead.{record_of_walk, records_with_lookup, same_records, walk_moves}

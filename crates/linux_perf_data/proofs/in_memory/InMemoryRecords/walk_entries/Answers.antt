@@ -1,6 +1,6 @@
 use Rattle.std.proofs.Common.{arith, [], refl, sym, subst}
-use Rattle.linux_perf_data.specs.FileWalk.{PeeksNextRecord, records_at_walk}
-use Rattle.linux_perf_data.specs.WalkEntries.{EntriesSoFar}
+use Rattle.linux_perf_data.specs.steps.FileWalk.{PeeksNextRecord, records_at_walk}
+use Rattle.linux_perf_data.specs.steps.WalkEntries.{EntriesSoFar}
 use Rattle.linux_perf_data.proofs.EntryLemmas.{one_entry_more}
 use Rattle.linux_perf_data.proofs.WalksAhead.{at_start, walk_starts}
 use Rattle.linux_perf_data.proofs.WalkedEntries.{read_all, read_up_to_marker}

@@ -1,6 +1,6 @@
 use Rattle.std.proofs.Common.{◌-◌, length}
-use Rattle.linux_perf_data.specs.FileWalk.{IsWalkAhead, records_at_walk}
-use Rattle.linux_perf_data.specs.WalkEntries.{EntriesSoFar}
+use Rattle.linux_perf_data.specs.steps.FileWalk.{IsWalkAhead, records_at_walk}
+use Rattle.linux_perf_data.specs.steps.WalkEntries.{EntriesSoFar}
 use Rattle.linux_perf_data.proofs.in_memory.InMemoryRecords.walk_entries.Given as goal
 
 abbrev pub invariant-records : goal.invariant-records

@@ -1,6 +1,6 @@
 use Rattle.std.proofs.Common.{arith, refl, ◌∙◌}
-use Rattle.linux_perf_data.specs.FileWalk.{records_at_walk}
-use Rattle.linux_perf_data.specs.WalkEntries.{EntriesSoFar}
+use Rattle.linux_perf_data.specs.steps.FileWalk.{records_at_walk}
+use Rattle.linux_perf_data.specs.steps.WalkEntries.{EntriesSoFar}
 use Rattle.linux_perf_data.proofs.EntryLemmas.{one_entry_more}
 use Rattle.linux_perf_data.proofs.WalksAhead.{same_at_walk}
 use Rattle.linux_perf_data.proofs.in_memory.InMemoryRecords.walk_kernel_entries.Goals as goal

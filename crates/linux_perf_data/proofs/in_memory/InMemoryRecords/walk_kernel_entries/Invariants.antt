@@ -1,9 +1,9 @@
 use Rattle.std.proofs.Common.{◌≡◌, ◌-◌, ◌≤◌, List, length}
 use Rattle.linux_perf_data.specs.declared.in_memory.InMemoryRecords.{InMemoryRecords}
 use Rattle.linux_perf_data.specs.declared.in_memory.entries.RecordEntry.{RecordEntry}
-use Rattle.linux_perf_data.specs.FileWalk.{IsWalkAhead, records_at_walk}
+use Rattle.linux_perf_data.specs.steps.FileWalk.{IsWalkAhead, records_at_walk}
 use Rattle.linux_perf_data.specs.InMemoryReading.{first_record_offset_of}
-use Rattle.linux_perf_data.specs.WalkEntries.{EntriesSoFar}
+use Rattle.linux_perf_data.specs.steps.WalkEntries.{EntriesSoFar}
 use Rattle.linux_perf_data.proofs.in_memory.InMemoryRecords.walk_kernel_entries.Given as goal
 
 abbrev pub invariant-records : goal.invariant-records

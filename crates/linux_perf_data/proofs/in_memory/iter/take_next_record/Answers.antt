@@ -1,9 +1,9 @@
 use Rattle.std.proofs.Common.{arith, refl, ap, subst, [], ◌∙◌}
-use Rattle.perfdata_base.proofs.ConsumedLemmas.{consumed_none}
+use Rattle.perfdata_sources.proofs.ConsumedLemmas.{consumed_none}
 use Rattle.linux_perf_data.specs.declared.in_memory.raw_record.RawRecord.TheVariants.{Marker, Record, End}
 use Rattle.linux_perf_data.specs.RecordViews.{record_view_with}
 use Rattle.linux_perf_data.specs.Iter.{iter_source_state, ReturnsRecord}
-use Rattle.linux_perf_data.specs.IterSteps.{RecordProcessed, RecordRejected}
+use Rattle.linux_perf_data.specs.steps.IterSteps.{RecordProcessed, RecordRejected}
 use Rattle.linux_perf_data.specs.InMemory.{memory_state, with_buffer}
 use Rattle.linux_perf_data.proofs.IterCalls.{running_not_ended, running_not_failed, idles_on, returns_record, stops, section_ends, pipe_ends, same_later}
 use Rattle.linux_perf_data.proofs.InMemoryCalls.{raw_record_taken, rejected_stops, rejected_consumes}

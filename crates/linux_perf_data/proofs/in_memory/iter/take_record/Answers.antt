@@ -1,5 +1,5 @@
 use Rattle.std.proofs.Common.{◌≡◌, subst}
-use Rattle.linux_perf_data.specs.InMemory.{TakesRecord}
+use Rattle.linux_perf_data.specs.steps.InMemory.{TakesRecord}
 use Rattle.linux_perf_data.proofs.in_memory.iter.take_record.Goals as goal
 
 pub returns-in-Some : goal.returns-in-Some

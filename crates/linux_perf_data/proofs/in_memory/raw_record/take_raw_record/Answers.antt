@@ -1,5 +1,5 @@
 use Rattle.std.proofs.Common.{◌≡◌, ap, subst, ◌∙◌}
-use Rattle.linux_perf_data.specs.InMemory.{TakesRawRecord}
+use Rattle.linux_perf_data.specs.steps.InMemory.{TakesRawRecord}
 use Rattle.linux_perf_data.proofs.in_memory.raw_record.take_raw_record.Goals as goal
 
 pub returns-in-Some-clause-raw_record : goal.returns-in-Some-clause-raw_record

@@ -5,7 +5,7 @@ use Rattle.perfdata_sections.specs.declared.error.Error.TheVariants.{Read}
 use Rattle.perfdata_sections.specs.declared.error.ReadError.TheVariants.{PerfEventData}
 use Rattle.linux_perf_data.specs.RecordInput.{input_source_state}
 use Rattle.linux_perf_data.specs.Iter.{section_size_of, iter_source_state}
-use Rattle.linux_perf_data.specs.RecordFraming.{RecordTruncatedAt, RecordErrorAt}
+use Rattle.linux_perf_data.specs.steps.RecordFraming.{RecordTruncatedAt, RecordErrorAt}
 use Rattle.linux_perf_data.specs.InMemory.{memory_state}
 use Rattle.linux_perf_data.proofs.RecordReads.{header_truncated, header_short, header_error, not_header_memory, pass_truncated, pass_short, content_truncated, content_short, content_error, marker_whole, content_whole, after_header}
 use Rattle.linux_perf_data.proofs.SourceViews.{header_some, header_none, pass_true, pass_false, skipped_in, ended_in, content_in, ended_content_in, no_content_in}

@@ -2,9 +2,9 @@ use Rattle.std.proofs.Common.{rules, arith, ◌≡◌, ◌+◌, ◌-◌, ◌^◌
 use Rattle.std.specs.Prelude.{if◌then◌else◌}
 use Rattle.std.proofs.lemmas.List.{length-drop, length-take}
 use Rattle.std.specs.Io.Cursor.{cursor_inner, cursor_position}
-use Rattle.perfdata_base.specs.Source.{Consumed}
+use Rattle.perfdata_sources.specs.Source.{Consumed}
 use Rattle.perfdata_sections.specs.RecordTypes.{finished_round}
-use Rattle.linux_perf_data.specs.BufferedRecord.{WholeRecordLength}
+use Rattle.linux_perf_data.specs.steps.BufferedRecord.{WholeRecordLength}
 use Rattle.linux_perf_data.specs.RecordInput.{HasNoPendingHeader}
 use Rattle.linux_perf_data.specs.InMemory.{memory_state}
 use Rattle.linux_perf_data.proofs.InMemoryCalls.{buffer_of}

@@ -1,5 +1,5 @@
 use Rattle.std.proofs.Common.{sym, subst}
-use Rattle.linux_perf_data.specs.NameTable.{HasTableWithEndian}
+use Rattle.linux_perf_data.specs.steps.NameTable.{HasTableWithEndian}
 use Rattle.linux_perf_data.proofs.perf_file.PerfFile.find_names.Goals as goal
 
 pub returns : goal.returns

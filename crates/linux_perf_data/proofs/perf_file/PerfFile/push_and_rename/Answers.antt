@@ -2,7 +2,7 @@ use Rattle.std.proofs.Common.{◌≡◌, ◌∙◌, ap, subst, sym}
 use Rattle.std.proofs.lemmas.List.{with_items_is}
 use Rattle.perfdata_sections.specs.AttributeDescription.{ids_in, name_in}
 use Rattle.linux_perf_data.specs.Descriptions.{described_attributes}
-use Rattle.linux_perf_data.specs.NameTable.{name_from_table}
+use Rattle.linux_perf_data.specs.steps.NameTable.{name_from_table}
 use Rattle.linux_perf_data.specs.FeatureNumbers.{event_desc}
 use Rattle.linux_perf_data.specs.FirstIdIndex.{IndexesAttributes, id_lists_of}
 use Rattle.linux_perf_data.specs.Names.{NamedBy}

@@ -1,5 +1,5 @@
 use Rattle.std.proofs.Common.{◌∙◌, ap, sym}
-use Rattle.linux_perf_data.specs.NameTable.{name_from_table}
+use Rattle.linux_perf_data.specs.steps.NameTable.{name_from_table}
 use Rattle.linux_perf_data.proofs.FirstIdIndexes.{index_pushed}
 use Rattle.linux_perf_data.proofs.NameTables.{kept_names_pushed}
 use Rattle.linux_perf_data.proofs.perf_file.PerfFile.push_named.Goals as goal

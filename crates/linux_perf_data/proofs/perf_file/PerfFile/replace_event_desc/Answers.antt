@@ -1,12 +1,12 @@
 use Rattle.std.proofs.Common.{◌≡◌, ◌∙◌, ap, sym, subst, Some}
 use Rattle.std.proofs.lemmas.List.{with_items_is}
 use Rattle.linux_perf_data.specs.Descriptions.{described_attributes}
-use Rattle.linux_perf_data.specs.NameTable.{IsTableOf}
+use Rattle.linux_perf_data.specs.steps.NameTable.{IsTableOf}
 use Rattle.linux_perf_data.specs.FeatureNumbers.{event_desc}
 use Rattle.linux_perf_data.specs.FirstIdIndex.{IndexesAttributes, id_lists_of}
 use Rattle.linux_perf_data.specs.Names.{NamedBy}
 use Rattle.linux_perf_data.specs.PerfFile.{feature_data_in_file, descriptions_of_file}
-use Rattle.linux_perf_data.specs.Renames.{AreRenamesFor}
+use Rattle.linux_perf_data.specs.steps.Renames.{AreRenamesFor}
 use Rattle.linux_perf_data.proofs.FirstIdIndexes.{index_renamed}
 use Rattle.linux_perf_data.proofs.LateMetadataLemmas.{replaced_after}
 use Rattle.linux_perf_data.proofs.NameTables.{named_by_table, no_events, no_names, no_none, no_some, table_events, table_names, table_none, table_some}

@@ -1,4 +1,4 @@
-use Rattle.perfdata_base.specs.declared.endian.Endianness.TheVariants.{LittleEndian, BigEndian}
+use Rattle.perfdata_sources.specs.declared.endian.Endianness.TheVariants.{LittleEndian, BigEndian}
 use Rattle.linux_perf_data.proofs.Slices.{units_ok, units_err}
 use Rattle.linux_perf_data.proofs.perf_file.parse.parse_pmu_mappings.Goals as goal
 use Rattle.linux_perf_data.proofs.perf_file.parse.parse_pmu_mappings.Goals.{in-LittleEndian, in-BigEndian}

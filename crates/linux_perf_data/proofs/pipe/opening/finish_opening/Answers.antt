@@ -2,11 +2,11 @@ use Rattle.std.proofs.Common.{◌∙◌, Err, length, refl, sym, ap, subst, arit
 use Rattle.std.specs.Option.{option_map}
 use Rattle.std.proofs.lemmas.Result.{err_from_is_err_and}
 use Rattle.std.proofs.lemmas.List.{with_items_is}
-use Rattle.linux_perf_data.specs.NameTable.{IsTableOf}
+use Rattle.linux_perf_data.specs.steps.NameTable.{IsTableOf}
 use Rattle.linux_perf_data.specs.Attribute.{AreConsistent}
 use Rattle.linux_perf_data.specs.Descriptions.{described_attributes}
 use Rattle.linux_perf_data.specs.Names.{NamedBy}
-use Rattle.linux_perf_data.specs.PipeSteps.{NamesConsistentAttributes}
+use Rattle.linux_perf_data.specs.steps.PipeSteps.{NamesConsistentAttributes}
 use Rattle.linux_perf_data.specs.FeatureData.{feature_data_of}
 use Rattle.linux_perf_data.proofs.NameTables.{table_events, table_names, table_none, table_some}
 use Rattle.linux_perf_data.proofs.PipeFinish.{names_kept, finish_error}

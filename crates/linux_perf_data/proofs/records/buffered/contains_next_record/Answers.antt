@@ -3,7 +3,8 @@ use Rattle.std.proofs.Math.Seq.{take-add}
 use Rattle.std.proofs.lemmas.Bool.{false≢true}
 use Rattle.std.proofs.lemmas.List.{drop-drop, length-take-le}
 use Rattle.perfdata_sections.specs.RecordTypes.{finished_round}
-use Rattle.linux_perf_data.specs.BufferedRecord.{ContainsNextRecord, PeeksWholeRecord, WholeRecordLength}
+use Rattle.linux_perf_data.specs.BufferedRecord.{ContainsNextRecord}
+use Rattle.linux_perf_data.specs.steps.BufferedRecord.{PeeksWholeRecord, WholeRecordLength}
 use Rattle.linux_perf_data.specs.RecordInput.{section_size_in}
 use Rattle.linux_perf_data.specs.Layout.{ConsistsOfMarkers, MayStartAt, record_type_of}
 use Rattle.linux_perf_data.proofs.BufferedRecords.{front_record_type, shows_after, shows_here, starts}

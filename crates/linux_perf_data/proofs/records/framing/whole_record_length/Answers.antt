@@ -1,6 +1,6 @@
 use Rattle.std.proofs.Common.{rules, arith, ◌≡◌, ◌≢◌, ◌+◌, ◌≤◌, length, sym, ap, ◌∙◌, subst}
 use Rattle.std.proofs.lemmas.List.{take_rest}
-use Rattle.perfdata_base.specs.Endian.{number_in}
+use Rattle.perfdata_sources.specs.Endian.{number_in}
 use Rattle.linux_perf_data.specs.Layout.{IsCompressed, record_type_of, record_size_of, aux_size_of}
 use Rattle.linux_perf_data.proofs.BufferedRecords.{whole_first_part}
 use Rattle.linux_perf_data.proofs.RecordHeaders.{total_size_plain, total_size_auxtrace}

@@ -1,6 +1,6 @@
 use Rattle.std.specs.Option.{option_map}
-use Rattle.perfdata_base.specs.ParseInfo.{is_set}
-use Rattle.perfdata_base.specs.Raw.{bytes_of}
+use Rattle.perfdata_identifiers.specs.ParseInfo.{is_set}
+use Rattle.perfdata_sources.specs.Raw.{bytes_of}
 use Rattle.perfdata_events.specs.CallChain.{chain, chain_values_of}
 use Rattle.perfdata_events.specs.Format.{optional}
 use Rattle.perfdata_events.specs.ReadValues.{read_values, values_of}

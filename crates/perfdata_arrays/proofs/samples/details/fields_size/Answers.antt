@@ -1,6 +1,6 @@
 use Rattle.std.proofs.Common.{◌-◌, length, subst, ap, ◌∙◌}
-use Rattle.perfdata_base.specs.Endian.{number_in}
-use Rattle.perfdata_base.specs.Raw.{bytes_of}
+use Rattle.perfdata_sources.specs.Endian.{number_in}
+use Rattle.perfdata_sources.specs.Raw.{bytes_of}
 use Rattle.perfdata_events.specs.Format.{encodes}
 use Rattle.perfdata_events.specs.Sample.{sample, sample_of}
 use Rattle.perfdata_arrays.proofs.samples.details.fields_size.Goals as goal

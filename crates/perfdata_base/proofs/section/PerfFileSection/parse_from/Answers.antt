@@ -1,6 +1,6 @@
 use Rattle.std.proofs.Common.{rules, subst, Ok}
 use Rattle.perfdata_base.specs.Section.{ParsesSectionEntry}
-use Rattle.perfdata_base.proofs.Numbers.{same_number}
+use Rattle.perfdata_sources.proofs.Numbers.{same_number}
 use Rattle.perfdata_base.proofs.section.PerfFileSection.parse_from.Goals as goal
 
 pub returns-clause-parses : goal.returns-clause-parses

@@ -1,5 +1,5 @@
 use Rattle.std.proofs.Common.{◌≡◌, length}
-use Rattle.perfdata_base.specs.Raw.{bytes_of}
+use Rattle.perfdata_sources.specs.Raw.{bytes_of}
 use Rattle.perfdata_events.specs.CallChain.{frames_of}
 use Rattle.perfdata_events.specs.Words.{u64s_in}
 use Rattle.perfdata_events.proofs.fields.call_chain.split_first_frame.Given as goal

@@ -1,6 +1,6 @@
 use Rattle.std.proofs.Common.{◌≡◌, ◌*◌, subst, arith}
-use Rattle.perfdata_base.specs.Raw.{bytes_of}
-use Rattle.perfdata_base.specs.Endian.{number_in}
+use Rattle.perfdata_sources.specs.Raw.{bytes_of}
+use Rattle.perfdata_sources.specs.Endian.{number_in}
 use Rattle.perfdata_events.specs.Format.{Decodes}
 use Rattle.perfdata_events.specs.Words.{u64s, u64s_in}
 use Rattle.perfdata_events.proofs.fields.words.read_u64_list.Goals as goal

@@ -1,4 +1,4 @@
-use Rattle.perfdata_base.specs.Raw.{bytes_of}
+use Rattle.perfdata_sources.specs.Raw.{bytes_of}
 use Rattle.perfdata_events.proofs.Elements.{u64s_block, element_size}
 use Rattle.perfdata_events.proofs.fields.words.read_u64s.Goals as goal
 

@@ -1,4 +1,4 @@
-use Rattle.perfdata_base.specs.Raw.{bytes_of}
+use Rattle.perfdata_sources.specs.Raw.{bytes_of}
 use Rattle.perfdata_events.proofs.Elements.{split_first}
 use Rattle.perfdata_events.proofs.fields.words.split_first_u64.Goals as goal
 

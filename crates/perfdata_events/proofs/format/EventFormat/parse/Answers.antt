@@ -1,5 +1,5 @@
 use Rattle.std.proofs.Common.{rules, arith, ◌≡◌, true, false, sym, ◌∙◌}
-use Rattle.perfdata_base.specs.Raw.{bytes_of}
+use Rattle.perfdata_sources.specs.Raw.{bytes_of}
 use Rattle.perfdata_events.proofs.Events.{known_values, parsed_fields, failed_fields, parsed_sample, failed_sample}
 use Rattle.perfdata_events.proofs.Single.{single_sample}
 use Rattle.perfdata_events.proofs.format.EventFormat.parse.Goals as goal

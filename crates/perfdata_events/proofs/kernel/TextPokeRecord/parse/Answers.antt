@@ -1,6 +1,6 @@
 use Rattle.std.proofs.Common.{ap, ◌∙◌, ◌+◌}
-use Rattle.perfdata_base.specs.Raw.{bytes_of}
-use Rattle.perfdata_base.specs.Endian.{number_in}
+use Rattle.perfdata_sources.specs.Raw.{bytes_of}
+use Rattle.perfdata_sources.specs.Endian.{number_in}
 use Rattle.perfdata_events.specs.Format.{IsBlock}
 use Rattle.perfdata_events.specs.Fields.{u16_at, u64_at}
 use Rattle.perfdata_events.proofs.Blocks.{two_blocks_at, block_len}

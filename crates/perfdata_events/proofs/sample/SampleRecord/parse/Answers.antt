@@ -1,6 +1,6 @@
 use Rattle.std.proofs.Common.{inl, inr}
 use Rattle.std.proofs.lemmas.Result.{err_from_is_err_and}
-use Rattle.perfdata_base.specs.Raw.{bytes_of}
+use Rattle.perfdata_sources.specs.Raw.{bytes_of}
 use Rattle.std.specs.Option.{option_map}
 use Rattle.perfdata_events.specs.CallChain.{chain_values_of}
 use Rattle.perfdata_events.specs.ReadValues.{values_of}

@@ -1,6 +1,6 @@
 use Rattle.std.proofs.Common.{arith, refl, ap, ◌∙◌, subst, Ok}
 use Rattle.std.proofs.lemmas.List.{take_all}
-use Rattle.perfdata_base.specs.Raw.{bytes_of}
+use Rattle.perfdata_sources.specs.Raw.{bytes_of}
 use Rattle.perfdata_jit.proofs.KeptBytes.{header_copied}
 use Rattle.perfdata_jit.specs.BufferedReader.{ConsumesData}
 use Rattle.perfdata_jit.proofs.buffered_reader.BufferedReader.consume_header.Goals as goal

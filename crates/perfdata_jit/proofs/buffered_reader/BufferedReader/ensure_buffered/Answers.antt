@@ -1,5 +1,5 @@
 use Rattle.std.proofs.Common.{◌<◌, ◌++◌, refl, arith, ap, ◌∙◌, length, length-append}
-use Rattle.perfdata_base.proofs.ConsumedLemmas.{consumed_none_later}
+use Rattle.perfdata_sources.proofs.ConsumedLemmas.{consumed_none_later}
 use Rattle.perfdata_jit.specs.BufferedReader.{buffered_in}
 use Rattle.perfdata_jit.proofs.KeptBytes.{keeps_more}
 use Rattle.perfdata_jit.proofs.buffered_reader.BufferedReader.ensure_buffered.Goals as goal

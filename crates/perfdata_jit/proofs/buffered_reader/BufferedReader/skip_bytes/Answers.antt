@@ -1,7 +1,7 @@
 use Rattle.std.proofs.Common.{rules, arith, ◌≡◌, ◌++◌, ◌∙◌, [], sym, ap, refl, take, length-append, append-nil, length-take-le}
 use Rattle.std.proofs.lemmas.List.{take-append-drop}
-use Rattle.perfdata_base.proofs.ConsumedLemmas.{prepend_more}
-use Rattle.perfdata_base.specs.Source.{prepend}
+use Rattle.perfdata_sources.proofs.ConsumedLemmas.{prepend_more}
+use Rattle.perfdata_sources.specs.Source.{prepend}
 use Rattle.perfdata_jit.specs.BufferedReader.{buffered_in}
 use Rattle.perfdata_jit.specs.ReadBuffer.{read_buffer_bytes}
 use Rattle.perfdata_jit.proofs.Seeks.{skipped_if}

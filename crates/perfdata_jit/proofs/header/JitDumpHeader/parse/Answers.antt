@@ -1,5 +1,5 @@
 use Rattle.std.proofs.Common.{arith, inr}
-use Rattle.perfdata_base.specs.Raw.{bytes_of}
+use Rattle.perfdata_sources.specs.Raw.{bytes_of}
 use Rattle.perfdata_jit.proofs.JitHeaders.{header_declares, header_begins, header_missing}
 use Rattle.perfdata_jit.proofs.header.JitDumpHeader.parse.Goals as goal
 

@@ -1,7 +1,7 @@
 use Rattle.std.proofs.Common.{◌-◌, refl, subst, Ok}
 use Rattle.perfdata_jit.proofs.RecordHeaders.{holds_next, not_ready_for_body, body_error}
 use Rattle.perfdata_jit.proofs.KeptBytes.{buffered_if, not_buffered_if}
-use Rattle.perfdata_jit.specs.HeaderSteps.{PeeksValidHeader}
+use Rattle.perfdata_jit.specs.steps.HeaderSteps.{PeeksValidHeader}
 use Rattle.std.proofs.lemmas.Result.{err_from_is_err_and}
 use Rattle.perfdata_jit.proofs.jitdump_reader.JitDumpReader.buffer_record.Goals as goal
 

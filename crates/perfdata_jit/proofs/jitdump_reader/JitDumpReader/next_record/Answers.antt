@@ -1,6 +1,6 @@
 use Rattle.std.proofs.Common.{refl, ap, ◌∙◌, subst, Ok}
 use Rattle.perfdata_jit.proofs.Steps.{returns_record}
-use Rattle.perfdata_jit.specs.HeaderSteps.{BuffersRecord}
+use Rattle.perfdata_jit.specs.steps.HeaderSteps.{BuffersRecord}
 use Rattle.perfdata_jit.proofs.jitdump_reader.JitDumpReader.next_record.Goals as goal
 
 -- the header is pending and its body is buffered, and thus the consumed bytes are those of the body

@@ -1,6 +1,6 @@
 use Rattle.std.proofs.Common.{arith, subst, ap, ◌∙◌, Ok}
 use Rattle.perfdata_jit.specs.RecordBytes.{record_header_at}
-use Rattle.perfdata_jit.specs.HeaderSteps.{PeeksHeader}
+use Rattle.perfdata_jit.specs.steps.HeaderSteps.{PeeksHeader}
 use Rattle.perfdata_jit.proofs.jitdump_reader.JitDumpReader.peek_valid_header.Goals as goal
 
 pub returns-clause-peeks_header : goal.returns-clause-peeks_header

@@ -2,7 +2,7 @@ use Rattle.std.proofs.Common.{◌-◌, refl, subst, Ok, arith, inl, inr}
 use Rattle.perfdata_jit.proofs.RecordHeaders.{not_skipped}
 use Rattle.perfdata_jit.proofs.Steps.{skips_over, buffered_checked, buffered_after}
 use Rattle.perfdata_jit.proofs.KeptBytes.{skipped_if, unskipped_if}
-use Rattle.perfdata_jit.specs.HeaderSteps.{PeeksValidHeader}
+use Rattle.perfdata_jit.specs.steps.HeaderSteps.{PeeksValidHeader}
 use Rattle.perfdata_jit.proofs.jitdump_reader.JitDumpReader.skip_next_record.Goals as goal
 
 pub returns-in_err-header-clause-buffered : goal.returns-in_err-header-clause-buffered

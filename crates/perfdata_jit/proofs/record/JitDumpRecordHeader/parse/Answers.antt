@@ -1,6 +1,6 @@
 use Rattle.std.proofs.Common.{◌∙◌, take, drop, sym, ap, arith, length-take-le}
 use Rattle.std.proofs.lemmas.List.{take-append-drop}
-use Rattle.perfdata_base.specs.Raw.{bytes_of}
+use Rattle.perfdata_sources.specs.Raw.{bytes_of}
 use Rattle.perfdata_jit.specs.RecordBytes.{record_header_at}
 use Rattle.perfdata_jit.proofs.RecordHeaders.{header_front}
 use Rattle.perfdata_jit.proofs.record.JitDumpRecordHeader.parse.Goals as goal

@@ -1,7 +1,7 @@
 use Rattle.std.proofs.Common.{◌≡◌, subst}
 use Rattle.std.specs.Prelude.{IfOk}
-use Rattle.perfdata_base.specs.Raw.{bytes_of}
-use Rattle.perfdata_base.proofs.Numbers.{same_number}
+use Rattle.perfdata_sources.specs.Raw.{bytes_of}
+use Rattle.perfdata_sources.proofs.Numbers.{same_number}
 use Rattle.perfdata_jit.specs.JitRecord.{jit_record_header_of}
 use Rattle.perfdata_jit.proofs.record.JitDumpRecordHeader.parse_impl.Goals as goal
 

@@ -1,8 +1,8 @@
 use Rattle.std.proofs.Common.{arith, ◌∙◌, subst, inr}
 use Rattle.std.proofs.lemmas.Result.{err_from_is_err_and}
-use Rattle.perfdata_base.specs.Endian.{number_in}
-use Rattle.perfdata_base.specs.Raw.{bytes_of}
-use Rattle.perfdata_base.proofs.Numbers.{in_reads_first}
+use Rattle.perfdata_sources.specs.Endian.{number_in}
+use Rattle.perfdata_sources.specs.Raw.{bytes_of}
+use Rattle.perfdata_sources.proofs.Numbers.{in_reads_first}
 use Rattle.perfdata_jit.specs.JitRecords.{AreDebugEntries}
 use Rattle.perfdata_jit.proofs.Entries.{entries_error_at}
 use Rattle.perfdata_jit.proofs.Fields.{number_at, number_within}

@@ -1,8 +1,8 @@
 use Rattle.std.proofs.Common.{arith, ◌++◌, ◌∷◌, sym, ap, ◌∙◌, inr}
 use Rattle.std.proofs.lemmas.Result.{err_from_is_err_and}
-use Rattle.perfdata_base.specs.Endian.{number_in}
-use Rattle.perfdata_base.specs.Raw.{bytes_of}
-use Rattle.perfdata_base.proofs.Numbers.{in_reads_first}
+use Rattle.perfdata_sources.specs.Endian.{number_in}
+use Rattle.perfdata_sources.specs.Raw.{bytes_of}
+use Rattle.perfdata_sources.proofs.Numbers.{in_reads_first}
 use Rattle.perfdata_jit.proofs.Fields.{number_at, number_within, truncated_again, truncated_long}
 use Rattle.perfdata_jit.proofs.records.JitCodeLoadRecord.parse.Goals as goal
 

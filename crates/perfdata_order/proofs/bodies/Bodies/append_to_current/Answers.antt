@@ -1,5 +1,5 @@
 use Rattle.std.proofs.Common.{refl, inl, arith}
-use Rattle.perfdata_base.specs.Raw.{bytes_of}
+use Rattle.perfdata_sources.specs.Raw.{bytes_of}
 use Rattle.perfdata_order.proofs.Blocks.{body_appended, block_unchanged, spare_kept, same_count}
 use Rattle.perfdata_order.proofs.bodies.Bodies.append_to_current.Goals as goal
 

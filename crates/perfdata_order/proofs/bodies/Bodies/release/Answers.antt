@@ -1,7 +1,8 @@
 use Rattle.std.proofs.Common.{◌<◌, ◌∷◌, [], ◌++◌, length, set, refl, sym, subst, inl, inr, arith}
 use Rattle.std.proofs.lemmas.List.{length_push}
-use Rattle.perfdata_order.specs.Blocks.{WasLast, AreSpare}
-use Rattle.perfdata_order.specs.Bodies.{ReleasesBody}
+use Rattle.perfdata_order.specs.Blocks.{AreSpare}
+use Rattle.perfdata_order.specs.steps.Blocks.{WasLast}
+use Rattle.perfdata_order.specs.steps.Bodies.{ReleasesBody}
 use Rattle.perfdata_order.proofs.Blocks.{body_released, spare_kept, spare_more, spare_few, same_count, not_last}
 use Rattle.perfdata_order.proofs.bodies.Bodies.release.Goals as goal
 use Rattle.perfdata_order.proofs.bodies.Bodies.release.Goals.{else-is_last-via-then-is_last+else-block-self, else-is_last-via-else-is_last}

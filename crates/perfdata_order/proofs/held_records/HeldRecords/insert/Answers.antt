@@ -1,9 +1,9 @@
 use Rattle.std.proofs.Common.{length, sym, ap, ◌∙◌, subst, arith}
-use Rattle.perfdata_base.specs.Raw.{bytes_of}
+use Rattle.perfdata_sources.specs.Raw.{bytes_of}
 use Rattle.perfdata_order.specs.declared.held_record.HeldRecord.{HeldRecord}
 use Rattle.perfdata_order.specs.Bodies.{body_in}
 use Rattle.perfdata_order.specs.HeldRecord.{view_with}
-use Rattle.perfdata_order.specs.HeldRecords.{InsertsRecord}
+use Rattle.perfdata_order.specs.steps.HeldRecords.{InsertsRecord}
 use Rattle.std.specs.Ordering.{nat_cmp}
 use Rattle.perfdata_order.specs.Sorter.{held_of, slots_in, IsUnchanged, Inserted}
 use Rattle.perfdata_order.proofs.SorterCalls.{held_after_insert}

@@ -1,5 +1,6 @@
 use Rattle.std.proofs.Common.{◌+◌, ◌-◌, ◌*◌, ◌^◌}
-use Rattle.perfdata_order.specs.InMemoryOrder.{Progress, pending_records}
+use Rattle.perfdata_order.specs.InMemoryOrder.{Progress}
+use Rattle.perfdata_order.specs.steps.InMemoryOrder.{pending_records}
 use Rattle.perfdata_order.proofs.in_memory.InMemoryOrderedRecords.next_record.Given as goal
 
 abbrev pub invariant-reads : goal.invariant-reads

@@ -1,4 +1,4 @@
-use Rattle.perfdata_order.specs.Slots.{AreFilled}
+use Rattle.perfdata_order.specs.steps.Slots.{AreFilled}
 use Rattle.perfdata_order.proofs.slots.Slots.find_slot.Given as goal
 
 abbrev pub invariant-slots : goal.invariant-slots

@@ -1,5 +1,5 @@
 use Rattle.std.proofs.Common.{Some, Ok, refl, sym, subst}
-use Rattle.perfdata_order.specs.StreamingOrder.{EndsRoundsBefore, ReleasesEarly}
+use Rattle.perfdata_order.specs.steps.StreamingOrder.{EndsRoundsBefore, ReleasesEarly}
 use Rattle.perfdata_order.proofs.StreamingCalls.{places_none, places_kept, rounds_placed, pending_admitted, available_made}
 use Rattle.perfdata_order.proofs.streaming.OrderedRecords.admit_pending.Goals as goal
 

@@ -1,6 +1,7 @@
 use Rattle.std.proofs.Common.{◌<◌, ◌≤◌, ap, ◌∙◌, sym, subst, inr}
 use Rattle.perfdata_order.specs.HeldRecord.{view_with}
-use Rattle.perfdata_order.specs.StreamingOrder.{Progress, KeepsSorter, IsOngoing, unplaced_of, body_in}
+use Rattle.perfdata_order.specs.StreamingOrder.{Progress, KeepsSorter, unplaced_of, body_in}
+use Rattle.perfdata_order.specs.steps.StreamingOrder.{IsOngoing}
 use Rattle.perfdata_order.specs.Sorter.{held_of}
 use Rattle.perfdata_order.specs.StreamingOrder.Unplaced.{ending}
 use Rattle.perfdata_order.specs.declared.streaming.BodyBuffer.TheVariants.{Read, Sorted}

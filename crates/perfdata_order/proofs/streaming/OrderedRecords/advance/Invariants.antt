@@ -1,5 +1,6 @@
 use Rattle.std.proofs.Common.{◌+◌, ◌-◌, ◌*◌, ◌^◌}
-use Rattle.perfdata_order.specs.StreamingOrder.{Progress, pending_records, unplaced_of}
+use Rattle.perfdata_order.specs.StreamingOrder.{Progress, unplaced_of}
+use Rattle.perfdata_order.specs.steps.StreamingOrder.{pending_records}
 use Rattle.perfdata_order.proofs.streaming.OrderedRecords.advance.Given as goal
 
 abbrev pub invariant-reads : goal.invariant-reads

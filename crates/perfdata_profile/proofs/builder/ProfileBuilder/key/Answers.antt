@@ -1,6 +1,7 @@
 use Rattle.std.proofs.Common.{rules, ◌≡◌, ◌∙◌, ap, List, of_z, Some, subst, sym, to_z, w32}
 use Rattle.std.proofs.lemmas.Int.{to_z-of_z}
-use Rattle.perfdata_profile.specs.Building.{HasStack, options_of}
+use Rattle.perfdata_profile.specs.Building.{options_of}
+use Rattle.perfdata_profile.specs.steps.Building.{HasStack}
 use Rattle.perfdata_profile.specs.Locating.{located_lists}
 use Rattle.perfdata_profile.specs.Names.{names_of}
 use Rattle.perfdata_profile.specs.Interned.{locations_of, ranges_of, stack_number, stacks_of}

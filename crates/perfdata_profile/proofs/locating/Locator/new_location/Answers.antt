@@ -1,6 +1,7 @@
 use Rattle.std.proofs.Common.{refl}
 use Rattle.std.proofs.lemmas.Option.{slice_get_within}
-use Rattle.perfdata_profile.specs.Locating.{IsFoundKey, located_lists}
+use Rattle.perfdata_profile.specs.Locating.{located_lists}
+use Rattle.perfdata_profile.specs.steps.Locating.{IsFoundKey}
 use Rattle.perfdata_profile.specs.Names.{names_of, number_of}
 use Rattle.perfdata_profile.specs.Resolving.{frame_value}
 use Rattle.perfdata_profile.specs.Interned.{location_number, locations_of, ranges_of, stacks_of}

@@ -1,6 +1,6 @@
 use Rattle.std.proofs.Common.{arith, ◌≡◌, ◌+◌, ◌≤◌, ◌∙◌, ℕ, List, refl, ap, take, drop, length, length-drop, inr}
-use Rattle.perfdata_base.specs.Raw.{bytes_of}
-use Rattle.perfdata_base.proofs.Numbers.{first_take}
+use Rattle.perfdata_sources.specs.Raw.{bytes_of}
+use Rattle.perfdata_sources.proofs.Numbers.{first_take}
 use Rattle.perfdata_records.proofs.NumberPrefixes.{number_within}
 use Rattle.perfdata_records.proofs.auxtrace.Auxtrace.parse.Goals as goal
 

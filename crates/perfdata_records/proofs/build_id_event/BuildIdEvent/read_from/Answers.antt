@@ -2,9 +2,9 @@ use Rattle.std.proofs.Common.{rules, arith, ◌≡◌, ◌-◌, ◌∙◌, lengt
 use Rattle.std.specs.Int.{cast_signed}
 use Rattle.std.proofs.lemmas.Int.{to_z-of_z}
 use Rattle.std.proofs.lemmas.Result.{err_from_is_err_and}
-use Rattle.perfdata_base.specs.Endian.{number_in}
-use Rattle.perfdata_base.specs.RecordHeader.{record_header_of}
-use Rattle.perfdata_base.proofs.Numbers.{first_take}
+use Rattle.perfdata_sources.specs.Endian.{number_in}
+use Rattle.perfdata_sources.specs.RecordHeader.{record_header_of}
+use Rattle.perfdata_sources.proofs.Numbers.{first_take}
 use Rattle.perfdata_records.proofs.BuildIds.{entry_read, entry_path_error, header_peeked, id_copied}
 use Rattle.perfdata_records.proofs.build_id_event.BuildIdEvent.read_from.Goals as goal
 

@@ -1,6 +1,6 @@
 use Rattle.std.proofs.Common.{◌/◌, ap, sym, ◌∙◌}
-use Rattle.perfdata_base.specs.Raw.{bytes_of}
-use Rattle.perfdata_base.specs.Endian.{number_in}
+use Rattle.perfdata_sources.specs.Raw.{bytes_of}
+use Rattle.perfdata_sources.specs.Endian.{number_in}
 use Rattle.perfdata_records.proofs.Threads.{threads_long}
 use Rattle.perfdata_records.proofs.thread_map.ThreadMap.len.Goals as goal
 

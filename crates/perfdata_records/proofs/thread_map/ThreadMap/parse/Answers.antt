@@ -1,6 +1,6 @@
 use Rattle.std.proofs.Common.{rules, ◌*◌, length, take, arith, ap, sym, ◌∙◌}
-use Rattle.perfdata_base.specs.Raw.{bytes_of}
-use Rattle.perfdata_base.specs.Endian.{number_in}
+use Rattle.perfdata_sources.specs.Raw.{bytes_of}
+use Rattle.perfdata_sources.specs.Endian.{number_in}
 use Rattle.std.proofs.lemmas.List.{length-take-le}
 use Rattle.perfdata_records.proofs.Threads.{is_map, whole_entries}
 use Rattle.perfdata_records.proofs.thread_map.ThreadMap.parse.Goals as goal

@@ -1,8 +1,8 @@
 use Rattle.std.proofs.Common.{◌≡◌, ◌*◌, ◌/◌, length}
 use Rattle.std.proofs.Math.Nat.{ℕ_set}
-use Rattle.perfdata_base.specs.Raw.{bytes_of}
-use Rattle.perfdata_base.specs.declared.endian.Endianness.{Endianness}
-use Rattle.perfdata_base.specs.declared.raw.RawData.{RawData}
+use Rattle.perfdata_sources.specs.Raw.{bytes_of}
+use Rattle.perfdata_sources.specs.declared.endian.Endianness.{Endianness}
+use Rattle.perfdata_sources.specs.declared.raw.RawData.{RawData}
 use Rattle.perfdata_records.specs.declared.thread_map.ThreadMap.{ThreadMap}
 use Rattle.perfdata_records.proofs.thread_map.ThreadMapClone.clone.Goals as goal
 

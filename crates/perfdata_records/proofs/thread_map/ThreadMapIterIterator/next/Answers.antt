@@ -1,6 +1,6 @@
 use Rattle.std.proofs.Common.{◌≡◌, ◌≤◌, ◌∷◌, ◌/◌, ℕ, List, length, drop, ap, sym, arith, ◌∙◌}
-use Rattle.perfdata_base.specs.Raw.{bytes_of}
-use Rattle.perfdata_base.specs.Endian.{number_in}
+use Rattle.perfdata_sources.specs.Raw.{bytes_of}
+use Rattle.perfdata_sources.specs.Endian.{number_in}
 use Rattle.perfdata_records.specs.Thread.{Thread, thread_at}
 use Rattle.perfdata_records.specs.ThreadMap.{threads_in}
 use Rattle.perfdata_records.proofs.Threads.{threads_step}

@@ -1,7 +1,7 @@
 use Rattle.std.proofs.Common.{sym, subst}
 use Rattle.std.proofs.lemmas.Result.{err_from_is_err_and}
-use Rattle.perfdata_base.specs.Raw.{bytes_of}
-use Rattle.perfdata_records.specs.HeaderAttr.{IsIdsError}
+use Rattle.perfdata_sources.specs.Raw.{bytes_of}
+use Rattle.perfdata_records.specs.steps.HeaderAttr.{IsIdsError}
 use Rattle.perfdata_records.proofs.Ids.{attr_read, attr_error, attribute_is, ids_hold, ids_error}
 use Rattle.perfdata_records.proofs.user_record.HeaderAttr.parse.Goals as goal
 

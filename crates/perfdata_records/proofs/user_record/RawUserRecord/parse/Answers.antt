@@ -1,5 +1,5 @@
 use Rattle.std.proofs.Common.{IfOk, sym, subst}
-use Rattle.perfdata_base.specs.Endian.{number_in}
+use Rattle.perfdata_sources.specs.Endian.{number_in}
 use Rattle.perfdata_records.specs.UserRecord.{IsUserRecord}
 use Rattle.perfdata_records.proofs.user_record.RawUserRecord.parse.Goals as goal
 

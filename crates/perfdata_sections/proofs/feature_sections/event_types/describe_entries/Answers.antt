@@ -1,6 +1,6 @@
 use Rattle.std.proofs.Common.{refl, ◌∙◌}
 use Rattle.std.proofs.lemmas.Result.{err_from_is_err_and}
-use Rattle.perfdata_base.proofs.ReadErrors.{after_seek_more}
+use Rattle.perfdata_sources.proofs.ReadErrors.{after_seek_more}
 use Rattle.perfdata_sections.specs.EventTypes.{type_name_at}
 use Rattle.perfdata_sections.proofs.Entries.{descriptions_one, descriptions_more, descriptions_error, after_more}
 use Rattle.perfdata_sections.proofs.feature_sections.event_types.describe_entries.Goals as goal

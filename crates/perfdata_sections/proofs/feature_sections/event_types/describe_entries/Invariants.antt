@@ -1,5 +1,5 @@
 use Rattle.std.proofs.Common.{◌≡◌, take}
-use Rattle.perfdata_base.specs.Source.{AfterSeek, all_bytes_of}
+use Rattle.perfdata_sources.specs.Source.{AfterSeek, all_bytes_of}
 use Rattle.perfdata_sections.specs.EventTypes.{type_name_at, AreEntryDescriptions, position_after_ids}
 use Rattle.perfdata_sections.proofs.feature_sections.event_types.describe_entries.Given as goal
 

@@ -1,6 +1,6 @@
 use Rattle.std.proofs.Common.{arith, ap, ◌≡◌, ◌+◌, ◌-◌, ◌<◌, ◌≤◌, ◌∙◌}
 use Rattle.std.proofs.lemmas.Result.{err_from_is_err_and}
-use Rattle.perfdata_base.specs.Source.{at_offset}
+use Rattle.perfdata_sources.specs.Source.{at_offset}
 use Rattle.perfdata_sections.specs.EventTypes.{IsEventTypeEntry, EventTypeEntryReadError}
 use Rattle.perfdata_sections.proofs.ItemRuns.{at_offset_same, items_complete, items_more, items_error}
 use Rattle.perfdata_sections.proofs.Entries.{entry_later}

@@ -1,5 +1,5 @@
 use Rattle.std.proofs.Common.{◌≡◌, ◌+◌, ◌-◌, ◌<◌, length}
-use Rattle.perfdata_base.specs.Source.{at_offset}
+use Rattle.perfdata_sources.specs.Source.{at_offset}
 use Rattle.perfdata_sections.specs.EventTypes.{IsEventTypeEntry}
 use Rattle.perfdata_sections.proofs.ItemRuns.{IsSoFar}
 use Rattle.perfdata_sections.proofs.feature_sections.event_types.read_entries.Given as goal

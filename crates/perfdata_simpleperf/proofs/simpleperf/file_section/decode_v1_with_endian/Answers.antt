@@ -1,8 +1,8 @@
 use Rattle.std.proofs.Common.{◌≡◌, ◌⊎◌, IfOk, IfErr, sym, subst}
 use Rattle.std.specs.IoError.{error_kind}
 use Rattle.std.specs.declared.io.ErrorKind.TheVariants.{OutOfMemory}
-use Rattle.perfdata_base.specs.Endian.{number_in}
-use Rattle.perfdata_base.specs.declared.endian.Endianness.{Endianness}
+use Rattle.perfdata_sources.specs.Endian.{number_in}
+use Rattle.perfdata_sources.specs.declared.endian.Endianness.{Endianness}
 use Rattle.perfdata_simpleperf.specs.FileRecord.{record_value}
 use Rattle.perfdata_simpleperf.specs.FileV1.{IsV1, V1Error}
 use Rattle.perfdata_simpleperf.proofs.simpleperf.file_section.decode_v1_with_endian.Goals as goal

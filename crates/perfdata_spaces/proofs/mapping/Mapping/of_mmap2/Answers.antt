@@ -1,5 +1,5 @@
 use Rattle.std.proofs.lemmas.Result.{err_from_is_err_and}
-use Rattle.perfdata_base.specs.Raw.{bytes_of}
+use Rattle.perfdata_sources.specs.Raw.{bytes_of}
 use Rattle.perfdata_spaces.specs.Mappings.{build_id_of}
 use Rattle.perfdata_spaces.proofs.Lists.{first_not_nil, second_not_nil}
 use Rattle.perfdata_spaces.proofs.mapping.Mapping.of_mmap2.Goals as goal

@@ -1,7 +1,7 @@
 use Rattle.std.proofs.Common.{◌∙◌, w32, int_cmp}
 use Rattle.std.proofs.lemmas.Int.{to_z-of_z}
 use Rattle.std.specs.BTreeMap.{get}
-use Rattle.perfdata_spaces.specs.Ranges.{covers}
+use Rattle.perfdata_spaces.specs.steps.Ranges.{covers}
 use Rattle.perfdata_spaces.specs.Processes.{is_same, value_in}
 use Rattle.perfdata_spaces.proofs.Values.{value_after_insert, value_after_set}
 use Rattle.perfdata_spaces.proofs.processes.Processes.set.Goals as goal

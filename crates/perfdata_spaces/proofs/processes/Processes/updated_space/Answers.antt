@@ -1,7 +1,8 @@
 use Rattle.std.proofs.Common.{◌≡◌, ◌∙◌, ◌<◌, ◌^◌, ap, ℕ, Option, Result, Ok, Err, IfOk, if◌then◌else◌, w32}
 use Rattle.std.proofs.lemmas.Int.{to_z-of_z}
 use Rattle.std.specs.declared.alloc.AllocError.{AllocError}
-use Rattle.perfdata_spaces.specs.Ranges.{covers, value_of}
+use Rattle.perfdata_spaces.specs.Ranges.{value_of}
+use Rattle.perfdata_spaces.specs.steps.Ranges.{covers}
 use Rattle.perfdata_spaces.specs.Processes.{value_in, value_in_space}
 use Rattle.perfdata_spaces.specs.declared.ranges.AddressRange.{AddressRange}
 use Rattle.perfdata_spaces.specs.declared.ranges.RangeMap.{RangeMap}

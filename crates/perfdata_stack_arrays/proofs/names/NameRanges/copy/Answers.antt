@@ -1,7 +1,7 @@
 use Rattle.std.proofs.Common.{◌∙◌, ap, cond, sym, w32}
 use Rattle.std.proofs.lemmas.Int.{to_z-of_z}
 use Rattle.perfdata_spaces.specs.Processes.{is_same}
-use Rattle.perfdata_stack_arrays.specs.Names.{range_of}
+use Rattle.perfdata_stack_arrays.specs.steps.Names.{range_of}
 use Rattle.perfdata_stack_arrays.proofs.names.NameRanges.copy.Goals as goal
 
 pub returns-in-Some-clause-ok : goal.returns-in-Some-clause-ok

@@ -20,5 +20,6 @@ returns c =
       duration = refl;
       period_type = refl;
       period = refl;
+      comment = refl;
       default_sample_type = refl;
     }

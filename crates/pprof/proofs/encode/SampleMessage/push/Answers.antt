@@ -1,6 +1,7 @@
 use Rattle.std.proofs.Common.{OnOk}
 use Rattle.pprof.specs.Messages.{label_fields}
-use Rattle.pprof.specs.Wire.{Appends, message_fields, packed_field}
+use Rattle.pprof.specs.Wire.{message_fields, packed_field}
+use Rattle.pprof.specs.steps.Wire.{Appends}
 use Rattle.pprof.proofs.Writing.{last, more}
 use Rattle.pprof.proofs.encode.SampleMessage.push.Goals as goal
 

@@ -1,5 +1,5 @@
 use Rattle.std.proofs.Common.{sym, subst, inl, inr}
-use Rattle.code_symbols.specs.Plt.{AddsPlt}
+use Rattle.code_symbols.specs.steps.Plt.{AddsPlt}
 use Rattle.code_symbols.proofs.elf.plt.PltRelocations.add_coded.Goals as goal
 use Rattle.code_symbols.proofs.elf.plt.PltRelocations.add_coded.Goals.{in-Some+in_ok-add_entries, in_default}
 

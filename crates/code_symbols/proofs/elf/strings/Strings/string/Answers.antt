@@ -1,5 +1,5 @@
 use Rattle.std.proofs.Common.{◌≡◌, ℕ, ◌-◌, ◌<◌, List, length, take, drop, arith, sym, ap}
-use Rattle.code_symbols.specs.StringTable.{bytes_of}
+use Rattle.code_symbols.specs.steps.StringTable.{bytes_of}
 use Rattle.std.proofs.lemmas.List.{get_or_past}
 use Rattle.code_symbols.proofs.elf.strings.Strings.string.Goals as goal
 

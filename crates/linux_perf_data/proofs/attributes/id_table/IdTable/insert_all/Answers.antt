@@ -1,6 +1,6 @@
 use Rattle.std.proofs.Common.{get_or, take, sym, subst}
 use Rattle.std.proofs.lemmas.List.{take_more}
-use Rattle.linux_perf_data.specs.IdTable.{MapsIds}
+use Rattle.linux_perf_data.specs.steps.IdTable.{MapsIds}
 use Rattle.linux_perf_data.proofs.IdTableInserts.{puts_more}
 use Rattle.linux_perf_data.proofs.attributes.id_table.IdTable.insert_all.Goals as goal
 

@@ -1,5 +1,5 @@
 use Rattle.std.proofs.Common.{◌+◌, ◌-◌, ◌/◌, ◌<◌, ◌≤◌, ap, arith}
-use Rattle.linux_perf_data.specs.IdPairs.{key_at}
+use Rattle.linux_perf_data.specs.steps.IdPairs.{key_at}
 use Rattle.linux_perf_data.proofs.IdPairLemmas.{pair_there, bisected_up, bisected_down, bisected_insertion_point}
 use Rattle.linux_perf_data.proofs.attributes.id_table.IdTable.insertion_point.Goals as goal
 

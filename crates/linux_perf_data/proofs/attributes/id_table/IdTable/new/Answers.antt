@@ -1,6 +1,6 @@
 use Rattle.std.proofs.Common.{ap, ◌∙◌}
 use Rattle.linux_perf_data.specs.Descriptions.{described_attributes}
-use Rattle.linux_perf_data.specs.IdPairs.{rank_of_id}
+use Rattle.linux_perf_data.specs.steps.IdPairs.{rank_of_id}
 use Rattle.linux_perf_data.proofs.IdPairLemmas.{table_resolves}
 use Rattle.linux_perf_data.proofs.IdTableInserts.{none_late}
 use Rattle.linux_perf_data.proofs.attributes.id_table.IdTable.new.Goals as goal

@@ -1,6 +1,6 @@
 use Rattle.std.proofs.Common.{◌≡◌, ◌∙◌, ◌++◌, ◌∷◌, [], length, ap, refl, inr, rules}
 use Rattle.std.proofs.lemmas.Result.{err_from_is_err_and}
-use Rattle.perfdata_base.specs.ParseInfo.{parse_info_of}
+use Rattle.perfdata_identifiers.specs.ParseInfo.{parse_info_of}
 use Rattle.linux_perf_data.specs.Attribute.{Attribute}
 use Rattle.linux_perf_data.proofs.LookupGrowth.{represents_more}
 use Rattle.linux_perf_data.proofs.attributes.lookup.AttributeLookup.add.Goals as goal

@@ -1,5 +1,5 @@
 use Rattle.std.proofs.Common.{◌≡◌, ◌<◌, ◌∙◌, ap, sym, subst, length, vec_len, rules, arith, None, Some, Option, ℕ, drop}
-use Rattle.perfdata_base.specs.ParseInfo.{parse_info_of}
+use Rattle.perfdata_identifiers.specs.ParseInfo.{parse_info_of}
 use Rattle.linux_perf_data.specs.Descriptions.{described_attribute, described_attributes}
 use Rattle.linux_perf_data.specs.IdBounds.{TableIndicesBelow}
 use Rattle.linux_perf_data.proofs.LookupIds.{all_counted, described_counted, first_more}

@@ -1,5 +1,5 @@
 use Rattle.std.proofs.Common.{◌∙◌, ap}
-use Rattle.linux_perf_data.specs.NameTable.{name_from_table}
+use Rattle.linux_perf_data.specs.steps.NameTable.{name_from_table}
 use Rattle.linux_perf_data.proofs.NameTables.{names_more, names_all}
 use Rattle.linux_perf_data.proofs.attributes.names.NameTable.clone_names.Goals as goal
 

@@ -1,6 +1,6 @@
 use Rattle.std.proofs.Common.{◌≡◌, take}
-use Rattle.linux_perf_data.specs.NameTable.{names_from_table}
-use Rattle.linux_perf_data.specs.Names.{name_bytes_of}
+use Rattle.linux_perf_data.specs.steps.NameTable.{names_from_table}
+use Rattle.linux_perf_data.specs.steps.Names.{name_bytes_of}
 use Rattle.linux_perf_data.proofs.attributes.names.NameTable.clone_names.Given as goal
 
 abbrev pub invariant-attributes : goal.invariant-attributes

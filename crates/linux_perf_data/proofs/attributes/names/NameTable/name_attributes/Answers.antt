@@ -1,6 +1,6 @@
 use Rattle.std.proofs.Common.{◌∙◌}
 use Rattle.std.specs.Option.{option_map}
-use Rattle.linux_perf_data.specs.NameTable.{name_from_table}
+use Rattle.linux_perf_data.specs.steps.NameTable.{name_from_table}
 use Rattle.linux_perf_data.proofs.NameTables.{named_by_table}
 use Rattle.linux_perf_data.proofs.Naming.{named_by}
 use Rattle.linux_perf_data.proofs.attributes.names.NameTable.name_attributes.Goals as goal

@@ -1,6 +1,6 @@
 use Rattle.std.proofs.Common.{arith, ◌≡◌, ap, length}
 use Rattle.std.specs.Io.Cursor.{cursor_position}
-use Rattle.linux_perf_data.specs.FileWalk.{position_of_walk}
+use Rattle.linux_perf_data.specs.steps.FileWalk.{position_of_walk}
 use Rattle.linux_perf_data.proofs.WalksAhead.{moved_iter}
 use Rattle.linux_perf_data.proofs.in_memory.file_walk.FileWalk.move_iter.Goals as goal
 

@@ -1,6 +1,6 @@
 use Rattle.std.proofs.Common.{rules, ◌≡◌, ◌+◌, ◌^◌, ◌≤◌, sym, subst, None, Some}
-use Rattle.linux_perf_data.specs.BufferedRecord.{WholeRecordLength}
-use Rattle.linux_perf_data.specs.FileWalk.{PeeksNextRecord}
+use Rattle.linux_perf_data.specs.steps.BufferedRecord.{WholeRecordLength}
+use Rattle.linux_perf_data.specs.steps.FileWalk.{PeeksNextRecord}
 use Rattle.linux_perf_data.proofs.FileWalkEnds.{marker_at_most_if_end_overflows}
 use Rattle.linux_perf_data.proofs.in_memory.file_walk.FileWalk.peek.Goals as goal
 

@@ -1,7 +1,7 @@
 use Rattle.std.proofs.Common.{rules, arith, ◌≡◌, ◌+◌, take, refl}
 use Rattle.std.specs.List.{slice_range}
 use Rattle.std.specs.Io.Cursor.{cursor_inner, cursor_position}
-use Rattle.perfdata_base.specs.Source.{Consumed}
+use Rattle.perfdata_sources.specs.Source.{Consumed}
 use Rattle.linux_perf_data.specs.InMemory.{memory_state}
 use Rattle.linux_perf_data.proofs.FileRecordsTaken.{taken_with_body}
 use Rattle.linux_perf_data.proofs.WalksAhead.{record_taken_by_walk}

@@ -1,9 +1,9 @@
 use Rattle.std.proofs.Common.{◌<◌, List, length, refl, sym, ap, ◌∙◌, rules}
 use Rattle.std.specs.Prelude.{slice_get}
 use Rattle.std.specs.Option.{unwrap_or}
-use Rattle.perfdata_base.specs.RecordFields.{read_time}
-use Rattle.perfdata_base.specs.declared.place.parse_info.RecordParseInfo.{RecordParseInfo}
-use Rattle.linux_perf_data.specs.AttributeLookup.{event_at}
+use Rattle.perfdata_identifiers.specs.RecordFields.{read_time}
+use Rattle.perfdata_identifiers.specs.declared.place.parse_info.RecordParseInfo.{RecordParseInfo}
+use Rattle.linux_perf_data.specs.steps.AttributeLookup.{event_at}
 use Rattle.linux_perf_data.proofs.LookupIds.{kernel_found, resolves_one}
 use Rattle.linux_perf_data.proofs.records.iter.IdentifiedRecord.identify_with_only.Goals as goal
 

@@ -1,7 +1,7 @@
 use Rattle.std.proofs.Common.{rules, arith, refl, subst, inl, inr, [], ◌∙◌}
-use Rattle.perfdata_base.proofs.ConsumedLemmas.{consumed_none}
+use Rattle.perfdata_sources.proofs.ConsumedLemmas.{consumed_none}
 use Rattle.linux_perf_data.specs.Iter.{iter_source_state}
-use Rattle.linux_perf_data.specs.IterSteps.{RecordProcessed, RecordRejected}
+use Rattle.linux_perf_data.specs.steps.IterSteps.{RecordProcessed, RecordRejected}
 use Rattle.linux_perf_data.proofs.TruncatedRecords.{some_record, no_record, no_pause}
 use Rattle.linux_perf_data.proofs.IterCalls.{running_not_ended, running_not_failed, idles_on, returns_record, stops, late_stops, larger_buffer, buffers_metadata, section_ends, pipe_ends, same_later}
 use Rattle.linux_perf_data.proofs.records.iter.PerfRecordIter.advance.Goals as goal

@@ -1,6 +1,7 @@
 use Rattle.std.proofs.Common.{rules}
 use Rattle.linux_perf_data.specs.RecordInput.{HasNoPendingHeader}
-use Rattle.linux_perf_data.specs.Iter.{TestsMayStart, section_size_of}
+use Rattle.linux_perf_data.specs.Iter.{section_size_of}
+use Rattle.linux_perf_data.specs.steps.Iter.{TestsMayStart}
 use Rattle.linux_perf_data.proofs.BufferedRecords.{exact_finished, section_over, visible_in, tests_finished}
 use Rattle.std.specs.Prelude.{false}
 use Rattle.linux_perf_data.proofs.records.iter.PerfRecordIter.is_next_buffered.Goals as goal

@@ -1,5 +1,5 @@
 use Rattle.std.proofs.Common.{sym, ◌∙◌}
-use Rattle.perfdata_base.specs.Raw.{bytes_of}
+use Rattle.perfdata_sources.specs.Raw.{bytes_of}
 use Rattle.perfdata_arrays.proofs.samples.body.SampleBody.parse.Goals as goal
 
 pub returns-in-Ok-parse_chain : goal.returns-in-Ok-parse_chain

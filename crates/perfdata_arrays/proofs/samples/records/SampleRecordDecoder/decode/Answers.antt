@@ -2,7 +2,7 @@ use Rattle.std.proofs.Common.{refl, length}
 use Rattle.linux_perf_data.specs.PerfFile.{attributes_of_file, endian_of_file}
 use Rattle.linux_perf_data.specs.RecordViews.{record_view_of}
 use Rattle.perfdata_arrays.proofs.RecordLemmas.{adds_nothing, exceeds_frames, writes_sample}
-use Rattle.perfdata_arrays.specs.Decoding.{wants}
+use Rattle.perfdata_arrays.specs.steps.Decoding.{wants}
 use Rattle.perfdata_arrays.specs.SampleRecords.{sample_kind}
 use Rattle.perfdata_arrays.proofs.samples.records.SampleRecordDecoder.decode.Goals as goal
 

@@ -1,6 +1,6 @@
 use Rattle.std.proofs.Common.{inl, inr}
 use Rattle.std.proofs.lemmas.Result.{err_from_is_err_and}
-use Rattle.perfdata_base.specs.Raw.{bytes_of}
+use Rattle.perfdata_sources.specs.Raw.{bytes_of}
 use Rattle.perfdata_events.proofs.fields.read_values.GroupValues.parse.Goals as goal
 
 pub returns-in_err-times-clause-decodes : goal.returns-in_err-times-clause-decodes

@@ -1,7 +1,7 @@
 use Rattle.std.proofs.Common.{◌≡◌, true, rules, sym, ◌∙◌}
-use Rattle.perfdata_base.specs.Raw.{bytes_of}
-use Rattle.perfdata_base.specs.Endian.{number_in}
-use Rattle.perfdata_base.specs.ParseInfo.{is_set}
+use Rattle.perfdata_sources.specs.Raw.{bytes_of}
+use Rattle.perfdata_sources.specs.Endian.{number_in}
+use Rattle.perfdata_identifiers.specs.ParseInfo.{is_set}
 use Rattle.perfdata_events.specs.SampleRegisters.{registers, registers_of}
 use Rattle.perfdata_events.proofs.Optional.{decodes_some}
 use Rattle.perfdata_events.proofs.fields.registers.SampleRegisters.parse_interrupt.Goals as goal

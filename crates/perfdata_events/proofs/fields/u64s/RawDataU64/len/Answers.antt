@@ -1,6 +1,6 @@
 use Rattle.std.proofs.Common.{ap, sym, ◌∙◌, ◌/◌, length}
-use Rattle.perfdata_base.specs.Raw.{bytes_of}
-use Rattle.perfdata_base.specs.Endian.{number_in}
+use Rattle.perfdata_sources.specs.Raw.{bytes_of}
+use Rattle.perfdata_sources.specs.Endian.{number_in}
 use Rattle.perfdata_events.proofs.Elements.{u64s_length}
 use Rattle.perfdata_events.proofs.fields.u64s.RawDataU64.len.Goals as goal
 

@@ -1,7 +1,7 @@
 use Rattle.std.proofs.Common.{◌≡◌, true, rules}
-use Rattle.perfdata_base.specs.Raw.{bytes_of}
-use Rattle.perfdata_base.specs.Endian.{number_in}
-use Rattle.perfdata_base.specs.ParseInfo.{is_set}
+use Rattle.perfdata_sources.specs.Raw.{bytes_of}
+use Rattle.perfdata_sources.specs.Endian.{number_in}
+use Rattle.perfdata_identifiers.specs.ParseInfo.{is_set}
 use Rattle.perfdata_events.specs.Sample.{branch_stack, branches_of}
 use Rattle.perfdata_events.specs.SampleFormat.{BRANCH_STACK}
 use Rattle.perfdata_events.proofs.Optional.{decodes_some}

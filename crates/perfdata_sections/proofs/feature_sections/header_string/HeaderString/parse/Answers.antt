@@ -1,9 +1,9 @@
 use Rattle.std.proofs.Common.{sym, subst, inl, inr, ℕ, List, Err}
 use Rattle.std.specs.declared.io.Error.{Error}
 use Rattle.std.proofs.lemmas.Result.{err_from_is_err_and}
-use Rattle.perfdata_base.specs.Source.{State, IsIoErrorOf}
-use Rattle.perfdata_base.specs.declared.source.append.AppendError.{AppendError}
-use Rattle.perfdata_base.specs.declared.source.append.AppendError.TheVariants.{Memory, Source}
+use Rattle.perfdata_sources.specs.Source.{State, IsIoErrorOf}
+use Rattle.perfdata_sources.specs.declared.source.append.AppendError.{AppendError}
+use Rattle.perfdata_sources.specs.declared.source.append.AppendError.TheVariants.{Memory, Source}
 use Rattle.perfdata_sections.specs.HeaderString.{ReadsHeaderString, ParsesHeaderString, IsTruncatedString}
 use Rattle.perfdata_sections.specs.ParsedPart.{PartReadError}
 use Rattle.perfdata_sections.proofs.feature_sections.header_string.HeaderString.parse.Goals as goal

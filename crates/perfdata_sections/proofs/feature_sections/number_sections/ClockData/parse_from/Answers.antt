@@ -1,6 +1,6 @@
 use Rattle.std.proofs.Common.{subst}
 use Rattle.perfdata_sections.specs.NumberSections.{ParsesClock}
-use Rattle.perfdata_base.proofs.Numbers.{same_number}
+use Rattle.perfdata_sources.proofs.Numbers.{same_number}
 use Rattle.perfdata_sections.proofs.feature_sections.number_sections.ClockData.parse_from.Goals as goal
 
 pub returns-clause-parses : goal.returns-clause-parses

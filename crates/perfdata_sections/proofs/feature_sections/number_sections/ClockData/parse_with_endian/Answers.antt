@@ -1,7 +1,7 @@
 use Rattle.std.proofs.Common.{rules, inr, length}
 use Rattle.std.proofs.lemmas.Result.{err_from_is_err_and}
-use Rattle.perfdata_base.specs.Endian.{number_in}
-use Rattle.perfdata_base.proofs.Numbers.{number_prefix}
+use Rattle.perfdata_sources.specs.Endian.{number_in}
+use Rattle.perfdata_sources.proofs.Numbers.{number_prefix}
 use Rattle.perfdata_sections.proofs.PartLemmas.{clock_rest_truncated, clock_read}
 use Rattle.perfdata_sections.proofs.feature_sections.number_sections.ClockData.parse_with_endian.Goals as goal
 

@@ -1,7 +1,7 @@
 use Rattle.std.proofs.Common.{subst}
 use Rattle.perfdata_sections.specs.NumberSections.{sample_times_of}
 use Rattle.perfdata_sections.specs.ParsedPart.{ParsesPart}
-use Rattle.perfdata_base.proofs.Numbers.{same_number}
+use Rattle.perfdata_sources.proofs.Numbers.{same_number}
 use Rattle.perfdata_sections.proofs.feature_sections.number_sections.SampleTimeRange.parse_from.Goals as goal
 
 pub returns-clause-parses : goal.returns-clause-parses

@@ -1,0 +1,4 @@
+-- Lemmas.
+pub mod ErrorLemmas
+pub mod NumberLemmas
+pub mod UnitLemmas

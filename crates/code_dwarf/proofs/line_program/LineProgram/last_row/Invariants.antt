@@ -1,0 +1,5 @@
+use Rattle.std.proofs.Common.{length}
+use Rattle.code_dwarf.proofs.line_program.LineProgram.last_row.Given as goal
+
+abbrev pub decreases-instructions : goal.decreases-instructions
+decreases-instructions l = length l.rest

@@ -1,0 +1,9 @@
+pub mod ArmPlt
+pub mod Boundaries
+pub mod Elf
+pub mod Merge
+pub mod Plt
+pub mod PltRelocations
+pub mod Strings
+pub mod StringTable
+pub mod Versions

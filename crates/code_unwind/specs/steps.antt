@@ -1,0 +1,6 @@
+pub mod Callers
+pub mod ChainEnds
+pub mod Expressions
+pub mod Operations
+pub mod FrameSteps
+pub mod ExpressionStack

@@ -1,4 +1,0 @@
-use Rattle.dewikura.proofs.dewikura_read_file_records_raw.Goals as goal
-
-pub returns : goal.returns
-returns c = (c.file_records-outcome.result.status, c.code.ensures, c.file_records-outcome.ensures)

@@ -1,4 +1,0 @@
-use Rattle.dewikura.proofs.dewikura_read_jit_load_raw.Goals as goal
-
-pub returns : goal.returns
-returns c = (c.jit_load.result, c.code.ensures, c.jit_load.ensures)

@@ -1,4 +1,0 @@
-use Rattle.dewikura.proofs.dewikura_read_jit_records_raw.Goals as goal
-
-pub returns : goal.returns
-returns c = (c.jit_records-outcome.result.status, c.code.ensures, c.jit_records-outcome.ensures)

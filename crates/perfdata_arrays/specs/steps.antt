@@ -1,0 +1,14 @@
+pub mod Metadata
+pub mod Walk
+pub mod Jit
+pub mod JitDebug
+pub mod MetaPairs
+pub mod SymbolTables
+pub mod Features
+pub mod FeatureSets
+pub mod Attrs
+pub mod Pages
+pub mod Decoding
+pub mod DecodedPages
+pub mod SampleRecords
+pub mod Entries

@@ -1,5 +1,0 @@
-use Rattle.std.proofs.Common.{rules}
-use Rattle.perfdata_base.proofs.place.id_cache.IdCache.put.Goals as goal
-
-pub returns-clause-stored : goal.returns-clause-stored
-returns-clause-stored c = search rules

@@ -1,5 +1,0 @@
-use Rattle.std.proofs.Common.{rules}
-use Rattle.perfdata_base.proofs.place.record_fields.get_record_identifier.Goals as goal
-
-pub returns : goal.returns
-returns g c = search rules

@@ -1,0 +1,5 @@
+pub mod FileId
+pub mod Mmap
+pub mod Mmap2
+pub mod EventFormat
+pub mod Event

@@ -1,0 +1,3 @@
+pub mod Caches
+pub mod Members
+pub mod WordOffsets

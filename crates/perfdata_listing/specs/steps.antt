@@ -1,0 +1,3 @@
+pub mod ByTime
+pub mod JitListing
+pub mod Listing

@@ -1,0 +1,17 @@
+use Rattle.std.proofs.Common.{◌-◌, ◌++◌, length, take, drop, sym, ap, subst, ◌∙◌, arith, length-take}
+use Rattle.std.proofs.lemmas.List.{take-take}
+use Rattle.std.proofs.Math.Seq.{take-add}
+use Rattle.std.specs.Io.KnownBytes.{Appends}
+use Rattle.std.proofs.KnownBytes.{Appends-trans}
+use Rattle.perfdata_listing_lines.proofs.output.write_all_counted.Goals as goal
+
+pub writes-preserved : goal.writes-preserved
+writes-preserved g c =
+    let done = c.writes.total in
+    let n = c.in-Ok.count in
+    let xs = c.args.bytes.now in
+    let before = c.writes.invariant in
+    let fits = c.in-Ok.ensures.bound in
+    let most = length-take (length xs - done) (drop done xs) in
+    let joined = ap (λ l. take done xs ++ l) (take-take n (length xs - done) (drop done xs) (omega arith)) ∙ sym (take-add done n xs) in
+    (omega arith, subst (Appends _ _) joined (Appends-trans _ _ _ _ _ before.1 c.in-Ok.ensures.bytes))

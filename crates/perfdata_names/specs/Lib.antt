@@ -1,0 +1,3 @@
+-- The specifications that contracts use.
+pub mod FileSymbols
+pub mod steps

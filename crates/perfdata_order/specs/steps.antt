@@ -1,0 +1,11 @@
+pub mod Slots
+pub mod Sorter
+pub mod InMemoryOrder
+pub mod Blocks
+pub mod Bodies
+pub mod ParseInfos
+pub mod HeldRecord
+pub mod HeldRecords
+pub mod StreamingOrder
+pub mod Reading
+pub mod InMemoryLaws

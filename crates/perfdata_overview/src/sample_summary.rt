@@ -1,0 +1,78 @@
+//! The number of samples, their times, and the weight that they have in common.
+
+/// The number, the times and the common weight of samples.
+#[derive(Clone, Copy, Debug)]
+pub struct SampleSummary {
+    /// The number of samples.
+    pub samples: u64,
+    // The first and the last time.
+    times: Option<(u64, u64)>,
+    // The weight of the first sample.
+    weight: Option<u64>,
+    // Whether a sample has another weight.
+    differs: bool,
+}
+
+// The largest number of profile.proto.
+const LARGEST: u64 = i64::MAX as u64;
+
+impl SampleSummary {
+    /// That of no samples.
+    pub const NONE: SampleSummary = SampleSummary {
+        samples: 0,
+        times: None,
+        weight: None,
+        differs: false,
+    };
+
+    /// Returns that of a sample.
+    pub fn of_sample(time: Option<u64>, weight: u64) -> SampleSummary {
+        SampleSummary {
+            samples: 1,
+            times: time.map(|time| (time, time)),
+            weight: Some(weight),
+            differs: false,
+        }
+    }
+
+    /// Returns that of these samples and of others.
+    pub fn with(self, other: SampleSummary) -> SampleSummary {
+        let times = match (self.times, other.times) {
+            (Some((first, last)), Some((other_first, other_last))) => {
+                Some((first.min(other_first), last.max(other_last)))
+            }
+            (times, None) => times,
+            (None, times) => times,
+        };
+        let differs = match (self.weight, other.weight) {
+            (Some(weight), Some(other)) => weight != other,
+            _ => false,
+        };
+        SampleSummary {
+            samples: self.samples.saturating_add(other.samples),
+            times,
+            weight: self.weight.or(other.weight),
+            differs: self.differs || other.differs || differs,
+        }
+    }
+
+    /// Returns the time between the first and the last sample in nanoseconds, if samples have times.
+    pub fn time_between(&self) -> Option<u64> {
+        let (first, last) = self.times?;
+        Some(last.saturating_sub(first))
+    }
+
+    /// Returns the time between the first and the last sample in nanoseconds, at most 2^63 - 1, or 0 if
+    /// samples have no times.
+    pub fn duration(&self) -> u64 {
+        self.time_between().unwrap_or(0).min(LARGEST)
+    }
+
+    /// Returns the weight that all samples have, or 0 if they differ.
+    pub fn weight(&self) -> u64 {
+        match self.weight {
+            Some(weight) if !self.differs => weight,
+            _ => 0,
+        }
+    }
+}

@@ -1,0 +1,4 @@
+pub mod Building
+pub mod Caching
+pub mod Locating
+pub mod Values

@@ -1,0 +1,2 @@
+pub mod HeaderAttr
+pub mod DsoKey

@@ -1,0 +1,64 @@
+//! What a resolver does, and what it keeps.
+
+use crate::frame_listing::FrameListing;
+use crate::script_listing::ScriptListing;
+use code_files::FileOptions;
+use demangle::Style;
+use perfdata_names::KernelList;
+use perfdata_profile::function_kinds::FunctionKinds;
+use perfdata_profile::mapping_order::MappingOrder;
+
+/// Which name a frame has.
+#[derive(Clone, Copy, Debug, PartialEq, Eq)]
+pub enum NameKind {
+    /// The symbol, or the file where there is none.
+    Symbol,
+    /// The file.
+    File,
+    /// The address.
+    Address,
+}
+
+/// How a resolver names frames.
+#[derive(Clone, Copy)]
+pub struct ResolverOptions<'a> {
+    /// Which name a frame has.
+    pub name_kind: NameKind,
+    /// The style of the texts of mangled names, unless these stay.
+    pub demangling: Option<Style>,
+    /// Whether samples with a copy of their stack are unwound.
+    pub unwinds: bool,
+    /// Where files are.
+    pub files: FileOptions<'a>,
+    /// The kernel's list of symbols.
+    pub kernel_list: KernelList<'a>,
+}
+
+/// What a format needs beside the names of frames.
+#[derive(Drop)]
+pub enum FormatData {
+    /// Nothing.
+    Nothing,
+    /// The order in which files were mapped. The build ids of the recording are then read in any case.
+    Mappings(MappingOrder),
+    /// What code functions are.
+    Kinds(FunctionKinds),
+    /// The lines of the frames of each sample.
+    Listing(FrameListing),
+    /// The name of each function's file, which follows that of the function after a mark, a byte 0.
+    Files,
+    /// The text of each sample, as `perf script` prints it.
+    Script(ScriptListing),
+}
+
+impl FormatData {
+    /// Returns the text of the samples so far, if the format is a text of samples. What was written of it can
+    /// be removed between two samples.
+    pub fn text(&mut self) -> Option<&mut Vec<u8>> {
+        match self {
+            FormatData::Listing(listing) => Some(&mut listing.lines),
+            FormatData::Script(script) => Some(&mut script.text),
+            _ => None,
+        }
+    }
+}

@@ -1,0 +1,3 @@
+pub mod AttributeDescription
+pub mod PmuMappings
+pub mod EventIds

@@ -1,0 +1,2 @@
+pub mod MetaInfo
+pub mod EventTypeInfo

@@ -1,0 +1,12 @@
+pub mod Attr
+pub mod Buffered
+pub mod CountedBuffer
+pub mod CpuMode
+pub mod Endian
+pub mod Raw
+pub mod RecordHeader
+pub mod RecordType
+pub mod RelativeSeek
+pub mod Script
+pub mod Source
+pub mod steps

@@ -1,0 +1,2 @@
+pub mod RelativeSeek
+pub mod Source

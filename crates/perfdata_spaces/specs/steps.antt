@@ -1,0 +1,4 @@
+pub mod Processes
+pub mod Ranges
+pub mod Spaces
+pub mod ThreadNames

@@ -1,0 +1,14 @@
+-- Lemmas.
+mod Ascending
+mod Counting
+mod CountingSamples
+mod EntryStacks
+mod Growing
+mod LineSums
+mod Nesting
+mod NodeSums
+mod Numbered
+mod Outermost
+mod Regrouping
+mod TableRows
+mod Tallying

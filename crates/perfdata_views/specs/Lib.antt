@@ -1,0 +1,12 @@
+-- The specifications that contracts use.
+pub mod Boxes
+pub mod CountedSamples
+pub mod Counts
+pub mod Entries
+pub mod EntryTrees
+pub mod FlameBoxes
+pub mod FunctionTables
+pub mod Lines
+pub mod StackTrees
+pub mod Trees
+pub mod steps

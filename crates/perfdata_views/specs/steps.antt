@@ -1,0 +1,4 @@
+pub mod FunctionTables
+pub mod Lines
+pub mod Numbering
+pub mod Trees

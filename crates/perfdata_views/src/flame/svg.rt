@@ -1,0 +1,340 @@
+//! The SVG of a flame graph.
+ghost use Rattle.std.specs.Prelude.{ℕ, List, OnOk};
+ghost use Rattle.std.specs.Io.KnownBytes.{Appends};
+
+use crate::entry_tree::{EntryTree, entry_tree};
+use crate::flame::boxes::{DrawnBoxes, FlameBox, GRAPH_WIDTH, drawn_boxes};
+use crate::flame::colors::frame_color;
+use crate::flame::script::{LEGEND, SCRIPT, START, STYLE};
+use crate::flame::span::{WidthSpan, share};
+use crate::flame::xml_text::XmlText;
+use crate::share::Share;
+use bstr::ByteSlice;
+use perfdata_profile::function_kinds::{FrameKind, FunctionKinds};
+use perfdata_profile::profile::Profile;
+use std::alloc::Global;
+use std::fmt::{Display, Formatter};
+use std::io::Write;
+use std::{fmt, io};
+
+// The parts of the graph's width in which places of boxes are written: ten thousand for a percent.
+const WIDTH_PARTS: u64 = 1_000_000;
+
+// The distance of the graph from the left and the right side, in pixels.
+const MARGIN: u64 = 10;
+
+// The distance of the graph from the upper side, in pixels.
+const TOP: u64 = 58;
+
+// The distance of the graph from the lower side, in pixels.
+const BOTTOM: u64 = 30;
+
+// The height of a row of boxes, in pixels.
+const ROW_HEIGHT: u64 = 18;
+
+// The width of a character, in hundredths of a pixel.
+const CHARACTER_WIDTH: u64 = 723;
+
+// The distance of a name from the sides of its box, in pixels.
+const NAME_MARGIN: u64 = 3;
+
+// The smallest number of characters of a name for which it is written into its box.
+const MIN_CHARACTERS: u64 = 3;
+
+// The box of all samples.
+const ALL: Label<'static> = Label {
+    kind: FrameKind::Thread,
+    text: b"all",
+    file: b"",
+};
+
+/// What a flame graph says of itself.
+#[derive(Clone, Copy)]
+pub struct Caption<'a> {
+    /// The heading, as `cycles: 1024 samples, 2.31 s, make all`.
+    pub title: &'a [u8],
+    /// What is counted, as `samples`.
+    pub unit: &'a str,
+}
+
+// Displays parts of the graph's width as percent.
+#[derive(Clone, Copy)]
+struct WidthParts(u64);
+
+impl Display for WidthParts {
+    fn fmt<W: fmt::Write>(&self, f: &mut Formatter<W>) -> fmt::Result {
+        write!(f, "{}.{:04}%", self.0 / 10_000, self.0 % 10_000)
+    }
+}
+
+// A box in the picture.
+#[derive(Clone, Copy)]
+struct BoxGeometry {
+    /// What is left of it, in parts of the graph's width.
+    left: u64,
+    /// Its width, in parts of the graph's width.
+    width: u64,
+    /// The number of rows above it.
+    row: u64,
+}
+
+// What is the same for all boxes.
+#[derive(Clone, Copy)]
+struct Picture<'a> {
+    profile: &'a Profile,
+    tree: &'a EntryTree,
+    /// What code functions are, if it is known.
+    function_kinds: Option<&'a FunctionKinds>,
+    /// The sum of all weights.
+    total: u64,
+    /// What is counted.
+    unit: &'a str,
+}
+
+// What is written in a box, and of it.
+#[derive(Clone, Copy)]
+struct Label<'a> {
+    kind: FrameKind,
+    text: &'a [u8],
+    file: &'a [u8],
+}
+
+impl<'a> Picture<'a> {
+    // Returns what is written in a box. An outermost box is that of a thread.
+    fn label(&self, flame_box: &FlameBox) -> Label<'a> {
+        let text = self.tree.text(flame_box.text);
+        if flame_box.depth == 0 {
+            return Label {
+                kind: FrameKind::Thread,
+                text,
+                file: b"",
+            };
+        }
+        let function = self.profile.tables.names.id(flame_box.text);
+        let (kind, file) = match (self.function_kinds, function) {
+            (Some(kinds), Some(name)) => (kinds.kind(name), kinds.path(name)),
+            _ => (FrameKind::Unknown, b"".as_slice()),
+        };
+        Label { kind, text, file }
+    }
+
+    // Returns the place of samples at a depth.
+    fn place(&self, span: WidthSpan, row: u64) -> BoxGeometry {
+        let left = share(span.start, self.total, WIDTH_PARTS);
+        let right = share(span.end, self.total, WIDTH_PARTS);
+        BoxGeometry {
+            left,
+            width: right.saturating_sub(left),
+            row,
+        }
+    }
+
+    // Writes what is shown for a box under the pointer: its name, its weight, its share of all weights and
+    // its file.
+    fn write_title(&self, label: Label<'_>, weight: u64, out: &mut Vec<u8>) -> io::Result<()> {
+        let text = XmlText::whole(label.text);
+        let percent = Share {
+            part: weight,
+            total: self.total,
+        };
+        let unit = self.unit;
+        write!(out, "<g><title>{text}\n{weight} {unit}, {percent}")?;
+        if !label.file.is_empty() {
+            let file = XmlText::whole(label.file);
+            write!(out, ", {file}")?;
+        }
+        out.write_all(b"</title>")
+    }
+
+    // Writes a box.
+    fn write_box(
+        &self,
+        label: Label<'_>,
+        span: WidthSpan,
+        row: u64,
+        out: &mut Vec<u8>,
+    ) -> io::Result<()> {
+        let place = self.place(span, row);
+        self.write_title(label, span.weight(), out)?;
+        write_rectangle(place, frame_color(label.kind, label.text), out)?;
+        write_name(place, label.text, out)?;
+        out.write_all(b"</g>\n")
+    }
+
+    // Writes the boxes: that of all samples, then those of the tree.
+    fn write_boxes(&self, boxes: &[FlameBox], out: &mut Vec<u8>) -> io::Result<()> {
+        let all = WidthSpan {
+            start: 0,
+            end: self.total,
+        };
+        if self.total != 0 {
+            self.write_box(ALL, all, 0, out)?;
+        }
+        for flame_box in boxes {
+            let row = (flame_box.depth as u64).saturating_add(1);
+            self.write_box(self.label(flame_box), flame_box.span, row, out)?;
+        }
+        Ok(())
+    }
+}
+
+// Returns the number of rows of boxes: that of all samples, and those below it.
+fn row_count(boxes: &[FlameBox]) -> u64 {
+    let mut rows = 1u64;
+    for flame_box in boxes {
+        rows = rows.max((flame_box.depth as u64).saturating_add(2));
+    }
+    rows
+}
+
+// Writes how many boxes are left out, if there are any.
+fn write_omissions(drawn: &DrawnBoxes, out: &mut Vec<u8>) -> io::Result<()> {
+    let narrow = drawn.omitted;
+    if narrow == 0 {
+        return Ok(());
+    }
+    let all = drawn.boxes.len().saturating_add(narrow);
+    writeln!(
+        out,
+        "<!-- {narrow} of {all} boxes are left out: they are narrower than"
+    )?;
+    writeln!(out, "a tenth of a pixel of {GRAPH_WIDTH} -->")
+}
+
+// Returns the position of the upper side of a row in the graph, in pixels.
+fn box_top(row: u64) -> u64 {
+    row.saturating_mul(ROW_HEIGHT)
+}
+
+// Writes the rectangle of a box.
+fn write_rectangle(place: BoxGeometry, color: [u8; 3], out: &mut Vec<u8>) -> io::Result<()> {
+    let (x, y) = (WidthParts(place.left), box_top(place.row));
+    let (width, height) = (WidthParts(place.width), ROW_HEIGHT - 1);
+    let (red, green, blue) = (color[0], color[1], color[2]);
+    write!(
+        out,
+        r#"<rect x="{x}" y="{y}" width="{width}" height="{height}""#
+    )?;
+    write!(out, r##" fill="#{red:02x}{green:02x}{blue:02x}"/>"##)
+}
+
+// Returns the number of characters that fit into a box.
+fn character_count(place: BoxGeometry) -> u64 {
+    let hundredths = share(place.width, WIDTH_PARTS, GRAPH_WIDTH * 100);
+    hundredths.saturating_sub(2 * NAME_MARGIN * 100) / CHARACTER_WIDTH
+}
+
+// Writes as much of the name of a box as fits, if that is enough.
+fn write_name(place: BoxGeometry, name: &[u8], out: &mut Vec<u8>) -> io::Result<()> {
+    let limit = character_count(place);
+    if limit < MIN_CHARACTERS {
+        return Ok(());
+    }
+    let length = name.chars().count() as u64;
+    if length <= limit {
+        return write_text(place, name, length, "", out);
+    }
+    write_text(place, name, limit.saturating_sub(2), "..", out)
+}
+
+// Writes the first characters of a name, and what follows them.
+fn write_text(
+    place: BoxGeometry,
+    name: &[u8],
+    length: u64,
+    end: &str,
+    out: &mut Vec<u8>,
+) -> io::Result<()> {
+    let text = XmlText {
+        bytes: name,
+        limit: length as usize,
+    };
+    let x = WidthParts(place.left);
+    let y = box_top(place.row).saturating_add(13);
+    write!(
+        out,
+        r#"<text x="{x}" dx="{NAME_MARGIN}" y="{y}">{text}{end}</text>"#
+    )
+}
+
+// Writes what precedes the boxes: the size of the picture, its title and its look.
+fn write_start(title: &[u8], height: u64, out: &mut Vec<u8>) -> io::Result<()> {
+    let title = XmlText::whole(title);
+    let width = GRAPH_WIDTH + 2 * MARGIN;
+    out.write_all(START.as_bytes())?;
+    write!(
+        out,
+        r#" width="{width}" height="{height}" viewBox="0 0 {width} {height}""#
+    )?;
+    writeln!(out, r#" aria-label="Flame graph of {title}">"#)?;
+    out.write_all(STYLE.as_bytes())?;
+    writeln!(out, r#"<text x="{MARGIN}" y="18">{title}</text>"#)?;
+    out.write_all(LEGEND.as_bytes())
+}
+
+// Writes the graph: its place, and the boxes.
+fn write_graph(
+    picture: &Picture<'_>,
+    drawn: &DrawnBoxes,
+    height: u64,
+    out: &mut Vec<u8>,
+) -> io::Result<()> {
+    write_omissions(drawn, out)?;
+    writeln!(
+        out,
+        r#"<svg id="boxes" x="{MARGIN}" y="{TOP}" width="{GRAPH_WIDTH}" height="{height}">"#
+    )?;
+    picture.write_boxes(drawn.boxes.as_slice(), out)?;
+    out.write_all(b"</svg>\n")
+}
+
+// Writes what follows the boxes: the line at the foot, and the script.
+fn write_end(height: u64, out: &mut Vec<u8>) -> io::Result<()> {
+    let y = height.saturating_sub(8);
+    writeln!(out, r#"<text id="details" x="{MARGIN}" y="{y}"></text>"#)?;
+    out.write_all(b"<script><![CDATA[")?;
+    out.write_all(SCRIPT.as_bytes())?;
+    out.write_all(b"]]></script>\n</svg>\n")
+}
+
+// Returns the flame graph of a profile.
+fn flame_graph(
+    alloc: Global,
+    profile: &Profile,
+    function_kinds: Option<&FunctionKinds>,
+    caption: Caption<'_>,
+) -> io::Result<Vec<u8>> {
+    let tree = entry_tree(alloc, profile)?;
+    let drawn = drawn_boxes(alloc, &tree)?;
+    let picture = Picture {
+        profile,
+        tree: &tree,
+        function_kinds,
+        total: drawn.total,
+        unit: caption.unit,
+    };
+    let graph_height = box_top(row_count(drawn.boxes.as_slice()));
+    let height = graph_height.saturating_add(TOP + BOTTOM);
+    let mut out = Vec::new(alloc);
+    write_start(caption.title, height, &mut out)?;
+    write_graph(&picture, &drawn, graph_height, &mut out)?;
+    write_end(height, &mut out)?;
+    Ok(out)
+}
+
+/// Writes the flame graph of a profile as an SVG file: a box for each node of its tree, as wide as its share
+/// of all weights, below that of its caller. `function_kinds` says what code functions are, if it is known.
+/// Boxes below a tenth of a pixel at a width of 1,180 pixels are left out, and a comment says how many.
+///
+/// Fails if memory runs out or if the output can't be written.
+pub fn write_svg<W: Write>(
+    alloc: Global,
+    profile: &Profile,
+    function_kinds: Option<&FunctionKinds>,
+    caption: Caption<'_>,
+    out: &mut W,
+) -> io::Result<()>
+    ensures { OnOk result ((picture : List ℕ) × Appends (W.contents out.old) (W.contents out.new) picture) }
+{
+    out.write_all(flame_graph(alloc, profile, function_kinds, caption)?.as_slice())
+}
