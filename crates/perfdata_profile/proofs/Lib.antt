@@ -3,9 +3,11 @@ mod Building
 mod Caching
 pub mod Counting
 mod Deciding
+mod Erasing
 pub mod Elements
 pub mod Growing
 mod Looking
+mod Merging
 mod Resolving
 pub mod Searching
 mod Summing

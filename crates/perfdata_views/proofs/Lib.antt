@@ -5,6 +5,7 @@ mod CountingSamples
 mod EntryStacks
 mod Growing
 mod LineSums
+mod Naming
 mod Nesting
 mod NodeSums
 mod Numbered

@@ -8,15 +8,15 @@ use Rattle.perfdata_profile.specs.Profiles.{lists_of}
 use Rattle.perfdata_profile.specs.Resolving.{Meaning}
 use Rattle.perfdata_profile.specs.Samples.{AreCounted, Given, IsSample, is_selected}
 use Rattle.perfdata_profile.specs.Tallies.{Counted}
-use Rattle.perfdata_profile.specs.Values.{Lists, LocationValue, SampleValue, name_at}
+use Rattle.perfdata_profile.specs.Values.{Lists, SampleValue, name_at}
 use Rattle.perfdata_profile.specs.declared.options.ProfileOptions.{ProfileOptions}
 use Rattle.perfdata_profile.specs.declared.profile.Profile.{Profile}
 use Rattle.perfdata_views.specs.Boxes.{outermost_width}
 use Rattle.perfdata_views.specs.Counts.{is_line}
-use Rattle.perfdata_views.specs.Entries.{entries_in}
+use Rattle.perfdata_views.specs.Entries.{entries_in, stack_names}
 use Rattle.perfdata_views.specs.EntryTrees.{IsEntryTree, entry_names, node_names}
 use Rattle.perfdata_views.specs.FlameBoxes.{AreDrawn, box_of, box_width, boxes_of, is_narrow, outermost_box_width, total_of}
-use Rattle.perfdata_views.specs.FunctionTables.{IsTableOf, is_in_function}
+use Rattle.perfdata_views.specs.FunctionTables.{IsTableOf}
 use Rattle.perfdata_views.specs.Lines.{AreLinesOf, Lines, line_of}
 use Rattle.perfdata_views.specs.declared.entry_tree.EntryTree.{EntryTree}
 use Rattle.perfdata_views.specs.declared.flame.boxes.DrawnBoxes.{DrawnBoxes}
@@ -30,19 +30,19 @@ samples_where test counted = sum_by (λ (one : Counted SampleValue). if test one
 abbrev pub sample_weight : Counted SampleValue → ℕ
 sample_weight one = one.weight
 
--- Whether a function has the leaf of a stack, whether it occurs in it, and whether a stack has frames.
+-- Whether a function has the leaf of a stack, whether it occurs in it, and whether a stack has functions, as each has that has frames.
 abbrev pub has_leaf : List ℕ → SampleValue → Bool
-has_leaf name key = list_any (is_in_function name) (take 1 key.stack)
+has_leaf name key = list_any (is_line name) (take 1 (stack_names key.stack))
 
 abbrev pub has_function : List ℕ → SampleValue → Bool
-has_function name key = list_any (is_in_function name) key.stack
+has_function name key = list_any (is_line name) (stack_names key.stack)
 
-abbrev pub any_frame : List LocationValue → Bool
-any_frame [] = false
-any_frame (location ∷ stack) = true
+abbrev pub any_name : List (List ℕ) → Bool
+any_name [] = false
+any_name (name ∷ names) = true
 
 abbrev pub has_frames : SampleValue → Bool
-has_frames key = any_frame key.stack
+has_frames key = any_name (stack_names key.stack)
 
 -- The names of a node of the tree of a profile, from the root.
 abbrev pub names_in : EntryTree → Node → List (List ℕ)

@@ -1,3 +1,4 @@
+pub mod Entries
 pub mod FunctionTables
 pub mod Lines
 pub mod Numbering

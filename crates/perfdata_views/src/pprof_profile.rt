@@ -3,6 +3,7 @@
 use crate::flame::xml_text::XmlText;
 use indexmap::IndexSet;
 use perfdata_profile::interned::Interned;
+use perfdata_profile::lines::{Line as ProfileLine, LinesId};
 use perfdata_profile::locations::{Location, LocationId};
 use perfdata_profile::mapping_order::MappingOrder;
 use perfdata_profile::mappings::MappingId;
@@ -14,7 +15,7 @@ use pprof::builder::{
 };
 use pprof::encode::encode;
 use pprof::html::{PageTexts, profile_page};
-use pprof::profile::{Profile as PprofProfile, ValueType};
+use pprof::profile::{Line, Profile as PprofProfile, ValueType};
 use std::alloc::{AllocError, Global};
 use std::cmp::Ordering;
 use std::io;
@@ -249,12 +250,33 @@ impl<'a> Converter<'a> {
         Ok(())
     }
 
-    // Returns the id of a function with a name.
-    fn function(&mut self, name: u64) -> Result<u64, AllocError> {
+    // Returns the id of a function with a name, and with a source file or 0.
+    fn function(&mut self, name: u64, filename: u64) -> Result<u64, AllocError> {
         self.builder.function(FunctionNames {
             name,
             system_name: name,
+            filename,
         })
+    }
+
+    // Returns a function at an address, with its source line.
+    fn line(&mut self, line: ProfileLine) -> Result<Line, AllocError> {
+        let name = self.text(line.function)?;
+        let path = self.tables.names.get(line.file).unwrap_or(b"");
+        let filename = self.builder.text(path)?;
+        Ok(Line {
+            function_id: self.function(name, filename)?,
+            line: u64::from(line.line),
+        })
+    }
+
+    // Returns the functions at an address, the innermost first.
+    fn location_lines(&mut self, id: LinesId) -> Result<Vec<Line>, AllocError> {
+        let mut lines = Vec::new(self.alloc);
+        for line in self.tables.lines.get(id).unwrap_or(&[]) {
+            lines.push(self.line(*line)?)?;
+        }
+        Ok(lines)
     }
 
     // Returns the id of a location, which is added.
@@ -263,12 +285,11 @@ impl<'a> Converter<'a> {
             Some(mapping) => self.mapping(mapping)?,
             None => 0,
         };
-        let name = self.text(location.function)?;
-        let function_id = self.function(name)?;
+        let lines = self.location_lines(location.lines)?;
         self.builder.location(LocationRow {
             mapping_id,
             address: location.address,
-            function_id,
+            lines,
         })
     }
 
@@ -292,11 +313,15 @@ impl<'a> Converter<'a> {
     // Returns the id of the location of samples without frames.
     fn no_frames(&mut self) -> Result<u64, AllocError> {
         let name = self.builder.text(NO_FRAMES)?;
-        let function_id = self.function(name)?;
+        let mut lines = Vec::new(self.alloc);
+        lines.push(Line {
+            function_id: self.function(name, 0)?,
+            line: 0,
+        })?;
         self.builder.location(LocationRow {
             mapping_id: 0,
             address: 0,
-            function_id,
+            lines,
         })
     }
 

@@ -24,7 +24,7 @@ use perfdata_cli::progress::Progress;
 use perfdata_cli::recording::{Recording, RecordingRecords};
 use perfdata_cli::text_output::TextOutput;
 use perfdata_focus::FocusPatterns;
-use perfdata_resolver::FrameResolver;
+use perfdata_resolver::{FrameResolver, ResolverOptions};
 use perfdata_selection::error::SelectionError;
 use perfdata_selection::options::FilterOptions;
 use regex::bytes::Regex;
@@ -124,7 +124,12 @@ fn fold<'a>(
     path: &str,
 ) -> Result<(), FoldError<'a>> {
     let data = format.data(rt.alloc());
-    let resolver = FrameResolver::open(rt, &arguments.options.names, data)?;
+    let names = arguments.options.names;
+    let names = ResolverOptions {
+        source: format.source(names.source),
+        ..names
+    };
+    let resolver = FrameResolver::open(rt, &names, data)?;
     let input = OpenInput::open_recording(rt, path)?;
     let mut progress = Progress::start(rt, input.size).unless_quiet(arguments.is_quiet);
     let Recording { reader, kind } = Recording::open(rt.alloc(), input)?;

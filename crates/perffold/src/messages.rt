@@ -110,6 +110,9 @@ fn print_file(rt: &HostRuntime, name: &str, file: NamedFile<'_>) -> Result<(), A
         FileProblem::NoFrameInformation => {
             eprintln!(rt; "{name}: no call frame information: {path} ({samples} samples)")
         }
+        FileProblem::NoLineInformation => {
+            eprintln!(rt; "{name}: no line information (build with -g): {path} ({samples} samples)")
+        }
     };
     Ok(())
 }
@@ -170,6 +173,20 @@ fn print_causes(rt: &HostRuntime, name: &str, resolver: &FrameResolver<'_>) {
     }
 }
 
+// Writes how many units of debugging information aren't read, or not completely.
+fn print_units(rt: &HostRuntime, name: &str, resolver: &FrameResolver<'_>) {
+    let split = resolver.split_units();
+    if split != 0 {
+        let _ = eprintln!(rt;
+            "{name}: {split} compilation units have their information in .dwo files, which aren't read"
+        );
+    }
+    let unreadable = resolver.unreadable_units();
+    if unreadable != 0 {
+        let _ = eprintln!(rt; "{name}: {unreadable} compilation units can't be read completely");
+    }
+}
+
 // Writes which events aren't counted, if no option names events.
 fn print_other_events(
     rt: &HostRuntime,
@@ -204,6 +221,7 @@ pub(crate) fn print_messages(
         );
     }
     print_causes(rt, name, resolver);
+    print_units(rt, name, resolver);
     if print_files(rt, name, resolver.problem_files()).is_err() {
         let _ = eprintln!(rt; "{name}: out of memory");
     }

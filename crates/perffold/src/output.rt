@@ -12,7 +12,7 @@ use perfdata_overview::weight::WeightKind;
 use perfdata_profile::function_kinds::FunctionKinds;
 use perfdata_profile::mapping_order::MappingOrder;
 use perfdata_profile::options::Detail;
-use perfdata_resolver::{FormatData, FrameListing, ScriptListing};
+use perfdata_resolver::{FormatData, FrameListing, ScriptListing, SourceOptions};
 use perfdata_views::call_tree::{MinShare, TreeOptions, write_call_tree};
 use perfdata_views::flame::svg::{Caption, write_svg};
 use perfdata_views::lines::write_lines;
@@ -113,6 +113,27 @@ impl OutputFormat {
             Detail::Locations
         } else {
             Detail::Functions
+        }
+    }
+
+    /// Returns what is looked up in debugging information. Formats that don't write source lines into names
+    /// have them beside these, unless inlined functions aren't wanted.
+    pub(crate) fn source(self, source: SourceOptions) -> SourceOptions {
+        match self {
+            OutputFormat::Lines | OutputFormat::Top => source,
+            OutputFormat::Svg | OutputFormat::Pprof | OutputFormat::Html | OutputFormat::Frames =>
+                SourceOptions {
+                    has_lines: source.has_inlined,
+                    ..source
+                },
+            OutputFormat::Tree => SourceOptions {
+                has_lines: false,
+                ..source
+            },
+            OutputFormat::Script => SourceOptions {
+                has_inlined: false,
+                has_lines: false,
+            },
         }
     }
 
