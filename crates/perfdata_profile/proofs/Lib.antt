@@ -1,4 +1,4 @@
-mod Adding
+pub mod Adding
 mod Building
 mod Caching
 pub mod Counting

@@ -26,6 +26,7 @@ use Rattle.perfdata_views.specs.declared.table.FunctionRow.{FunctionRow}
 use Rattle.perfdata_views.specs.declared.tree.Node.{Node}
 use Rattle.perfdata_views.proofs.Counting.{is_line_symm}
 use Rattle.perfdata_views.proofs.LineSums.{is_own_line}
+use Rattle.perfdata_views.proofs.PprofCounting.{samples_recounted}
 use Rattle.perfdata_views.proofs.Regrouping.{entries_regroup}
 
 -- A sum over pairs, by their first and by their second parts.
@@ -193,6 +194,7 @@ module _ (meaning : Meaning) (options : ProfileOptions) (given : List Given) (pr
     table = in_table;
     tree = in_tree;
     boxes = in_boxes;
+    pprof = samples_recounted is.counted (entries_in profile) is.sums views.columns views.pprof are.pprof;
   }
 
 pub views_count_once : (meaning : Meaning) (options : ProfileOptions) → ViewsCountOnce meaning options

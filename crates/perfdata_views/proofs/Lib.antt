@@ -9,6 +9,11 @@ mod Nesting
 mod NodeSums
 mod Numbered
 mod Outermost
+mod PprofConverting
+mod PprofCounting
+mod PprofSamples
+mod PprofTables
+mod PprofTypes
 mod Regrouping
 mod TableRows
 mod Tallying

@@ -14,6 +14,9 @@ Entry = SampleValue × Sums
 abbrev pub entries_in : Profile → List Entry
 entries_in profile = map (valued_entry (lists_of profile.tables)) (entries_of profile.sums)
 
+abbrev pub entry_key : Entry → SampleValue
+entry_key entry = entry.0
+
 abbrev pub weight_of : Entry → ℕ
 weight_of entry = entry.1.weight
 

@@ -1,4 +1,5 @@
 pub mod FunctionTables
 pub mod Lines
 pub mod Numbering
+pub mod PprofSamples
 pub mod Trees
