@@ -939,8 +939,9 @@ DEWIKURA_NONNULL DEWIKURA_NODISCARD dewikura_status dewikura_read_pipe_feature(c
     uint32_t feature, void *buffer, size_t capacity, uint8_t *is_present, uint64_t *feature_size);
 
 // Writes the finished recording of a file that wasn't finished, or whose end is missing, up to `capacity`: the header
-// with the true size of the records, the attributes, the whole records, and the whole sections of features. *needed is
-// the size of the recording in bytes. If the file has no header, *needed is 0 and the status says why.
+// with the true size of the records, the attributes, the whole records, and the whole sections of features. If no
+// section names the ids of the attributes any more, a table of event types at the end does. *needed is the size of the
+// recording in bytes. If the file has no header, *needed is 0 and the status says why.
 DEWIKURA_NONNULL DEWIKURA_NODISCARD dewikura_status dewikura_finish_recording(const void *data, size_t size,
     void *buffer, size_t capacity, uint64_t *needed);
 

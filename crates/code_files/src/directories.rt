@@ -25,7 +25,7 @@ const VDSO_FILE: &str = "/[vdso]";
 pub struct FileOptions<'a> {
     /// The directory that precedes the paths of files, which no link leaves. No cache is read then.
     pub symfs: Option<&'a str>,
-    /// The directory of debug files.
+    /// The directory of debug files, which `symfs` precedes too.
     pub debug_dir: Option<&'a str>,
     /// The directory of perf-PID.map files.
     pub maps: Option<&'a str>,
@@ -77,8 +77,13 @@ impl Directory {
             None => None,
         };
         let root = root.unwrap_or("");
+        let slash = if path.is_empty() || path.starts_with('/') {
+            ""
+        } else {
+            "/"
+        };
         Ok(Directory {
-            prefix: format!(in rt.alloc(); "{root}{path}")?,
+            prefix: format!(in rt.alloc(); "{root}{slash}{path}")?,
             limit,
         })
     }
@@ -105,6 +110,21 @@ impl Directory {
         };
         let named = path.or(symfs).unwrap_or("");
         opened.map_err(|error| PathError { path: named, error })
+    }
+
+    // Opens the directory of debug files, which is below that of mapped files, if the command line names one.
+    fn open_debug_files<'a>(
+        rt: &HostRuntime,
+        symfs: Option<&'a str>,
+        path: Option<&'a str>,
+    ) -> Result<Directory, PathError<'a>> {
+        match symfs {
+            Some(_) => {
+                let below = path.unwrap_or(DEBUG_DIRECTORY);
+                Directory::open_or_default(rt, symfs, None, below)
+            }
+            None => Directory::open_or_default(rt, None, path, DEBUG_DIRECTORY),
+        }
     }
 
     // Opens the regular file at a path, which starts with a slash, with all links of the path followed.
@@ -180,7 +200,7 @@ impl<'a> Directories<'a> {
         };
         let directories = Directories {
             files: Directory::open_or_default(rt, symfs, None, "")?,
-            debug_files: Directory::open_or_default(rt, symfs, debug_dir, DEBUG_DIRECTORY)?,
+            debug_files: Directory::open_debug_files(rt, symfs, debug_dir)?,
             maps: Directory::open_or_default(rt, symfs, maps, MAP_DIRECTORY)?,
             machine: Directory::open_or_default(rt, None, None, "")?,
             caches,

@@ -1,5 +1,6 @@
 //! Why files of mappings aren't used.
 
+use crate::section_contents::SectionError;
 use code_symbols::{ElfError, JitSymbolsError};
 use std::alloc::AllocError;
 use std::fmt::{Display, Formatter};
@@ -17,6 +18,8 @@ pub enum ReadCause {
     OutsideDirectory,
     /// It is no ELF file, or a part of it can't be read.
     Elf(ElfError),
+    /// A section, whose name is the first value of this variant, can't be used.
+    Section(&'static str, SectionError),
     /// It is a jitdump that can't be read.
     JitDump(JitSymbolsError),
 }
@@ -29,6 +32,7 @@ impl Display for ReadCause {
             ReadCause::OutsideDirectory => f.write_str("a link leaves the directory of files"),
             ReadCause::Elf(ElfError::NotElf) => f.write_str("not an ELF file"),
             ReadCause::Elf(error) => Display::fmt(error, f),
+            ReadCause::Section(name, error) => write!(f, "{name}: {error}"),
             ReadCause::JitDump(error) => Display::fmt(error, f),
         }
     }
@@ -45,6 +49,8 @@ pub enum FileProblem {
     Different,
     /// It has no call frame information where a chain ends.
     NoFrameInformation,
+    /// It has no debugging information with lines, nor has a debug file.
+    NoLineInformation,
 }
 
 /// A file of mappings with a problem.
@@ -61,17 +67,25 @@ pub struct ProblemFile {
     pub(crate) last_sample: u64,
 }
 
+impl ReadCause {
+    // Returns whether memory ran out.
+    fn is_out_of_memory(&self) -> bool {
+        match self {
+            ReadCause::Io(error) | ReadCause::Elf(ElfError::Io(error)) => {
+                error.kind() == ErrorKind::OutOfMemory
+            }
+            ReadCause::Elf(ElfError::Memory) => true,
+            ReadCause::Section(_, error) => error.is_out_of_memory(),
+            _ => false,
+        }
+    }
+}
+
 impl FileProblem {
     // Returns whether memory ran out.
     fn is_out_of_memory(&self) -> bool {
         match self {
-            FileProblem::Unreadable(ReadCause::Io(error)) => {
-                error.kind() == ErrorKind::OutOfMemory
-            }
-            FileProblem::Unreadable(ReadCause::Elf(ElfError::Memory)) => true,
-            FileProblem::Unreadable(ReadCause::Elf(ElfError::Io(error))) => {
-                error.kind() == ErrorKind::OutOfMemory
-            }
+            FileProblem::Unreadable(cause) => cause.is_out_of_memory(),
             _ => false,
         }
     }
@@ -123,21 +137,29 @@ pub(crate) fn read_or_none<T: Drop>(read: Result<T, ElfError>) -> Result<Option<
     }
 }
 
-// Returns what was read of a file or, if it can't be read, `None`. The error is kept if it is the first one.
+// Returns what was read of a file or, if it can't be read, `None`. The cause is kept if it is the first one.
 // Fails if memory runs out.
-pub(crate) fn read_or_keep<T: Drop>(
-    read: Result<T, ElfError>,
-    failure: &mut Option<ElfError>,
+pub(crate) fn value_or_keep<T: Drop>(
+    read: Result<T, ReadCause>,
+    failure: &mut Option<ReadCause>,
 ) -> Result<Option<T>, AllocError> {
     match read {
         Ok(value) => Ok(Some(value)),
-        Err(ElfError::Memory) => Err(AllocError),
-        Err(ElfError::Io(error)) if error.kind() == ErrorKind::OutOfMemory => Err(AllocError),
-        Err(error) => {
+        Err(cause) if cause.is_out_of_memory() => Err(AllocError),
+        Err(cause) => {
             if failure.is_none() {
-                *failure = Some(error);
+                *failure = Some(cause);
             }
             Ok(None)
         }
     }
+}
+
+// Returns what was read of a file or, if it can't be read, `None`. The error is kept if it is the first one.
+// Fails if memory runs out.
+pub(crate) fn read_or_keep<T: Drop>(
+    read: Result<T, ElfError>,
+    failure: &mut Option<ReadCause>,
+) -> Result<Option<T>, AllocError> {
+    value_or_keep(read.map_err(ReadCause::Elf), failure)
 }

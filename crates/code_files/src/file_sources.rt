@@ -2,7 +2,7 @@
 
 use crate::caches::push_id_path;
 use crate::directories::Directories;
-use code_symbols::DebugLink;
+use code_symbols::{AlternateLink, DebugLink};
 use std::alloc::{AllocError, Global};
 
 // The kinds of files of perf's cache.
@@ -50,6 +50,14 @@ pub(crate) struct MappedPath<'a> {
     pub(crate) is_vdso: bool,
 }
 
+// Returns the part of a path up to its last slash, which is at least one slash.
+fn directory_of(path: &str) -> &str {
+    match path.rsplit_once('/') {
+        Some((directory, _name)) => path.get(..directory.len().saturating_add(1)).unwrap_or("/"),
+        None => "/",
+    }
+}
+
 // The sources that are found so far, the first one first.
 #[derive(Drop)]
 struct SourceList {
@@ -90,15 +98,44 @@ impl SourceList {
         self.add(PathRoot::DebugFiles, path, None)
     }
 
+    // Adds the debug files with a build id: that in the directory of debug files if the command line names
+    // it, perf's cache, that in the default directory of debug files, and the cache of debuginfod.
+    fn add_with_id(
+        &mut self,
+        directories: &Directories<'_>,
+        id: &[u8],
+        perf_code: &str,
+    ) -> Result<(), AllocError> {
+        let (alloc, caches) = (self.alloc, &directories.caches);
+        if directories.has_debug_dir {
+            self.add_debug_id(id)?;
+        }
+        self.add_cached(caches.perf_path(alloc, id, perf_code)?)?;
+        self.add_cached(caches.perf_path(alloc, id, PERF_SYMBOLS)?)?;
+        if !directories.has_debug_dir {
+            self.add_debug_id(id)?;
+        }
+        self.add_cached(caches.debuginfod_path(alloc, id, DEBUGINFOD_SYMBOLS)?)?;
+        self.add_cached(caches.debuginfod_path(alloc, id, DEBUGINFOD_CODE)?)
+    }
+
+    // Adds the path that the alternate link of a file names. A relative one is for the file of a source.
+    fn add_alternate(&mut self, source: Option<&FileSource>, path: &str) -> Result<(), AllocError> {
+        let alloc = self.alloc;
+        if path.starts_with('/') {
+            return self.add(PathRoot::Files, String::from_str(alloc, path)?, None);
+        }
+        let Some(source) = source else {
+            return Ok(());
+        };
+        let directory = directory_of(source.path.as_str());
+        self.add(source.root, format!(in alloc; "{directory}{path}")?, None)
+    }
+
     // Adds the paths of the debug file that the debug link of the mapped file at a path names.
     fn add_linked(&mut self, path: &str, name: &str, crc: u32) -> Result<(), AllocError> {
         let alloc = self.alloc;
-        let directory = match path.rsplit_once('/') {
-            Some((directory, _name)) => path
-                .get(..directory.len().saturating_add(1))
-                .unwrap_or("/"),
-            None => "/",
-        };
+        let directory = directory_of(path);
         let crc = Some(crc);
         self.add(
             PathRoot::Files,
@@ -157,18 +194,8 @@ impl MappedPath<'_> {
         link: Option<&DebugLink>,
         id: &[u8],
     ) -> Result<Vec<FileSource>, AllocError> {
-        let caches = &directories.caches;
         let mut list = SourceList::new(alloc);
-        if directories.has_debug_dir {
-            list.add_debug_id(id)?;
-        }
-        list.add_cached(caches.perf_path(alloc, id, self.perf_code())?)?;
-        list.add_cached(caches.perf_path(alloc, id, PERF_SYMBOLS)?)?;
-        if !directories.has_debug_dir {
-            list.add_debug_id(id)?;
-        }
-        list.add_cached(caches.debuginfod_path(alloc, id, DEBUGINFOD_SYMBOLS)?)?;
-        list.add_cached(caches.debuginfod_path(alloc, id, DEBUGINFOD_CODE)?)?;
+        list.add_with_id(directories, id, self.perf_code())?;
         if let Some(link) = link {
             if let Ok(name) = str::from_utf8(&link.file_name) {
                 list.add_linked(self.path, name, link.crc)?;
@@ -181,4 +208,20 @@ impl MappedPath<'_> {
         }
         Ok(list.sources)
     }
+}
+
+// Returns the sources of the alternate file that a link names, in the file of a source, or in memory if there
+// is no source: the path, and the files with the build id.
+pub(crate) fn alternate_sources(
+    alloc: Global,
+    directories: &Directories<'_>,
+    source: Option<&FileSource>,
+    link: &AlternateLink,
+) -> Result<Vec<FileSource>, AllocError> {
+    let mut list = SourceList::new(alloc);
+    if let Ok(path) = str::from_utf8(&link.path) {
+        list.add_alternate(source, path)?;
+    }
+    list.add_with_id(directories, &link.build_id, PERF_CODE)?;
+    Ok(list.sources)
 }

@@ -1,16 +1,20 @@
-//! A mapped file: its symbols, its call frame information and its code, each read when it is first looked up.
+//! A mapped file: its symbols, its call frame information, its debugging information and its code, each read
+//! when it is first looked up.
 
 ghost use Rattle.std.specs.Prelude.{◌≡◌, IfOk, IfSome};
 ghost use Rattle.std.specs.Option.{option_map};
 ghost use Rattle.code_files.specs.BuildIds.{IsAccepted};
 
 use crate::build_ids::is_accepted;
+use crate::debug_files::{DebugFile, DebugFileReader};
 use crate::elf_opener::{Elf, ElfOpener};
 use crate::file_bytes::FileBytes;
-use crate::file_problems::{FileProblem, read_or_keep};
+use crate::file_problems::{FileProblem, ReadCause, read_or_keep, value_or_keep};
 use crate::file_sources::{FileSource, MappedPath};
 use crate::running_vdso::read_vdso;
+use crate::section_contents::{SectionContents, SectionError};
 use code_cfi::{FrameSection, FrameTable, Machine};
+use code_dwarf::{DebugInfo, DwarfError, SourceFrames};
 use code_symbols::{
     ElfError, PltRange, RankedSymbols, SectionBytes, Segment, SymbolSection, SymbolTable,
 };
@@ -44,6 +48,15 @@ struct FrameSections {
     linkage_tables: Vec<PltRange>,
 }
 
+// How many units of debugging information can't be read, or not completely.
+#[derive(Clone, Copy)]
+pub(crate) struct UnitErrors {
+    /// Those whose entries are in other files.
+    pub(crate) split: u64,
+    /// Others.
+    pub(crate) other: u64,
+}
+
 /// A mapped file that is open, and what was read of it so far.
 #[derive(Drop)]
 pub struct MappedFile {
@@ -58,12 +71,17 @@ pub struct MappedFile {
     symbols: Option<SymbolTable>,
     /// What unwinding reads, once it is read.
     frames: Option<FrameSections>,
+    /// The debugging information, if there is some, once it was looked for.
+    debug_info: Option<DebugInfo>,
+    is_debug_info_read: bool,
     /// The code at addresses without call frame information.
     codes: HashMap<u64, FileCode>,
     /// The error of the first part that can't be read.
-    failure: Option<ElfError>,
+    failure: Option<ReadCause>,
     /// The index of the file's problem, if it has one.
     pub(crate) problem: Option<usize>,
+    /// The index of the problem that the file has no lines, if that is one.
+    pub(crate) line_problem: Option<usize>,
     ghost accepted: { ∥ IsAccepted build_id.items recorded.items ∥₁ },
 }
 
@@ -89,19 +107,39 @@ fn file_symbols(
     }
 }
 
-// Returns the call frame information of a section, unless it is compressed.
+// Returns the call frame information of a section, if there is one.
 fn frame_table(
     alloc: Global,
     machine: Machine,
     kind: FrameSection,
-    section: Option<Option<SectionBytes>>,
+    section: Option<SectionContents>,
 ) -> Result<Option<FrameTable>, AllocError> {
     match section {
-        Some(Some(section)) if !section.is_compressed => {
-            let SectionBytes { address, bytes, .. } = section;
+        Some(SectionContents { address, bytes }) => {
             Ok(Some(FrameTable::new(alloc, machine, kind, address, bytes)?))
         }
-        _ => Ok(None),
+        None => Ok(None),
+    }
+}
+
+// Returns the contents of a section that was read, if there is one.
+fn section_contents(
+    alloc: Global,
+    section: Option<SectionBytes>,
+) -> Result<Option<SectionContents>, SectionError> {
+    match section {
+        Some(section) => Ok(Some(SectionContents::new(alloc, section)?)),
+        None => Ok(None),
+    }
+}
+
+impl UnitErrors {
+    // Counts an error.
+    fn add(&mut self, error: DwarfError) {
+        match error {
+            DwarfError::SplitUnit => self.split = self.split.saturating_add(1),
+            _ => self.other = self.other.saturating_add(1),
+        }
     }
 }
 
@@ -144,9 +182,12 @@ impl MappedFile {
             recorded: recorded.to_vec(alloc)?,
             symbols: None,
             frames: None,
+            debug_info: None,
+            is_debug_info_read: false,
             codes: HashMap::new(alloc),
             failure: None,
             problem: None,
+            line_problem: None,
         }))
     }
 
@@ -338,19 +379,31 @@ impl MappedFile {
         Ok(dynamic.and_then(|opened| opened))
     }
 
+    // Returns the sources of the symbols and of the debugging information of the file at a path.
+    fn debug_sources(
+        &mut self,
+        opener: &ElfOpener<'_>,
+        mapped: MappedPath<'_>,
+    ) -> Result<Vec<FileSource>, AllocError> {
+        let alloc = opener.rt.alloc();
+        let Some(directories) = &opener.directories else {
+            return Ok(Vec::new(alloc));
+        };
+        let link = read_or_keep(self.elf.debug_link(alloc), &mut self.failure)?;
+        let link = link.and_then(|link| link);
+        mapped.symbol_sources(alloc, directories, link.as_ref(), &self.build_id)
+    }
+
     // Opens the file with the symbols of the file at a path, unless it is where the code is.
     fn open_symbol_file(
         &mut self,
         opener: &ElfOpener<'_>,
         mapped: MappedPath<'_>,
     ) -> Result<Option<Elf>, AllocError> {
-        let alloc = opener.rt.alloc();
-        let Some(directories) = &opener.directories else {
+        if opener.directories.is_none() {
             return Ok(None);
-        };
-        let link = read_or_keep(self.elf.debug_link(alloc), &mut self.failure)?;
-        let link = link.and_then(|link| link);
-        let sources = mapped.symbol_sources(alloc, directories, link.as_ref(), &self.build_id)?;
+        }
+        let sources = self.debug_sources(opener, mapped)?;
         self.open_symbols(opener, &sources, &self.build_id)
     }
 
@@ -381,7 +434,7 @@ impl MappedFile {
     }
 
     // Takes the error of the first part that can't be read, unless the file has a problem already.
-    pub(crate) fn take_failure(&mut self) -> Option<ElfError> {
+    pub(crate) fn take_failure(&mut self) -> Option<ReadCause> {
         if self.problem.is_some() {
             return None;
         }
@@ -411,6 +464,23 @@ impl MappedFile {
         }
     }
 
+    // Reads `.eh_frame`, if there is one that can be used.
+    fn read_eh_frame(&mut self, alloc: Global) -> Result<Option<SectionContents>, AllocError> {
+        let read = self.elf.read_eh_frame(alloc);
+        let section = read_or_keep(read, &mut self.failure)?.and_then(|section| section);
+        let read = section_contents(alloc, section);
+        let read = read.map_err(|error| ReadCause::Section(".eh_frame", error));
+        Ok(value_or_keep(read, &mut self.failure)?.and_then(|contents| contents))
+    }
+
+    // Reads `.debug_frame`, if there is one that can be used.
+    fn read_debug_frame(&mut self, alloc: Global) -> Result<Option<SectionContents>, AllocError> {
+        let name = ".debug_frame";
+        let read = SectionContents::read(alloc, &mut self.elf, name.as_bytes());
+        let read = read.map_err(|error| ReadCause::Section(name, error));
+        Ok(value_or_keep(read, &mut self.failure)?.and_then(|contents| contents))
+    }
+
     // Reads the call frame information and the ranges of linkage tables, if they aren't read yet.
     pub(crate) fn read_frames(
         &mut self,
@@ -420,9 +490,8 @@ impl MappedFile {
         if self.frames.is_some() {
             return Ok(());
         }
-        let eh_frame = read_or_keep(self.elf.read_eh_frame(alloc), &mut self.failure)?;
-        let section = self.elf.read_section(alloc, b".debug_frame");
-        let debug_frame = read_or_keep(section, &mut self.failure)?;
+        let eh_frame = self.read_eh_frame(alloc)?;
+        let debug_frame = self.read_debug_frame(alloc)?;
         self.frames = Some(FrameSections {
             tables: FileTables::new(
                 frame_table(alloc, machine, FrameSection::EhFrame, eh_frame)?,
@@ -510,6 +579,83 @@ impl MappedFile {
         let code = FileCode { bytes, size };
         self.codes.insert(address, code)?;
         Ok(code)
+    }
+
+    // Reads the debugging information of the file at a path: its own, or that of the first debug file with
+    // units. If none has units, it is that of the first of these files with line programs.
+    fn find_debug_info(
+        &mut self,
+        opener: &ElfOpener<'_>,
+        mapped: MappedPath<'_>,
+        reader: &mut DebugFileReader<'_, '_>,
+    ) -> Result<Option<DebugInfo>, AllocError> {
+        let own = reader.read_main(&mut self.elf)?;
+        if own.info.is_empty() {
+            let mut sources = self.debug_sources(opener, mapped)?;
+            sources.retain(|source| !self.is_own(source));
+            match reader.find(sources, &self.build_id)? {
+                Some(file) if own.line.is_empty() || !file.main.info.is_empty() => {
+                    let DebugFile {
+                        mut elf,
+                        source,
+                        main,
+                    } = file;
+                    return Ok(Some(reader.read(&mut elf, Some(&source), main)?));
+                }
+                _ if own.line.is_empty() => return Ok(None),
+                _ => {}
+            }
+        }
+        Ok(Some(reader.read(&mut self.elf, self.source.as_ref(), own)?))
+    }
+
+    // Returns whether the debugging information was looked for.
+    pub(crate) fn is_debug_info_read(&self) -> bool {
+        self.is_debug_info_read
+    }
+
+    // Reads the debugging information of the file at a path.
+    pub(crate) fn read_debug_info(
+        &mut self,
+        opener: &ElfOpener<'_>,
+        mapped: MappedPath<'_>,
+    ) -> Result<(), AllocError> {
+        let mut reader = DebugFileReader::new(opener);
+        self.debug_info = self.find_debug_info(opener, mapped, &mut reader)?;
+        self.is_debug_info_read = true;
+        if self.failure.is_none() {
+            self.failure = reader.take_failure();
+        }
+        Ok(())
+    }
+
+    // Returns whether the file has debugging information that is read.
+    pub(crate) fn has_debug_info(&self) -> bool {
+        self.debug_info.is_some()
+    }
+
+    // Returns the functions and lines at an address of the file, if its debugging information is read and has
+    // some there.
+    pub(crate) fn find_source(
+        &mut self,
+        address: u64,
+    ) -> Result<Option<SourceFrames<'_>>, AllocError> {
+        let Some(info) = &mut self.debug_info else {
+            return Ok(None);
+        };
+        let frames = info.find(address)?;
+        Ok(Some(frames).filter(|frames| !frames.is_empty()))
+    }
+
+    // Returns the numbers of units whose entries are in other files, and of errors of other units.
+    pub(crate) fn unit_errors(&self) -> UnitErrors {
+        let mut errors = UnitErrors { split: 0, other: 0 };
+        if let Some(info) = &self.debug_info {
+            for error in info.errors() {
+                errors.add(error.error);
+            }
+        }
+        errors
     }
 
     // Returns the machine that the file is for.

@@ -11,6 +11,7 @@ use crate::file_sources::{MappedPath, PERF_KERNEL_LIST};
 use crate::mapped_file::{FileCode, MappedFile};
 use crate::mapping_names::{VDSO_PATH, is_anonymous};
 use code_cfi::Machine;
+use code_dwarf::SourceFrames;
 use code_symbols::{JitSymbols, JitSymbolsError};
 use code_unwind::{MappedCode, Plt};
 use perfdata_spaces::mapping::{Mapping, MappingKind};
@@ -94,6 +95,16 @@ pub struct MappedFiles<'a> {
     problems_by_path: HashMap<Vec<u8>, usize>,
     /// The addresses that were looked up last, each in its slot. There is no slot before the first one.
     addresses: Vec<Option<CachedAddress>>,
+    /// Whether files without lines have a problem.
+    is_line_wanted: bool,
+}
+
+// Returns the path of a mapped file, as its sources are looked for.
+fn mapped_path(path: &[u8]) -> MappedPath<'_> {
+    MappedPath {
+        path: str::from_utf8(path).unwrap_or(""),
+        is_vdso: path == VDSO_PATH,
+    }
 }
 
 // Reads a file into memory.
@@ -134,12 +145,50 @@ impl<'a> MappedFiles<'a> {
             problems: Vec::new(alloc),
             problems_by_path: HashMap::new(alloc),
             addresses: Vec::new(alloc),
+            is_line_wanted: false,
         })
     }
 
-    /// Returns the files of mappings that aren't used or not completely, each path once.
+    /// Returns the files of mappings that aren't used or not completely, each path once. A file without lines
+    /// is there once more, if that is a problem.
     pub fn problems(&self) -> &[ProblemFile] {
         self.problems.as_slice()
+    }
+
+    /// Makes it a problem that a file whose debugging information is looked for has none.
+    pub fn want_lines(&mut self) {
+        self.is_line_wanted = true;
+    }
+
+    /// Returns the number of units whose debugging information is in other files (`.dwo`), which aren't read,
+    /// in the files whose debugging information was read.
+    pub fn split_units(&self) -> u64 {
+        let mut count: u64 = 0;
+        for file in &self.files {
+            count = count.saturating_add(file.unit_errors().split);
+        }
+        count
+    }
+
+    /// Returns the number of errors of other units of the debugging information that was read.
+    pub fn unreadable_units(&self) -> u64 {
+        let mut count: u64 = 0;
+        for file in &self.files {
+            count = count.saturating_add(file.unit_errors().other);
+        }
+        count
+    }
+
+    // Adds a problem of the file at a path. Returns the index of the problem.
+    fn push_problem(&mut self, path: &[u8], problem: FileProblem) -> Result<usize, AllocError> {
+        let index = self.problems.len();
+        self.problems.push(ProblemFile {
+            path: path.to_vec(self.opener.rt.alloc())?,
+            problem,
+            samples: 0,
+            last_sample: 0,
+        })?;
+        Ok(index)
     }
 
     // Adds a problem of the file at a path, unless it has one already. Returns the index of the problem.
@@ -147,15 +196,9 @@ impl<'a> MappedFiles<'a> {
         if let Some(index) = self.problems_by_path.get(path) {
             return Ok(*index);
         }
-        let alloc = self.opener.rt.alloc();
-        let index = self.problems.len();
-        self.problems.push(ProblemFile {
-            path: path.to_vec(alloc)?,
-            problem,
-            samples: 0,
-            last_sample: 0,
-        })?;
-        self.problems_by_path.insert(path.to_vec(alloc)?, index)?;
+        let index = self.push_problem(path, problem)?;
+        let key = path.to_vec(self.opener.rt.alloc())?;
+        self.problems_by_path.insert(key, index)?;
         Ok(index)
     }
 
@@ -168,15 +211,23 @@ impl<'a> MappedFiles<'a> {
         }
     }
 
-    /// Returns whether the file of the mapping with an index was looked up and has a problem.
-    pub fn has_problem(&self, index: usize) -> bool {
-        self.problem(index).is_some()
+    // Returns the index of the problem that the file of the mapping with an index has no lines, if that is
+    // one.
+    fn line_problem(&self, index: usize) -> Option<usize> {
+        match *self.by_mapping.get(&index)? {
+            FoundFile::File(file) => self.files.get(file)?.line_problem,
+            FoundFile::Problem(_) | FoundFile::Nothing => None,
+        }
     }
 
-    /// Counts a sample with a frame in the mapping with an index, if the file has a problem. Samples have
-    /// numbers greater than 0, and each is counted once.
-    pub fn add_sample(&mut self, index: usize, sample: u64) {
-        let Some(problem) = self.problem(index) else {
+    /// Returns whether the file of the mapping with an index was looked up and has a problem.
+    pub fn has_problem(&self, index: usize) -> bool {
+        self.problem(index).is_some() || self.line_problem(index).is_some()
+    }
+
+    // Counts a sample of the problem with an index.
+    fn count_sample(&mut self, problem: Option<usize>, sample: u64) {
+        let Some(problem) = problem else {
             return;
         };
         if let Some(file) = self.problems.get_mut(problem) {
@@ -185,6 +236,13 @@ impl<'a> MappedFiles<'a> {
                 file.samples = file.samples.saturating_add(1);
             }
         }
+    }
+
+    /// Counts a sample with a frame in the mapping with an index, if the file has a problem. Samples have
+    /// numbers greater than 0, and each is counted once.
+    pub fn add_sample(&mut self, index: usize, sample: u64) {
+        self.count_sample(self.problem(index), sample);
+        self.count_sample(self.line_problem(index), sample);
     }
 
     /// Counts a chain that ends in the mapping with an index for lack of call frame information. Returns
@@ -369,7 +427,7 @@ impl<'a> MappedFiles<'a> {
         let Some(error) = file.take_failure() else {
             return Ok(());
         };
-        let problem = self.add_problem(path, FileProblem::from(error))?;
+        let problem = self.add_problem(path, FileProblem::Unreadable(error))?;
         if let Some(file) = self.files.get_mut(number) {
             file.set_problem(problem);
         }
@@ -390,14 +448,60 @@ impl<'a> MappedFiles<'a> {
             return Ok(None);
         };
         if let Some(file) = self.files.get_mut(number) {
-            let mapped = MappedPath {
-                path: str::from_utf8(path).unwrap_or(""),
-                is_vdso: path == VDSO_PATH,
-            };
-            file.read_symbols(&self.opener, mapped)?;
+            file.read_symbols(&self.opener, mapped_path(path))?;
         }
         self.note_failure(number, path)?;
         Ok(Some(number))
+    }
+
+    // Makes it a problem that an open file at a path has no lines, if they are wanted.
+    fn note_missing_lines(&mut self, number: usize, path: &[u8]) -> Result<(), AllocError> {
+        match self.files.get(number) {
+            Some(file)
+                if self.is_line_wanted && !file.has_debug_info() && file.line_problem.is_none() =>
+                {}
+            _ => return Ok(()),
+        }
+        let problem = self.push_problem(path, FileProblem::NoLineInformation)?;
+        if let Some(file) = self.files.get_mut(number) {
+            file.line_problem = Some(problem);
+        }
+        Ok(())
+    }
+
+    // Reads the debugging information of an open file at a path.
+    fn read_debug_info(&mut self, number: usize, path: &[u8]) -> Result<(), AllocError> {
+        match self.files.get_mut(number) {
+            Some(file) if !file.is_debug_info_read() => {
+                file.read_debug_info(&self.opener, mapped_path(path))?;
+            }
+            _ => return Ok(()),
+        }
+        self.note_failure(number, path)?;
+        self.note_missing_lines(number, path)
+    }
+
+    /// Returns the functions and lines at an address in the mapping with an index, innermost first, if its
+    /// file has some there. The debugging information of the file is then read.
+    ///
+    /// Fails if memory runs out.
+    pub fn find_source(
+        &mut self,
+        index: usize,
+        mapping: &Mapping,
+        address: u64,
+    ) -> Result<Option<SourceFrames<'_>>, AllocError> {
+        let Some(number) = self.find_open(index, mapping)? else {
+            return Ok(None);
+        };
+        self.read_debug_info(number, mapping.path.as_slice())?;
+        let Some(file) = self.files.get_mut(number) else {
+            return Ok(None);
+        };
+        match file.address(mapping.file_offset(address)) {
+            Some(address) => file.find_source(address),
+            None => Ok(None),
+        }
     }
 
     /// Returns the file with an index.

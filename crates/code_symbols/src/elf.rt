@@ -6,6 +6,7 @@ use crate::error::{ElfError, ElfTable};
 use crate::ranked::RankedSymbols;
 use bstr::ByteSlice;
 use memchr::memchr;
+use perfdata_base::raw::Endianness;
 use perfdata_base::source::PlacedSource;
 use std::alloc::{AllocError, Global};
 
@@ -27,7 +28,7 @@ use input::{Encoding, TableEntry, read_table};
 pub use notes::build_id_of_notes;
 use notes::{NoteRange, find_build_id};
 pub use plt_ranges::PltRange;
-pub use sections::SectionBytes;
+pub use sections::{Compression, CompressionFormat, SectionBytes};
 use sections::{find_section, read_contents};
 use strings::Strings;
 use symbols::{SymbolContext, add_symbols};
@@ -54,6 +55,15 @@ pub struct DebugLink {
     pub file_name: Vec<u8>,
     /// The CRC-32 of the file.
     pub crc: u32,
+}
+
+/// The file with parts of the debugging information of several files (`.gnu_debugaltlink`).
+#[derive(Debug, Drop, PartialEq, Eq)]
+pub struct AlternateLink {
+    /// The path of the file. A relative one begins at the directory of the file with the link.
+    pub path: Vec<u8>,
+    /// The build id of the file, which isn't empty.
+    pub build_id: Vec<u8>,
 }
 
 /// An ELF file whose headers are read.
@@ -110,6 +120,16 @@ impl<R: PlacedSource + Drop> ElfFile<R> {
         self.header.machine
     }
 
+    /// Returns the order of the bytes of numbers.
+    pub fn endian(&self) -> Endianness {
+        self.header.encoding.endian
+    }
+
+    /// Returns whether the file is relocatable (`ET_REL`): its code has no addresses yet.
+    pub fn is_relocatable(&self) -> bool {
+        self.header.file_type == header::RELOCATABLE
+    }
+
     /// Returns the segments that are loaded into memory.
     pub fn segments(&self) -> &[Segment]
         ensures { result.now ≡ segments_of self.now }
@@ -150,6 +170,17 @@ impl<R: PlacedSource + Drop> ElfFile<R> {
         section.size = section.size.min(MAX_DEBUG_LINK_SIZE);
         let bytes = read_contents(alloc, &mut self.source, &section, ElfTable::DebugLink)?;
         parse_debug_link(alloc, self.header.encoding, &bytes)
+    }
+
+    /// Reads the link to the alternate file of the debugging information, or `None` if the file has none. Its
+    /// first 65,536 bytes are read.
+    pub fn alternate_link(&mut self, alloc: Global) -> Result<Option<AlternateLink>, ElfError> {
+        let Some(mut section) = self.section_of_name(b".gnu_debugaltlink") else {
+            return Ok(None);
+        };
+        section.size = section.size.min(MAX_DEBUG_LINK_SIZE);
+        let bytes = read_contents(alloc, &mut self.source, &section, ElfTable::DebugLink)?;
+        Ok(parse_alternate_link(alloc, &bytes)?)
     }
 
     /// Reads the symbols of functions and objects, and the labels in sections whose names contain `text`.
@@ -341,5 +372,19 @@ fn parse_debug_link(
     Ok(Some(DebugLink {
         file_name: Vec::from_slice(alloc, &bytes[..name_len])?,
         crc: TableEntry { encoding, bytes }.read_u32(crc_at),
+    }))
+}
+
+// The alternate link in the bytes of its section: a path, a NUL and the build id.
+fn parse_alternate_link(alloc: Global, bytes: &[u8]) -> Result<Option<AlternateLink>, AllocError> {
+    let Some(path_len) = memchr(0, bytes) else {
+        return Ok(None);
+    };
+    if path_len == 0 || bytes.len() - path_len < 2 {
+        return Ok(None);
+    }
+    Ok(Some(AlternateLink {
+        path: Vec::from_slice(alloc, &bytes[..path_len])?,
+        build_id: Vec::from_slice(alloc, &bytes[path_len + 1..])?,
     }))
 }

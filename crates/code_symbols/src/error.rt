@@ -67,6 +67,9 @@ pub enum ElfTable {
     /// The contents of a section.
     #[error("section")]
     Section,
+    /// The header of the compressed contents of a section.
+    #[error("header of a compressed section")]
+    CompressionHeader,
     /// The header of the call frame information (`.eh_frame_hdr`).
     #[error("header of the call frame information")]
     FrameHeader,

@@ -19,7 +19,8 @@ mod text;
 
 pub use crc::Crc32;
 pub use elf::{
-    DebugLink, ElfFile, PltRange, SectionBytes, Segment, SymbolSection, build_id_of_notes,
+    AlternateLink, Compression, CompressionFormat, DebugLink, ElfFile, PltRange, SectionBytes,
+    Segment, SymbolSection, build_id_of_notes,
 };
 pub use error::{ElfError, ElfTable, JitSymbolsError};
 pub use jit::JitSymbols;

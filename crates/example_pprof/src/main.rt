@@ -4,7 +4,7 @@
 
 use indexmap::IndexSet;
 use pprof::encode::encode;
-use pprof::profile::{Function, Location, Profile, Sample, ValueType};
+use pprof::profile::{Function, Line, Location, Profile, Sample, ValueType};
 use std::alloc::{AllocError, Global};
 use std::io::{BufWriter, Read, Write};
 
@@ -59,12 +59,18 @@ fn add_texts(texts: &Texts, profile: &mut Profile) -> Result<(), AllocError> {
                 id,
                 name: id,
                 system_name: id,
+                filename: 0,
+            })?;
+            let mut lines = Vec::new(texts.alloc);
+            lines.push(Line {
+                function_id: id,
+                line: 0,
             })?;
             profile.locations.push(Location {
                 id,
                 mapping_id: 0,
                 address: 0,
-                function_id: id,
+                lines,
             })?;
         }
         let text = String::from_utf8_lossy(texts.alloc, text.as_slice())?;

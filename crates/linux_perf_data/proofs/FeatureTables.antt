@@ -30,16 +30,16 @@ use Rattle.linux_perf_data.specs.steps.FeatureData.{feature_entries_of, SourceEr
 -- ---- one section
 
 -- the remaining bytes at the target of a seek, if the bytes are known
-remaining_there : (o o' : Option Position) (bytes : Option (List ℕ)) (n : ℕ) (P : List ℕ → Type 0) → o' ≡ at_offset n o → bytes ≡ remaining_from o' → ((all : List ℕ) → bytes ≡ Some (drop n all) → P all) → IfSome (all_bytes_of o) P
+pub remaining_there : (o o' : Option Position) (bytes : Option (List ℕ)) (n : ℕ) (P : List ℕ → Type 0) → o' ≡ at_offset n o → bytes ≡ remaining_from o' → ((all : List ℕ) → bytes ≡ Some (drop n all) → P all) → IfSome (all_bytes_of o) P
 remaining_there None o' bytes n P at placed each = tt
 remaining_there (Some p) o' bytes n P at placed each = each p.all_bytes (placed ∙ ap remaining_from at)
 
 -- the bytes read at the target of a seek are a prefix of them
-prefix_there : (o : Option (List ℕ)) (xs prefix : List ℕ) → Some xs ≡ prepend prefix o → (rest : List ℕ) × (xs ≡ prefix ++ rest)
+pub prefix_there : (o : Option (List ℕ)) (xs prefix : List ℕ) → Some xs ≡ prepend prefix o → (rest : List ℕ) × (xs ≡ prefix ++ rest)
 prefix_there None xs prefix remaining = cc
 prefix_there (Some rest) xs prefix remaining = (rest, cc)
 
-earlier_source_error : (a b c : State) (e : Error) → AfterSeek a b → SourceErrorInBytes b e c → SourceErrorInBytes a e c
+pub earlier_source_error : (a b c : State) (e : Error) → AfterSeek a b → SourceErrorInBytes b e c → SourceErrorInBytes a e c
 earlier_source_error a b c e seek (inl (is, failed)) = inl (is, failed_after_seek a b c seek failed)
 earlier_source_error a b c e seek (inr (is, paused)) = inr (is, paused_after_seek a b c seek paused)
 
@@ -84,13 +84,13 @@ module _ (order : Endianness) where
   section_of_prefix : (prefix rest : List ℕ) → 16 ≤ length prefix → section_entry_of (number_in order) (prefix ++ rest) ≡ section_entry_of (number_in order) prefix
   section_of_prefix prefix rest long = rw (number_prefix order 8 prefix rest (omega arith), number_drop_prefix order 8 8 prefix rest (omega arith)) refl
 
-  entries_of_prefix : (prefix rest : List ℕ) (ns : List ℕ) → length prefix ≡ 16 * length ns → feature_entries_in order (prefix ++ rest) ns ≡ feature_entries_in order prefix ns
+  pub entries_of_prefix : (prefix rest : List ℕ) (ns : List ℕ) → length prefix ≡ 16 * length ns → feature_entries_in order (prefix ++ rest) ns ≡ feature_entries_in order prefix ns
   entries_of_prefix prefix rest [] long = refl
   entries_of_prefix prefix rest (n ∷ ns) long =
       let enough : 16 ≤ length prefix = omega arith in
       rw (section_of_prefix prefix rest enough, drop-append-le 16 prefix rest enough, entries_of_prefix (drop 16 prefix) rest ns (omega (arith, length-drop 16 prefix))) refl
 
-  entries_push : (prefix p : List ℕ) (ns : List ℕ) (n : ℕ) → length prefix ≡ 16 * length ns → length p ≡ 16
+  pub entries_push : (prefix p : List ℕ) (ns : List ℕ) (n : ℕ) → length prefix ≡ 16 * length ns → length p ≡ 16
       → feature_entries_in order (prefix ++ p) (ns ++ n ∷ []) ≡ feature_entries_in order prefix ns ++ (n, section_entry_of (number_in order) p) ∷ []
   entries_push [] p [] n long one = refl
   entries_push (x ∷ prefix) p [] n long one = absurd (omega arith)
@@ -154,7 +154,7 @@ pub record DataSoFar {S : Type 0} (es : List FeatureEntry) (old : State) (m : In
   pub seen_here : IfSome (all_bytes_of old.position) (λ all. All (λ e. HoldsSection all e.1) es × ((n : ℕ) → feature_data_of m n ≡ feature_data_by all es n))
 
 -- the bytes of one more feature
-data_push : (all : List ℕ) (es : List FeatureEntry) (k : ℕ) (s : PerfFileSection) (n : ℕ) → feature_data_by all (es ++ (k, s) ∷ []) n ≡ cond (nat_eq k n) (Some (section_bytes all s)) (feature_data_by all es n)
+pub data_push : (all : List ℕ) (es : List FeatureEntry) (k : ℕ) (s : PerfFileSection) (n : ℕ) → feature_data_by all (es ++ (k, s) ∷ []) n ≡ cond (nat_eq k n) (Some (section_bytes all s)) (feature_data_by all es n)
 data_push all es k s n =
     ap (λ l. update_all nat_eq (λ _. None) l n) (map_push (λ e. (e.0, section_bytes all e.1)) es (k, s))
     ∙ ap (λ f. f n) (fold_push (λ g p. update nat_eq g p.0 (Some p.1)) (λ _. None) (feature_bytes_by all es) (k, section_bytes all s))

@@ -32,13 +32,13 @@ use Rattle.linux_perf_data.specs.NamedErrors.{IsFileOpeningError}
 use Rattle.linux_perf_data.proofs.NamedErrors.{file_bytes, file_inconsistency, file_io}
 use Rattle.linux_perf_data.proofs.FeatureTables.{is_visible_before}
 
-earlier_source_error : (a b c : State) (e : Error) → AfterSeek a b → SourceErrorInOpening b e c → SourceErrorInOpening a e c
+pub earlier_source_error : (a b c : State) (e : Error) → AfterSeek a b → SourceErrorInOpening b e c → SourceErrorInOpening a e c
 earlier_source_error a b c e seek (inl (is, failed)) = inl (is, failed_after_seek a b c seek failed)
 earlier_source_error a b c e seek (inr (inl (is, paused))) = inr (inl (is, paused_after_seek a b c seek paused))
 earlier_source_error a b c e seek (inr (inr (is, inl failed))) = inr (inr (is, inl (failed_after_seek a b c seek failed)))
 earlier_source_error a b c e seek (inr (inr (is, inr paused))) = inr (inr (is, inr (paused_after_seek a b c seek paused)))
 
-bytes_source_error : (a b : State) (e : Error) → SourceErrorInBytes a e b → SourceErrorInOpening a e b
+pub bytes_source_error : (a b : State) (e : Error) → SourceErrorInBytes a e b → SourceErrorInOpening a e b
 bytes_source_error a b e (inl io) = inl io
 bytes_source_error a b e (inr paused) = inr (inl paused)
 
@@ -137,7 +137,7 @@ attributes_error order h a b c sources e read (seek, named, reason) = record {
 }
 
 -- an offset in the same bytes is the same position
-put_same : (n : ℕ) (o o' : Option Position) → all_bytes_of o' ≡ all_bytes_of o → at_offset n o' ≡ at_offset n o
+pub put_same : (n : ℕ) (o o' : Option Position) → all_bytes_of o' ≡ all_bytes_of o → at_offset n o' ≡ at_offset n o
 put_same n None None same = refl
 put_same n None (Some p) same = cc
 put_same n (Some p) None same = cc
@@ -181,13 +181,13 @@ prefix_there p bytes (Some rest) long remaining =
       sym (take-append_seam bytes rest) ∙ ap (λ n. take n (bytes ++ rest)) long ∙ ap (take 104) (sym all),
     )
 
-has_header : (a : State) (p : Position) (h : PerfHeader) → RemainsFromPosition a → a.position ≡ Some p → BeginsWithFileHeader a h → HasHeader p h
+pub has_header : (a : State) (p : Position) (h : PerfHeader) → RemainsFromPosition a → a.position ≡ Some p → BeginsWithFileHeader a h → HasHeader p h
 has_header a p h placed is begins =
     let there = prefix_there p begins.bytes begins.rest begins.exact_len (sym (ap remaining_from is) ∙ sym placed ∙ begins.prefix_of_remaining) in
     record { complete = there.0; matches = begins.matches ∙ ap file_header_of there.1 }
 
 -- a property of a source's position, if the position is known
-position_shows : (a : State) (P : Position → Type 0) → ((p : Position) → a.position ≡ Some p → P p) → IfSome a.position P
+pub position_shows : (a : State) (P : Position → Type 0) → ((p : Position) → a.position ≡ Some p → P p) → IfSome a.position P
 position_shows a P each =
     let go : (o : Option Position) → a.position ≡ o → IfSome o P = λ o. elim o as (λ o. a.position ≡ o → IfSome o P) [ None ↦ (λ _. tt) | Some p ↦ (λ is. each p is) ] in
     go a.position refl
@@ -229,10 +229,10 @@ magic_error a b h e placed parsed reason = record {
   cause = λ _. inl (position_shows a (λ p. IsFileError p e) (λ p is. inr (inr (inl (h, (has_header a p h placed is parsed.file_header, parsed.extra_fits, reason.1, reason.0))))));
 }
 
-all_there : (a b : State) (p : Position) → AfterSeek a b → a.position ≡ Some p → all_bytes_of b.position ≡ Some p.all_bytes
+pub all_there : (a b : State) (p : Position) → AfterSeek a b → a.position ≡ Some p → all_bytes_of b.position ≡ Some p.all_bytes
 all_there a b p seek is = seek.all_bytes ∙ ap all_bytes_of is
 
-position_put : (n : ℕ) (o : Option Position) (p : Position) → all_bytes_of o ≡ Some p.all_bytes → at_offset n o ≡ Some (record { all_bytes = p.all_bytes; offset = n })
+pub position_put : (n : ℕ) (o : Option Position) (p : Position) → all_bytes_of o ≡ Some p.all_bytes → at_offset n o ≡ Some (record { all_bytes = p.all_bytes; offset = n })
 position_put n None p is = cc
 position_put n (Some q) p is = let same : q.all_bytes ≡ p.all_bytes = cc in ap (λ l. Some (record { all_bytes = l; offset = n })) same
 

@@ -20,7 +20,7 @@ module _ (attrs : List Attribute) (records : List RecordView) (end : LayoutEnd) 
   abbrev Comes : Option (List ℕ) → Endianness → SectionSize → ℕ → ℕ → Type 0
   Comes o order bound offset round = IfSome o (λ bytes. RemainingRecords order bytes bound offset round attrs records end)
 
-  remaining_there : (o o' : Option (List ℕ)) (e e' : Endianness) (s s' : SectionSize) (f f' r r' : ℕ) → o ≡ o' → e ≡ e' → s ≡ s' → f ≡ f' → r ≡ r' → Comes o e s f r → Comes o' e' s' f' r'
+  pub remaining_there : (o o' : Option (List ℕ)) (e e' : Endianness) (s s' : SectionSize) (f f' r r' : ℕ) → o ≡ o' → e ≡ e' → s ≡ s' → f ≡ f' → r ≡ r' → Comes o e s f r → Comes o' e' s' f' r'
   remaining_there o o' e e' s s' f f' r r' po pe ps pf pr comes =
       subst (λ x. Comes x e' s' f' r') po (subst (λ x. Comes o x s' f' r') pe (subst (λ x. Comes o e x f' r') ps (subst (λ x. Comes o e s x r') pf (subst (λ x. Comes o e s f x) pr comes))))
 

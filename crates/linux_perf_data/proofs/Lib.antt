@@ -17,6 +17,10 @@ pub mod ProcessedRecords
 pub mod StringLists
 pub mod FeatureTables
 pub mod FileStart
+pub mod UnfinishedRecords
+pub mod UnfinishedSections
+pub mod UnfinishedFiles
+pub mod UnfinishedLayouts
 pub mod PipeStart
 pub mod SourceViews
 pub mod LastBuildIds

@@ -58,11 +58,11 @@ described_one order ps p n =
     ∙ ap (λ f. f n) (fold-append (λ (g : ℕ → Option (List ℕ)) (q : ℕ × List ℕ). update nat_eq g q.0 (Some q.1)) (λ _. None) (features_in_records order ps) (features_in_record order None (record_type_of order p) (drop 8 p)))
 
 -- the features that have data after an insertion
-is_some_of : (t : Bool) (d : List ℕ) (o : Option (List ℕ)) → IsSome (cond t (Some d) o) → IsSome o ⊎ (t ≡ true)
+pub is_some_of : (t : Bool) (d : List ℕ) (o : Option (List ℕ)) → IsSome (cond t (Some d) o) → IsSome o ⊎ (t ≡ true)
 is_some_of true d o some = inr refl
 is_some_of false d o some = inl some
 
-some_of : (t : Bool) (d : List ℕ) (o : Option (List ℕ)) → IsSome o ⊎ (t ≡ true) → IsSome (cond t (Some d) o)
+pub some_of : (t : Bool) (d : List ℕ) (o : Option (List ℕ)) → IsSome o ⊎ (t ≡ true) → IsSome (cond t (Some d) o)
 some_of true d o either = refl
 some_of false d o (inl some) = some
 some_of false d o (inr is) = absurd cc

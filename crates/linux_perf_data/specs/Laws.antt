@@ -1,11 +1,11 @@
 -- The theorems about layouts, openings and their errors.
-use Rattle.std.specs.Prelude.{◌≡◌, ◌≢◌, ◌⊎◌, ℕ, ◌+◌, ◌^◌, ◌<◌, ◌≤◌, ◌==◌, List, ◌∷◌, ◌++◌, length, drop, map, count_by, All, AllPairs, Option}
+use Rattle.std.specs.Prelude.{◌≡◌, ◌≢◌, ◌⊎◌, ℕ, ◌+◌, ◌^◌, ◌<◌, ◌≤◌, ◌==◌, IsTrue, List, ◌∷◌, ◌++◌, length, take, drop, map, count_by, All, AllPairs, Option, Some}
 use Rattle.std.specs.List.{concat}
 use Rattle.perfdata_sources.specs.Source.{Position}
 use Rattle.perfdata_base.specs.declared.header.PerfHeader.{PerfHeader}
 use Rattle.perfdata_sources.specs.declared.endian.Endianness.{Endianness}
 use Rattle.linux_perf_data.specs.Attribute.{Attribute, AreConsistent, Inconsistency, AreInconsistent}
-use Rattle.linux_perf_data.specs.Layout.{SectionSize, MayStartAt, IsEnd, IsRecord, IsValidRecord, StartsWithRecord, LayoutError, ErrorAt, LayoutEnd, Layout, RecordView, record_views, record_view_in, attributes_in_views, RemainingRecords, attributes_in_record, attributes_in_records, record_type_of, record_size_of}
+use Rattle.linux_perf_data.specs.Layout.{SectionSize, MayStartAt, IsEnd, IsRecord, IsValidRecord, StartsWithRecord, LayoutError, ErrorAt, LayoutEnd, ends_complete, Layout, RecordView, record_views, record_view_in, attributes_in_views, RemainingRecords, attributes_in_record, attributes_in_records, record_type_of, record_size_of}
 use Rattle.perfdata_sources.specs.Endian.{number_in}
 use Rattle.perfdata_sections.specs.AttributeDescription.{name_in, ids_in, events_in}
 use Rattle.perfdata_records.specs.Auxtrace.{HoldsAuxtrace}
@@ -21,6 +21,7 @@ use Rattle.linux_perf_data.specs.FileOpening.{HasHeader, CanSkipExtra, IsFileErr
 use Rattle.linux_perf_data.specs.OpenedFile.{DescribesFile}
 use Rattle.linux_perf_data.specs.PerfFile.{descriptions_of_file, features_of_file, endian_of_file, feature_data_in_file}
 use Rattle.linux_perf_data.specs.PipeOpening.{IsPipeHeader, AreMetadata, EndsMetadata, CanOpenPipe, IsPipeError}
+use Rattle.linux_perf_data.specs.UnfinishedFile.{has_whole_data, IsPartialRecord, IsDataSize, UnfinishedRecords}
 use Rattle.linux_perf_data.specs.declared.perf_file.PerfFile.{PerfFile}
 
 -- At most one prefix of the bytes is a whole record: no record is a proper prefix of another.
@@ -180,3 +181,13 @@ FileErrorIsUnique = (p : Position) (e f : Error) → IsFileError p e → IsFileE
 -- All errors of one pipe have the same cause.
 abbrev pub PipeErrorIsUnique : Type 0
 PipeErrorIsUnique = (bytes : List ℕ) (e f : Error) → IsPipeError bytes e → IsPipeError bytes f → SameCause e f
+
+-- Without the whole data section, the bytes from the data offset to the end are whole records and a part of one. If no record is
+-- compressed, the records that remain after the opening are exactly these, each once, in order, and then they end.
+abbrev pub WholeRecordsRemain : Type 0
+WholeRecordsRemain =
+    (order : Endianness) (p : Position) (h : PerfHeader) (len size : ℕ) (attrs : List Attribute) (raw_records : List (List ℕ)) (rest : List ℕ)
+    (records : List RecordView) (end : LayoutEnd) → ¬ IsTrue (has_whole_data h len)
+    → drop h.data_section.offset (take len p.all_bytes) ≡ concat raw_records ++ rest → All (IsRecord order) raw_records → IsPartialRecord order rest
+    → IsDataSize order h p.all_bytes len size → size < 2 ^ 64 → UnfinishedRecords p order h size attrs records end →
+    (records ≡ record_views order (Some size) 0 0 attrs raw_records) × (end ≡ ends_complete)

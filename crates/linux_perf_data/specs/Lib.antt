@@ -36,6 +36,8 @@ pub mod FileReading
 pub mod PipeReading
 pub mod InMemory
 pub mod InMemoryReading
+pub mod UnfinishedFile
+pub mod WholeParts
 pub mod RecordEntries
 pub mod InMemoryPositions
 pub mod steps

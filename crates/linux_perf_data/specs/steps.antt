@@ -14,6 +14,7 @@ pub mod IterSteps
 pub mod BufferedRecord
 pub mod FeatureData
 pub mod FileOpening
+pub mod UnfinishedFile
 pub mod BuildIds
 pub mod Names
 pub mod FirstIds

@@ -50,6 +50,7 @@ pub struct PerfFileReader<R> {
 
 impl<C: PlacedSource + Drop> PerfFileReader<C> {
     ghost use Rattle.linux_perf_data.specs.OpenedFile.{ParsesFile, BuildsReader};
+    ghost use Rattle.linux_perf_data.specs.UnfinishedFile.{ParsesUnfinishedFile};
 
     // Builds the reader of an opened file. `source` is positioned at the first record.
     fn from_opening(
@@ -141,7 +142,12 @@ impl<C: PlacedSource + Drop> PerfFileReader<C> {
     /// - [`Error::UnrecognizedMagicValue`] if the magic is unknown.
     /// - The errors of `parse_file` for the attributes and for the meta info.
     /// - [`Error::Memory`] if memory runs out.
-    pub fn parse_unfinished_file(alloc: Global, source: C) -> Result<PerfFileReader<C>, Error> {
+    pub fn parse_unfinished_file(alloc: Global, source: C) -> Result<PerfFileReader<C>, Error>
+        ensures named_error { IfErr result IsFileOpeningError }
+        ensures parses { ParsesUnfinishedFile C.state (C.state source) result }
+        ensures pauses { IfOk result (λ r. (C.state r.record_iter.source).pauses ≡ (C.state source).pauses) }
+        ensures same_loan { IfOk result (λ r. C.loan r.record_iter.source ≡ C.loan source) }
+    {
         let mut source = source;
         let opening = open_unfinished_file(alloc, &mut source)?;
         PerfFileReader::from_opening(alloc, source, opening)

@@ -15,6 +15,7 @@ ghost use Rattle.linux_perf_data.specs.Laws.{AuxtracesParse, NoNamesOnError, Nam
 ghost use Rattle.linux_perf_data.specs.Laws.{PipeOpeningIsUnique, DescribedPipeOpens, DescribedFileOpens};
 ghost use Rattle.linux_perf_data.specs.Laws.{FileDescriptionIsUnique, TruncatedHeaderFails, FarHeaderFails};
 ghost use Rattle.linux_perf_data.specs.Laws.{UnknownMagicFails, FileErrorIsUnique, PipeErrorIsUnique};
+ghost use Rattle.linux_perf_data.specs.Laws.{WholeRecordsRemain};
 
 use perfdata_base::source::Source;
 
@@ -151,6 +152,13 @@ pub fn file_reading<R: Source>()
     ensures partly { ReadingFilePartly R.state }
     ensures end { ReadingFileToEnd R.state }
     ensures to_error { ReadingFileToError R.state }
+{}
+
+/// The records of an unfinished file without the whole data section are its whole records, each once, in
+/// order, and then the end: if the bytes from the offset of the data section to the end of the file are whole
+/// records, none of them compressed, and a part of one.
+pub fn whole_records_remain()
+    ensures { WholeRecordsRemain }
 {}
 
 /// A whole reading of a pipe, in the same way from the result of `parse_pipe`. Its `PerfFile` contains

@@ -54,8 +54,8 @@ impl Display for OpeningPart {
     }
 }
 
-// Reads the bytes at an offset, if there are so many.
-fn read_at<const N: usize, C: PlacedSource>(source: &mut C, offset: u64) -> Option<[u8; N]> {
+// Reads the bytes at an offset. There are none if the input ends before.
+fn read_array<const N: usize, C: PlacedSource>(source: &mut C, offset: u64) -> Option<[u8; N]> {
     let mut bytes = [0u8; N];
     source.seek_to(SeekFrom::Start(offset)).ok()?;
     read_exact(source, &mut bytes).ok()?;
@@ -77,7 +77,7 @@ fn truncated_feature<C: PlacedSource>(
 ) -> Option<Feature> {
     let mut offset = table;
     for feature in features.iter() {
-        let entry = read_at::<16, C>(source, offset)?;
+        let entry = read_array::<16, C>(source, offset)?;
         let section_offset = read_u64(endian, &entry);
         if is_outside(length, section_offset, read_u64(endian, &entry[8..])) {
             return Some(feature);
@@ -94,7 +94,7 @@ fn is_truncated_record<C: PlacedSource>(
     endian: Endianness,
     offset: u64,
 ) -> bool {
-    match read_at::<8, C>(source, offset) {
+    match read_array::<8, C>(source, offset) {
         Some(bytes) => {
             let header = PerfEventHeader::from_bytes(endian, &bytes);
             is_outside(length, offset, header.size as u64)
@@ -140,7 +140,7 @@ fn least_size<C: PlacedSource>(
     if header.type_ != UserRecordType::PERF_HEADER_ATTR.record_type().0 {
         return None;
     }
-    let own_size = match read_at::<16, C>(source, offset) {
+    let own_size = match read_array::<16, C>(source, offset) {
         Some(start) => read_u32(endian, &start[12..]) as u64,
         None => 0,
     };
@@ -156,7 +156,7 @@ fn truncated_metadata<C: PlacedSource>(
 ) -> Option<u64> {
     let mut offset = start;
     for _ in 0..u64::MAX {
-        let header = PerfEventHeader::from_bytes(endian, &read_at::<8, C>(source, offset)?);
+        let header = PerfEventHeader::from_bytes(endian, &read_array::<8, C>(source, offset)?);
         let size = header.size as u64;
         if size < least_size(source, endian, offset, header)? || is_outside(length, offset, size) {
             return Some(offset);
@@ -173,7 +173,7 @@ fn truncated_metadata<C: PlacedSource>(
 /// begins with metadata records.
 pub fn find_truncated_part<C: PlacedSource>(source: &mut C) -> Option<OpeningPart> {
     let length = source.seek_to(SeekFrom::End(0)).ok()?;
-    let start = read_at::<START_SIZE, C>(source, 0)?;
+    let start = read_array::<START_SIZE, C>(source, 0)?;
     match InputKind::of_start(&start)? {
         InputKind::File => truncated_file_part(source, length),
         InputKind::Pipe => {

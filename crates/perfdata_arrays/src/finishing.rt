@@ -2,24 +2,22 @@
 
 use crate::array::copy_entries;
 use crate::status::{Status, status_of_error};
-use linux_perf_data::features::FeatureSet;
+use linux_perf_data::features::{Feature, FeatureSet};
 use linux_perf_data::raw::Endianness;
 use linux_perf_data::section::PerfFileSection;
 use linux_perf_data::truncation::{WholeParts, find_whole_parts};
+use perfdata_base::header::PerfHeader;
 use std::alloc::Global;
 use std::io::Cursor;
 
 // The offset of the size of the data section in a header.
 const DATA_SIZE_OFFSET: u64 = 48;
 
-// The offset of the section of event types in a header.
-const EVENT_TYPES_OFFSET: u64 = 56;
-
-// The offset of the features in a header.
-const FEATURES_OFFSET: u64 = 72;
-
 // The offset of the end of the features in a header.
 const FEATURES_END: u64 = 104;
+
+// The size of the shortest attribute.
+const MIN_ATTRIBUTE_SIZE: u64 = 64;
 
 /// The size of a finished recording and the status of the call.
 #[derive(Clone, Copy, Debug, PartialEq, Eq)]
@@ -69,7 +67,7 @@ fn section_bytes(input: &[u8], section: PerfFileSection) -> &[u8] {
 }
 
 // Returns the features of the sections.
-fn features_of(parts: &WholeParts) -> FeatureSet {
+fn kept_features(parts: &WholeParts) -> FeatureSet {
     let mut features = FeatureSet([0; 4]);
     for (feature, _) in &parts.sections {
         features.insert(*feature);
@@ -77,27 +75,105 @@ fn features_of(parts: &WholeParts) -> FeatureSet {
     features
 }
 
+// Returns the size of the table of the sections and the sections.
+fn sections_size(parts: &WholeParts) -> u64 {
+    let mut size = 0u64;
+    for (_, section) in &parts.sections {
+        size = size
+            .saturating_add(PerfFileSection::STRUCT_SIZE)
+            .saturating_add(section.size);
+    }
+    size
+}
+
+// Whether the recording names the ids of its attributes beside the attribute section, from which readers
+// take no ids unless there is simpleperf's meta info.
+fn has_listed_ids(parts: &WholeParts) -> bool {
+    parts.header.event_types_section.size != 0
+        || parts.sections.iter().any(|(feature, _)| {
+            *feature == Feature::EVENT_DESC || *feature == Feature::SIMPLEPERF_META_INFO
+        })
+}
+
+// Returns the entries of the attribute section, if a table of event types has to name their ids.
+fn unlisted_attributes<'a>(input: &'a [u8], parts: &WholeParts) -> &'a [u8] {
+    let has_ids = parts.header.attr_size >= MIN_ATTRIBUTE_SIZE + PerfFileSection::STRUCT_SIZE;
+    let section = if has_ids && !has_listed_ids(parts) {
+        parts.header.attr_section
+    } else {
+        PerfFileSection { offset: 0, size: 0 }
+    };
+    section_bytes(input, section)
+}
+
+// Returns the number of whole entries of attributes.
+fn attribute_count(attributes: &[u8], header: &PerfHeader) -> u64 {
+    (attributes.len() as u64)
+        .checked_div(header.attr_size)
+        .unwrap_or(0)
+}
+
+// Returns the section of a table of event types behind everything else; the recorded one, if there is none.
+fn event_types_section(attributes: &[u8], parts: &WholeParts) -> PerfFileSection {
+    let header = &parts.header;
+    if attributes.is_empty() {
+        return header.event_types_section;
+    }
+    let records_end = header.data_section.offset.saturating_add(parts.data_size);
+    let entry_size = header
+        .attr_size
+        .saturating_add(PerfFileSection::STRUCT_SIZE);
+    PerfFileSection {
+        offset: records_end.saturating_add(sections_size(parts)),
+        size: attribute_count(attributes, header).saturating_mul(entry_size),
+    }
+}
+
+// Writes the table of event types: each attribute, as many zeros as the place of its ids has bytes, and this
+// place.
+fn write_event_types(attributes: &[u8], header: &PerfHeader, out: &mut Output<'_>) {
+    let size = header.attr_size;
+    for index in 0..attribute_count(attributes, header) {
+        let start = index.saturating_mul(size);
+        let end = start.saturating_add(size);
+        let ids = end.saturating_sub(PerfFileSection::STRUCT_SIZE);
+        out.push(range(attributes, start, ids));
+        out.push(&[0; PerfFileSection::STRUCT_SIZE as usize]);
+        out.push(range(attributes, ids, end));
+    }
+}
+
+// Writes the offset and the size of a section.
+fn write_place(endian: Endianness, section: PerfFileSection, out: &mut Output<'_>) {
+    out.push_number(endian, section.offset);
+    out.push_number(endian, section.size);
+}
+
 // Writes the header, what is between it and the records, and the records.
-fn write_records(input: &[u8], parts: &WholeParts, out: &mut Output<'_>) {
+fn write_records(input: &[u8], attributes: &[u8], parts: &WholeParts, out: &mut Output<'_>) {
     out.push(range(input, 0, DATA_SIZE_OFFSET));
     out.push_number(parts.endian, parts.data_size);
-    out.push(range(input, EVENT_TYPES_OFFSET, FEATURES_OFFSET));
-    for word in features_of(parts).0 {
+    write_place(parts.endian, event_types_section(attributes, parts), out);
+    for word in kept_features(parts).0 {
         out.push_number(parts.endian, word);
     }
     let start = parts.header.data_section.offset;
     out.push(range(input, FEATURES_END, start.saturating_add(parts.data_size)));
 }
 
-// Writes the table of the sections, and the sections.
-fn write_sections(input: &[u8], parts: &WholeParts, out: &mut Output<'_>) {
+// Writes the table of the sections.
+fn write_section_table(parts: &WholeParts, out: &mut Output<'_>) {
     let table_size = (parts.sections.len() as u64).saturating_mul(PerfFileSection::STRUCT_SIZE);
     let mut offset = out.size.saturating_add(table_size);
     for (_, section) in &parts.sections {
-        out.push_number(parts.endian, offset);
-        out.push_number(parts.endian, section.size);
-        offset = offset.saturating_add(section.size);
+        let size = section.size;
+        write_place(parts.endian, PerfFileSection { offset, size }, out);
+        offset = offset.saturating_add(size);
     }
+}
+
+// Writes the sections.
+fn write_sections(input: &[u8], parts: &WholeParts, out: &mut Output<'_>) {
     for (_, section) in &parts.sections {
         out.push(section_bytes(input, *section));
     }
@@ -105,7 +181,8 @@ fn write_sections(input: &[u8], parts: &WholeParts, out: &mut Output<'_>) {
 
 /// Writes the finished recording of a perf.data file that wasn't finished, or whose end is missing, into
 /// `array`, up to its capacity: the header with the true size of the records, the attributes, the whole
-/// records, and the whole sections of features.
+/// records, and the whole sections of features. If no section names the ids of the attributes any more, a
+/// table of event types at the end does.
 ///
 /// The attributes and their ids precede the records, as perf writes them. If the file has no header, the
 /// status is that of the error, `size` is 0 and `array` is unchanged.
@@ -120,8 +197,11 @@ pub fn finish_recording(alloc: Global, bytes: &[u8], array: &mut [u8]) -> Finish
         }
     };
     let mut out = Output { array, size: 0 };
-    write_records(bytes, &parts, &mut out);
+    let attributes = unlisted_attributes(bytes, &parts);
+    write_records(bytes, attributes, &parts, &mut out);
+    write_section_table(&parts, &mut out);
     write_sections(bytes, &parts, &mut out);
+    write_event_types(attributes, &parts.header, &mut out);
     FinishResult {
         size: out.size,
         status: Status::Success,

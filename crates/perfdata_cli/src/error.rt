@@ -156,6 +156,23 @@ fn write_record_error<W: fmt::Write, C: Display>(
     write!(f, "(after {} records): {cause}", Grouped(position.records))
 }
 
+// Writes that a recording isn't finished.
+fn write_not_finished<W: fmt::Write>(
+    records: u64,
+    has_features: bool,
+    f: &mut Formatter<W>,
+) -> fmt::Result {
+    let features = if has_features {
+        ""
+    } else {
+        ": no features either"
+    };
+    write!(
+        f,
+        "not finished: no data size{features}; read {records} records to the end of the file"
+    )
+}
+
 impl Display for InputError {
     fn fmt<W: fmt::Write>(&self, f: &mut Formatter<W>) -> fmt::Result {
         match self {
@@ -181,17 +198,7 @@ impl Display for InputError {
             InputError::NotFinished {
                 records,
                 has_features,
-            } => {
-                let features = if *has_features {
-                    ""
-                } else {
-                    ": no features either"
-                };
-                write!(
-                    f,
-                    "not finished: no data size{features}; read {records} records to the end of the file"
-                )
-            }
+            } => write_not_finished(*records, *has_features, f),
             InputError::Truncated(records) => {
                 write!(
                     f,

@@ -11,9 +11,9 @@ use std::alloc::{AllocError, Global};
 /// Patterns for the names of functions and for the paths of files.
 #[derive(Drop)]
 pub struct FocusPatterns {
-    /// A frame of each stack that is selected matches it.
+    /// A function of each stack that is selected matches it.
     pub focus: Option<Regex>,
-    /// No frame of a stack that is selected matches it.
+    /// No function of a stack that is selected matches it.
     pub ignore: Option<Regex>,
 }
 
@@ -71,25 +71,27 @@ impl<'a> Focus<'a> {
         })
     }
 
-    // Searches the name of a location's function and the path of its file.
+    // Searches the names of a location's functions and the path of its file.
     fn search(&mut self, tables: &Interned, id: LocationId) -> Matched {
-        let Some(location) = tables.locations.get(id) else {
-            return Matched {
-                by_focus: false,
-                by_ignore: false,
-            };
+        let mut matched = Matched {
+            by_focus: false,
+            by_ignore: false,
         };
-        let (name, _) = split_file(tables.names.get(location.function).unwrap_or(b""));
+        let Some(location) = tables.locations.get(id) else {
+            return matched;
+        };
         let mapping = location
             .mapping
             .and_then(|mapping| tables.mappings.get(mapping));
         let path = mapping.and_then(|mapping| tables.names.get(mapping.path));
-        // A location without a file is searched by its name alone.
-        let texts = [name, path.unwrap_or(name)];
-        Matched {
-            by_focus: is_match(&mut self.focus, texts),
-            by_ignore: is_match(&mut self.ignore, texts),
+        for line in tables.lines.get(location.lines).unwrap_or(&[]) {
+            let (name, _) = split_file(tables.names.get(line.function).unwrap_or(b""));
+            // A location without a file is searched by its names alone.
+            let texts = [name, path.unwrap_or(name)];
+            matched.by_focus |= is_match(&mut self.focus, texts);
+            matched.by_ignore |= is_match(&mut self.ignore, texts);
         }
+        matched
     }
 
     // Returns which patterns match a location.

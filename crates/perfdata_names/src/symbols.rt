@@ -386,6 +386,11 @@ impl<'a> Symbols<'a> {
                 && !self.jitdumps.contains(mapping.pid)
     }
 
+    /// Returns whether the symbols of frames in the mapping with an index are those of its file.
+    pub fn are_of_file(&self, index: usize) -> bool {
+        matches!(self.by_mapping.get(&index), Some(Some(TableId::File(_))))
+    }
+
     /// Returns the name of a symbol, which is empty if there is none.
     pub fn name<'b>(&'b self, files: &'b MappedFiles<'_>, id: SymbolId) -> SymbolName<'b>
         ensures { IsNameOfSymbol (files_of files.now) id result.name.now }

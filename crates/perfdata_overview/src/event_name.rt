@@ -42,7 +42,7 @@ const SOFTWARE_NAMES: [&str; 12] = [
 ];
 
 // Returns the name of an index.
-fn name_at(names: &[&'static str], index: u64) -> Option<&'static str> {
+fn listed_name(names: &[&'static str], index: u64) -> Option<&'static str> {
     names.get(usize::try_from(index).ok()?).copied()
 }
 
@@ -52,8 +52,8 @@ pub fn event_name(event: &AttributeDescription) -> Option<&str> {
     let attr = event.attributes();
     match (event.name(), attr.type_) {
         (Some(name), _) => Some(name),
-        (None, HARDWARE) => name_at(&HARDWARE_NAMES, attr.config & HARDWARE_BITS),
-        (None, SOFTWARE) => name_at(&SOFTWARE_NAMES, attr.config),
+        (None, HARDWARE) => listed_name(&HARDWARE_NAMES, attr.config & HARDWARE_BITS),
+        (None, SOFTWARE) => listed_name(&SOFTWARE_NAMES, attr.config),
         (None, _) => None,
     }
 }

@@ -56,26 +56,26 @@ pub struct EventTable<'a> {
 }
 
 // Returns the name of an event, which is empty if it has none.
-fn name_of(event: &AttributeDescription) -> &str {
+fn name_or_empty(event: &AttributeDescription) -> &str {
     event_name(event).unwrap_or("")
 }
 
 // Returns the index of the first event with the name of the one with an index.
 fn first_of_name(perf_file: &PerfFile, index: usize, event: &AttributeDescription) -> usize {
-    let name = name_of(event);
+    let name = name_or_empty(event);
     if name.is_empty() {
         return index;
     }
     let mut events = perf_file.event_attributes().iter().take(index);
     events
-        .position(|other| name_of(other) == name)
+        .position(|other| name_or_empty(other) == name)
         .unwrap_or(index)
 }
 
 // Returns whether a part of the text names an event.
 fn names_event(perf_file: &PerfFile, part: &str) -> bool {
     let mut events = perf_file.event_attributes().iter().enumerate();
-    events.any(|(index, event)| selects_event(part, index, name_of(event)))
+    events.any(|(index, event)| selects_event(part, index, name_or_empty(event)))
 }
 
 /// Appends the name of the event with an index. One without a name of its own is called by its index.
@@ -87,7 +87,7 @@ pub fn push_event_name(
     index: usize,
 ) -> Result<(), AllocError> {
     let event = perf_file.event_attributes().get(index);
-    match event.map_or("", name_of) {
+    match event.map_or("", name_or_empty) {
         "" => write!(text, "event {index}").map_err(|_| AllocError),
         name => text.extend_from_slice(name.as_bytes()),
     }
@@ -119,7 +119,7 @@ impl<'a> EventTable<'a> {
         let EventSelection::Listed(text) = self.selection else {
             return false;
         };
-        let name = name_of(event);
+        let name = name_or_empty(event);
         text.split(',').any(|part| selects_event(part, index, name))
     }
 

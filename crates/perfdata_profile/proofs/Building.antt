@@ -110,9 +110,9 @@ module _ (meaning : Meaning) where
   }
 
   -- The ids of the thread and the stack of a sample.
-  pub has_key : (options : ProfileOptions) (first second : Lists) → ListsGrow first second → AreWithin first → (stacks : List (List LocationId)) (id : StackId) (stack : List LocationId) → slice_get stacks (stack_number id) ≡ Some stack → (before : List Applied) (misc : ℕ) (s : SampleRecord) (column : ℕ) (task : Task) (thread : Thread) (frames : List SampleFrame) → task ≡ sample_task s → meaning.has_frames before misc s frames → HasStack meaning first options.detail before task.pid s.timestamp frames stack → HasThread meaning second options.thread_ids before task thread → HasKey meaning (record { names = second.names; ranges = second.ranges; locations = second.locations; stacks = stacks }) options before misc s column (record { thread = thread; stack = id; column = column })
+  pub has_key : (options : ProfileOptions) (first second : Lists) → ListsGrow first second → AreWithin first → (stacks : List (List LocationId)) (id : StackId) (stack : List LocationId) → slice_get stacks (stack_number id) ≡ Some stack → (before : List Applied) (misc : ℕ) (s : SampleRecord) (column : ℕ) (task : Task) (thread : Thread) (frames : List SampleFrame) → task ≡ sample_task s → meaning.has_frames before misc s frames → HasStack meaning first options.detail before task.pid s.timestamp frames stack → HasThread meaning second options.thread_ids before task thread → HasKey meaning (record { names = second.names; ranges = second.ranges; lines = second.lines; locations = second.locations; stacks = stacks }) options before misc s column (record { thread = thread; stack = id; column = column })
   has_key options first second grows table stacks id stack at before misc s column task thread frames task_is has_frames has_stack has_thread =
-      let lists : Lists = record { names = second.names; ranges = second.ranges; locations = second.locations; stacks = stacks } in
+      let lists : Lists = record { names = second.names; ranges = second.ranges; lines = second.lines; locations = second.locations; stacks = stacks } in
       let kept = stack_kept first second grows table options.detail before task.pid s.timestamp frames stack has_stack in
       let value : stack_at lists id ≡ map (location_at lists) stack = value_is (map (location_at lists)) stacks [] (stack_number id) stack at in
       let located : AreRelated (Locates meaning options.detail before task.pid s.timestamp) frames (stack_at lists id) = subst (AreRelated (Locates meaning options.detail before task.pid s.timestamp) frames) (sym value) kept.are in
@@ -164,7 +164,7 @@ module _ (meaning : Meaning) where
   builds_unselected options given builder misc s builds = builds_applied options given builder builder builds (record { misc = misc; event = Sample s; weight = None }) refl refl refl refl ([], sym (append-nil (mapping_values builder.spaces))) (subst (λ (r : List Applied). Follows r builder.spaces) (sym (append-nil (applied_in given))) builds.follows)
 
   once_of : (tables : Interned) → AreOnce (lists_of tables)
-  once_of tables = record { names = tables.names.once; ranges = tables.mappings.once; locations = tables.locations.once; stacks = tables.stacks.once }
+  once_of tables = record { names = tables.names.once; ranges = tables.mappings.once; lines = tables.lines.once; locations = tables.locations.once; stacks = tables.stacks.once }
 
   pub profile_of : {R : Type 0} → (options : ProfileOptions) (given : List Given) (builder : ProfileBuilder R) (profile : Profile) → Builds meaning options given builder → profile.tables ≡ builder.locator.tables → profile.sums ≡ builder.sums → IsProfileOf meaning options given profile
   profile_of options given builder profile builds tables sums =

@@ -7,6 +7,8 @@ use Rattle.std.specs.Cmp.Lexicographic.{pointwise}
 use Rattle.std.specs.Option.{option_eq}
 use Rattle.std.specs.Ordering.{int_eq}
 use Rattle.perfdata_profile.specs.declared.cache.MappedAddress.{MappedAddress}
+use Rattle.perfdata_profile.specs.declared.lines.Line.{Line}
+use Rattle.perfdata_profile.specs.declared.lines.LinesId.{LinesId}
 use Rattle.perfdata_profile.specs.declared.locations.Location.{Location}
 use Rattle.perfdata_profile.specs.declared.locations.LocationId.{LocationId}
 use Rattle.perfdata_profile.specs.declared.mappings.MappedRange.{MappedRange}
@@ -23,6 +25,9 @@ name_id n = record { 0 = n }
 abbrev mapping_id : ℕ → MappingId
 mapping_id n = record { 0 = n }
 
+abbrev lines_id : ℕ → LinesId
+lines_id n = record { 0 = n }
+
 abbrev location_id : ℕ → LocationId
 location_id n = record { 0 = n }
 
@@ -34,6 +39,9 @@ name-Decides id other = (λ is. ap (λ (n : ℕ). name_id n) ((Decides-eqb id.0 
 
 pub mapping-Decides : (id other : MappingId) → Decides (id.0 == other.0) (id ≡ other)
 mapping-Decides id other = (λ is. ap (λ (n : ℕ). mapping_id n) ((Decides-eqb id.0 other.0).0 is), λ is. (Decides-eqb id.0 other.0).1 (ap (λ (o : MappingId). o.0) is))
+
+pub lines_id-Decides : (id other : LinesId) → Decides (id.0 == other.0) (id ≡ other)
+lines_id-Decides id other = (λ is. ap (λ (n : ℕ). lines_id n) ((Decides-eqb id.0 other.0).0 is), λ is. (Decides-eqb id.0 other.0).1 (ap (λ (o : LinesId). o.0) is))
 
 pub location_id-Decides : (id other : LocationId) → Decides (id.0 == other.0) (id ≡ other)
 location_id-Decides id other = (λ is. ap (λ (n : ℕ). location_id n) ((Decides-eqb id.0 other.0).0 is), λ is. (Decides-eqb id.0 other.0).1 (ap (λ (o : LocationId). o.0) is))
@@ -51,14 +59,25 @@ abbrev pub eq_mapping : MappingId → MappingId → Bool
 eq_mapping a b = a.0 == b.0
 
 abbrev pub eq_location : Location → Location → Bool
-eq_location a b = option_eq eq_mapping a.mapping b.mapping && ((a.address == b.address) && (a.function.0 == b.function.0))
+eq_location a b = option_eq eq_mapping a.mapping b.mapping && ((a.address == b.address) && (a.lines.0 == b.lines.0))
 
 pub location-Decides : (a b : Location) → Decides (eq_location a b) (a ≡ b)
 location-Decides a b =
-    let function = Decides-and (a.address == b.address) (a.function.0 == b.function.0) (Decides-eqb a.address b.address) (name-Decides a.function b.function) in
-    let parts = Decides-and (option_eq eq_mapping a.mapping b.mapping) ((a.address == b.address) && (a.function.0 == b.function.0)) (option-Decides eq_mapping mapping-Decides a.mapping b.mapping) function in (
-      (λ is. let p = parts.0 is in λ i. record { mapping = p.0 i; address = p.1.0 i; function = p.1.1 i }),
-      (λ is. parts.1 (ap (λ (l : Location). l.mapping) is, (ap (λ (l : Location). l.address) is, ap (λ (l : Location). l.function) is))),
+    let lines = Decides-and (a.address == b.address) (a.lines.0 == b.lines.0) (Decides-eqb a.address b.address) (lines_id-Decides a.lines b.lines) in
+    let parts = Decides-and (option_eq eq_mapping a.mapping b.mapping) ((a.address == b.address) && (a.lines.0 == b.lines.0)) (option-Decides eq_mapping mapping-Decides a.mapping b.mapping) lines in (
+      (λ is. let p = parts.0 is in λ i. record { mapping = p.0 i; address = p.1.0 i; lines = p.1.1 i }),
+      (λ is. parts.1 (ap (λ (l : Location). l.mapping) is, (ap (λ (l : Location). l.address) is, ap (λ (l : Location). l.lines) is))),
+    )
+
+abbrev pub eq_line : Line → Line → Bool
+eq_line a b = (a.function.0 == b.function.0) && ((a.file.0 == b.file.0) && (a.line == b.line))
+
+pub line-Decides : (a b : Line) → Decides (eq_line a b) (a ≡ b)
+line-Decides a b =
+    let file = Decides-and (a.file.0 == b.file.0) (a.line == b.line) (name-Decides a.file b.file) (Decides-eqb a.line b.line) in
+    let parts = Decides-and (a.function.0 == b.function.0) ((a.file.0 == b.file.0) && (a.line == b.line)) (name-Decides a.function b.function) file in (
+      (λ is. let p = parts.0 is in λ i. record { function = p.0 i; file = p.1.0 i; line = p.1.1 i }),
+      (λ is. parts.1 (ap (λ (l : Line). l.function) is, (ap (λ (l : Line). l.file) is, ap (λ (l : Line). l.line) is))),
     )
 
 abbrev eq_file : MappedRange → MappedRange → Bool
@@ -88,6 +107,9 @@ same_id a b = a.0 == b.0
 
 pub locations-Decides : (xs ys : List LocationId) → Decides (pointwise same_id xs ys) (xs ≡ ys)
 locations-Decides xs ys = slice_eq-Decides location_id-Decides xs ys (pointwise same_id xs ys) refl
+
+pub lines-Decides : (xs ys : List Line) → Decides (pointwise eq_line xs ys) (xs ≡ ys)
+lines-Decides xs ys = slice_eq-Decides line-Decides xs ys (pointwise eq_line xs ys) refl
 
 abbrev pub eq_address : MappedAddress → MappedAddress → Bool
 eq_address a b = (a.index == b.index) && (a.address == b.address)

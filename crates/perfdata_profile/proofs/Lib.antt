@@ -1,11 +1,13 @@
-mod Adding
+pub mod Adding
 mod Building
 mod Caching
 pub mod Counting
 mod Deciding
+mod Erasing
 pub mod Elements
 pub mod Growing
 mod Looking
+mod Merging
 mod Resolving
 pub mod Searching
 mod Summing

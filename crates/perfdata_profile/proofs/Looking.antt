@@ -1,21 +1,25 @@
 -- Locations as they are looked up.
 use Rattle.std.proofs.Common.{◌≡◌, ◌∙◌, ◌≤◌, ◌<◌, ◌&&◌, inl, inr, ap, refl, sym, subst, arith, nat_le, nat_lt, ℕ, Bool, true, List, [], length, slice_get, Option, Some}
 use Rattle.std.proofs.lemmas.Bool.Decides.{nat_tests}
+use Rattle.std.proofs.lemmas.List.{length-map}
 use Rattle.std.proofs.lemmas.Option.{get_or_from_slice_get, slice_get_within}
 use Rattle.std.specs.Option.{option_map}
 use Rattle.perfdata_profile.specs.Caching.{AllCached}
 use Rattle.perfdata_profile.specs.steps.Caching.{AddsCached}
 use Rattle.perfdata_profile.specs.Interning.{Grows}
 use Rattle.perfdata_profile.specs.Locating.{CacheHolds, IsCached, IsFoundLocation, IsNewLocation, located_lists}
-use Rattle.perfdata_profile.specs.steps.Locating.{HasMapping, IsFoundKey, IsFoundRange, LocatorGrows}
+use Rattle.perfdata_profile.specs.steps.Locating.{AreFoundLines, HasMapping, IsFoundKey, IsFoundRange, LocatorGrows}
 use Rattle.perfdata_profile.specs.Names.{number_of}
-use Rattle.perfdata_profile.specs.Resolving.{AreAtOneAddress, AreFileIds, FrameValue, IsFunctionId, Meaning}
+use Rattle.perfdata_profile.specs.Resolving.{AreAtOneAddress, AreFileIds, AreFrameLines, FrameValue, Meaning}
 use Rattle.perfdata_profile.specs.Samples.{IsLocationOf, IsPlace, IsRange, end_of, is_in_range}
-use Rattle.perfdata_profile.specs.Interned.{location_number, mapping_number}
-use Rattle.perfdata_profile.specs.Values.{AreWithin, Lists, location_at, location_value, name_at, no_location, no_range, range_at, range_value}
+use Rattle.perfdata_profile.specs.Interned.{lines_number, location_number, mapping_number}
+use Rattle.perfdata_profile.specs.Values.{AreWithin, LineValue, Lists, line_in, lines_at, lines_value, location_at, location_value, name_at, no_location, no_range, range_at, range_value}
 use Rattle.perfdata_profile.specs.steps.Values.{ListsGrow}
 use Rattle.perfdata_profile.specs.declared.cache.LocationCache.{LocationCache}
 use Rattle.perfdata_profile.specs.declared.cache.MappedAddress.{MappedAddress}
+use Rattle.perfdata_profile.specs.declared.lines.Line.{Line}
+use Rattle.perfdata_profile.specs.declared.lines.LinesId.{LinesId}
+use Rattle.perfdata_profile.specs.declared.locating.FrameLines.{FrameLines}
 use Rattle.perfdata_profile.specs.declared.locating.Locator.{Locator}
 use Rattle.perfdata_profile.specs.declared.locating.NewLocation.{NewLocation}
 use Rattle.perfdata_profile.specs.declared.locating.LocationKey.{LocationKey}
@@ -25,9 +29,8 @@ use Rattle.perfdata_profile.specs.declared.mappings.MappedRange.{MappedRange}
 use Rattle.perfdata_profile.specs.declared.mappings.MappingId.{MappingId}
 use Rattle.perfdata_profile.specs.declared.options.Detail.{Detail}
 use Rattle.perfdata_profile.specs.declared.resolver.FileNames.{FileNames}
-use Rattle.perfdata_profile.specs.declared.resolver.FunctionName.{FunctionName}
 use Rattle.perfdata_profile.proofs.Elements.{some_same}
-use Rattle.perfdata_profile.proofs.Growing.{at_kept, location_kept, location_within}
+use Rattle.perfdata_profile.proofs.Growing.{at_kept, lines_kept, lines_within, location_kept, location_within}
 use Rattle.perfdata_profile.proofs.Valuing.{value_is}
 use Rattle.perfdata_spaces.specs.Mappings.{MappingValue}
 use Rattle.perfdata_stacks.specs.Frames.{lookup_address}
@@ -59,41 +62,58 @@ module _ (meaning : Meaning) where
         is = (inside, subst (IsRange meaning mapping) (sym value) is_range);
       }
 
-  -- The id of a name of a frame stays one as names are added.
-  pub function_kept : (frame : FrameValue) (old new : List (List ℕ)) → Grows old new → (function : FunctionName) → IsFunctionId meaning.names_frame frame old function → IsFunctionId meaning.names_frame frame new function
-  function_kept frame old new grows function named = record {
-    name = named.name;
-    at = at_kept old new grows (number_of function.id) named.name named.at;
-    is = named.is;
-    fixed = named.fixed;
-  }
+  -- The id of a list of lines of a frame.
+  pub found_lines : (lists : Lists) (frame : FrameValue) (lines : List Line) (id : LinesId) (is_fixed : Bool) → slice_get lists.lines (lines_number id) ≡ Some lines → AreFrameLines meaning.has_lines frame lists.names lines is_fixed → AreFoundLines meaning lists frame (record { id = id; is_fixed = is_fixed })
+  found_lines lists frame lines id is_fixed at are =
+      let value : lines_at lists id ≡ lines_value lists lines = value_is (lines_value lists) lists.lines [] (lines_number id) lines at in
+      record {
+        within = slice_get_within lists.lines (lines_number id) lines at;
+        some = subst (λ (l : List LineValue). 0 < length l) (sym value) (subst (λ (n : ℕ). 0 < n) (sym (length-map lines (line_in lists.names))) are.some);
+        are = subst (meaning.has_lines frame) (sym value) are.are;
+        fixed = λ fixed other same. subst (meaning.has_lines other) (sym value) (are.fixed fixed other same);
+      }
+
+  -- The lines of a frame stay those as tables grow.
+  pub found_lines_kept : (old new : Lists) → ListsGrow old new → AreWithin old → (frame : FrameValue) (lines : FrameLines) → AreFoundLines meaning old frame lines → AreFoundLines meaning new frame lines
+  found_lines_kept old new grows within frame lines found =
+      let same : lines_at new lines.id ≡ lines_at old lines.id = lines_kept old new grows within lines.id found.within in
+      record {
+        within = lines_within old new grows lines.id found.within;
+        some = subst (λ (l : List LineValue). 0 < length l) (sym same) found.some;
+        are = subst (meaning.has_lines frame) (sym same) found.are;
+        fixed = λ fixed other at. subst (meaning.has_lines other) (sym same) (found.fixed fixed other at);
+      }
 
   module _ (detail : Detail) where
-    -- A location with a name of a frame, and with its place.
-    module _ (lists : Lists) (frame : FrameValue) (location : Location) (id : LocationId) (at : slice_get lists.locations (location_number id) ≡ Some location) (name : List ℕ) (name_at_id : slice_get lists.names (number_of location.function) ≡ Some name) (place : LocationKey) (mapping_is : location.mapping ≡ place.mapping) (address_is : location.address ≡ place.address) (found : IsFoundKey meaning detail lists frame place) where
+    -- A location with the lines of a frame, and with its place.
+    module _ (lists : Lists) (frame : FrameValue) (location : Location) (id : LocationId) (at : slice_get lists.locations (location_number id) ≡ Some location) (lines : FrameLines) (lines_is : location.lines ≡ lines.id) (are : AreFoundLines meaning lists frame lines) (place : LocationKey) (mapping_is : location.mapping ≡ place.mapping) (address_is : location.address ≡ place.address) (found : IsFoundKey meaning detail lists frame place) where
       value : location_at lists id ≡ location_value lists location
       value = value_is (location_value lists) lists.locations no_location (location_number id) location at
 
-      name_is : name ≡ name_at lists location.function
-      name_is = sym (get_or_from_slice_get lists.names (number_of location.function) name [] name_at_id)
+      same_lines : lines_at lists lines.id ≡ lines_at lists location.lines
+      same_lines = ap (λ (l : LinesId). lines_at lists l) (sym lines_is)
 
       place_is : IsPlace meaning detail frame.mapping (lookup_address frame.frame) (option_map (range_at lists) location.mapping) location.address
       place_is = subst (λ (a : ℕ). IsPlace meaning detail frame.mapping (lookup_address frame.frame) (option_map (range_at lists) location.mapping) a) (sym address_is) (subst (λ (m : Option MappingId). IsPlace meaning detail frame.mapping (lookup_address frame.frame) (option_map (range_at lists) m) place.address) (sym mapping_is) found.is)
 
-      -- It is a location of each frame at the address of the mapping that can have this name.
-      pub location_of : (other : FrameValue) → meaning.names_frame other name → AreAtOneAddress frame other → IsFoundLocation meaning detail lists other id
+      -- It is a location of each frame at the address of the mapping that can have these lines.
+      pub location_of : (other : FrameValue) → meaning.has_lines other (lines_at lists lines.id) → AreAtOneAddress frame other → IsFoundLocation meaning detail lists other id
       location_of other named same =
           let other_place : IsPlace meaning detail other.mapping (lookup_address other.frame) (option_map (range_at lists) location.mapping) location.address = subst (λ (m : Option MappingValue). IsPlace meaning detail m (lookup_address other.frame) (option_map (range_at lists) location.mapping) location.address) (sym same.mapping) (subst (λ (a : ℕ). IsPlace meaning detail frame.mapping a (option_map (range_at lists) location.mapping) location.address) (sym same.address) place_is) in
-          let of_value : IsLocationOf meaning detail other (location_value lists location) = record { is_name = subst (meaning.names_frame other) name_is named; is_place = other_place } in
+          let of_value : IsLocationOf meaning detail other (location_value lists location) = record {
+            are_lines = subst (meaning.has_lines other) same_lines named;
+            has_line = subst (λ (l : List LineValue). 0 < length l) same_lines are.some;
+            is_place = other_place;
+          } in
           record {
             within = slice_get_within lists.locations (location_number id) location at;
             is = subst (IsLocationOf meaning detail other) (sym value) of_value;
           }
 
-      pub new_location : (is_fixed : Bool) → meaning.names_frame frame name → (is_fixed ≡ true → (other : FrameValue) → AreAtOneAddress frame other → meaning.names_frame other name) → IsNewLocation meaning detail lists frame (record { id = id; is_fixed = is_fixed })
-      new_location is_fixed named fixed = record {
-        found = location_of frame named (record { index = refl; mapping = refl; address = refl });
-        fixed = λ is other same. location_of other (fixed is other same) same;
+      pub new_location : IsNewLocation meaning detail lists frame (record { id = id; is_fixed = lines.is_fixed })
+      new_location = record {
+        found = location_of frame are.are (record { index = refl; mapping = refl; address = refl });
+        fixed = λ is other same. location_of other (are.fixed is other same) same;
       }
 
     -- Locations stay those of their frames as tables grow.

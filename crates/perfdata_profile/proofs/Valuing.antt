@@ -8,9 +8,11 @@ use Rattle.std.specs.Option.{option_map}
 use Rattle.perfdata_profile.specs.Interning.{IsOnce}
 use Rattle.perfdata_profile.specs.Names.{number_of}
 use Rattle.perfdata_profile.specs.Profiles.{TalliesValues}
-use Rattle.perfdata_profile.specs.Interned.{location_number, mapping_number, stack_number}
+use Rattle.perfdata_profile.specs.Interned.{lines_number, location_number, mapping_number, stack_number}
 use Rattle.perfdata_profile.specs.Tallies.{Counted, IsSumOf, IsUnder, Tallies, one_sample, weight_of}
-use Rattle.perfdata_profile.specs.Values.{AreLocations, AreOnce, AreWithin, HasFile, HasParts, IsKey, IsLocation, IsMapping, IsName, IsPlaced, IsStack, Lists, LocationValue, RangeValue, SampleValue, location_at, location_value, name_at, no_location, no_range, range_at, range_value, sample_value, stack_at}
+use Rattle.perfdata_profile.specs.Values.{AreLocations, AreNamed, AreOnce, AreWithin, HasFile, HasNames, HasParts, IsKey, IsLines, IsLocation, IsMapping, IsName, IsPlaced, IsStack, LineValue, Lists, LocationValue, RangeValue, SampleValue, line_in, lines_at, lines_value, location_at, location_value, name_at, no_location, no_range, range_at, range_value, sample_value, stack_at}
+use Rattle.perfdata_profile.specs.declared.lines.Line.{Line}
+use Rattle.perfdata_profile.specs.declared.lines.LinesId.{LinesId}
 use Rattle.perfdata_profile.specs.declared.locations.Location.{Location}
 use Rattle.perfdata_profile.specs.declared.locations.LocationId.{LocationId}
 use Rattle.perfdata_profile.specs.declared.mappings.MappedRange.{MappedRange}
@@ -71,6 +73,9 @@ name_id n = record { 0 = n }
 abbrev mapping_id : ℕ → MappingId
 mapping_id n = record { 0 = n }
 
+abbrev lines_id : ℕ → LinesId
+lines_id n = record { 0 = n }
+
 abbrev location_id : ℕ → LocationId
 location_id n = record { 0 = n }
 
@@ -103,12 +108,32 @@ module _ (lists : Lists) (once : AreOnce lists) (within : AreWithin lists) where
   same_placed (Some m) None address also_address is also same = cc
   same_placed (Some m) (Some o) address also_address is also same = ap (λ (id : MappingId). Some id) (same_mapping m o (is m refl).0 (also o refl).0 (some_same (range_at lists m) (range_at lists o) same))
 
+  same_line : (line other : Line) → HasNames lists.names line → HasNames lists.names other → line_in lists.names line ≡ line_in lists.names other → line ≡ other
+  same_line line other is also same =
+      let function = same_name line.function other.function is.0 also.0 (ap (λ (v : LineValue). v.function) same) in
+      let file = same_name line.file other.file is.1 also.1 (ap (λ (v : LineValue). v.file) same) in
+      let number = ap (λ (v : LineValue). v.line) same in
+      λ i. record { function = function i; file = file i; line = number i }
+
+  same_lines : (lines others : List Line) → AreNamed lists lines → AreNamed lists others → lines_value lists lines ≡ lines_value lists others → lines ≡ others
+  same_lines [] [] is also same = refl
+  same_lines [] (o ∷ os) is also same = cc
+  same_lines (l ∷ ls) [] is also same = cc
+  same_lines (l ∷ ls) (o ∷ os) is also same =
+      let parts = cons_same (line_in lists.names l) (line_in lists.names o) (lines_value lists ls) (lines_value lists os) same in
+      let head = same_line l o (is 0 l refl) (also 0 o refl) parts.0 in
+      let tail = same_lines ls os (λ index. is (suc index)) (λ index. also (suc index)) parts.1 in
+      λ n. head n ∷ tail n
+
+  same_lines_id : (id other : LinesId) → IsLines lists id → IsLines lists other → lines_at lists id ≡ lines_at lists other → id ≡ other
+  same_lines_id id other is also same = ap (λ (n : ℕ). lines_id n) (same_number (lines_value lists) lists.lines [] (AreNamed lists) once.lines within.lines same_lines (lines_number id) (lines_number other) is also same)
+
   same_location : (location other : Location) → HasParts lists location → HasParts lists other → location_value lists location ≡ location_value lists other → location ≡ other
   same_location location other is also same =
       let mapping = same_placed location.mapping other.mapping location.address other.address is.1 also.1 (ap (λ (v : LocationValue). v.mapping) same) in
       let address = ap (λ (v : LocationValue). v.address) same in
-      let function = same_name location.function other.function is.0 also.0 (ap (λ (v : LocationValue). v.function) same) in
-      λ i. record { mapping = mapping i; address = address i; function = function i }
+      let lines = same_lines_id location.lines other.lines is.0 also.0 (ap (λ (v : LocationValue). v.lines) same) in
+      λ i. record { mapping = mapping i; address = address i; lines = lines i }
 
   same_location_id : (id other : LocationId) → IsLocation lists id → IsLocation lists other → location_at lists id ≡ location_at lists other → id ≡ other
   same_location_id id other is also same = ap (λ (n : ℕ). location_id n) (same_number (location_value lists) lists.locations no_location (HasParts lists) once.locations within.locations same_location (location_number id) (location_number other) is also same)

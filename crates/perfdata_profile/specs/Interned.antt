@@ -1,5 +1,8 @@
 -- The contents of tables, and the numbers of ids.
 use Rattle.std.specs.Prelude.{ℕ, List, map}
+use Rattle.perfdata_profile.specs.declared.lines.Line.{Line}
+use Rattle.perfdata_profile.specs.declared.lines.LineLists.{LineLists}
+use Rattle.perfdata_profile.specs.declared.lines.LinesId.{LinesId}
 use Rattle.perfdata_profile.specs.declared.locations.Location.{Location}
 use Rattle.perfdata_profile.specs.declared.locations.LocationId.{LocationId}
 use Rattle.perfdata_profile.specs.declared.locations.Locations.{Locations}
@@ -12,6 +15,9 @@ use Rattle.perfdata_profile.specs.declared.stacks.Stacks.{Stacks}
 abbrev pub mapping_number : MappingId → ℕ
 mapping_number id = id.0
 
+abbrev pub lines_number : LinesId → ℕ
+lines_number id = id.0
+
 abbrev pub location_number : LocationId → ℕ
 location_number id = id.0
 
@@ -21,6 +27,10 @@ stack_number id = id.0
 -- The mappings, by id.
 abbrev pub ranges_of : Mappings → List MappedRange
 ranges_of mappings = mappings.ranges.keys
+
+-- The lists of lines, by id.
+abbrev pub line_lists_of : LineLists → List (List Line)
+line_lists_of lines = map (λ list. list.items) lines.lists.keys
 
 -- The locations, by id.
 abbrev pub locations_of : Locations → List Location

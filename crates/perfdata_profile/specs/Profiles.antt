@@ -7,7 +7,7 @@ use Rattle.perfdata_profile.specs.declared.sums.Sums.{Sums}
 use Rattle.perfdata_profile.specs.declared.interned.Interned.{Interned}
 
 abbrev pub lists_of : Interned → Lists
-lists_of tables = lists_in tables.names tables.mappings tables.locations tables.stacks
+lists_of tables = lists_in tables.names tables.mappings tables.lines tables.locations tables.stacks
 
 module _ (lists : Lists) where
   -- All keys have ids that refer to entries of the tables.

@@ -1,13 +1,14 @@
 -- What is named, and the ids of names.
-use Rattle.std.specs.Prelude.{◌≡◌, ℕ, ℤ, true, List, Option, slice_get, Some}
+use Rattle.std.specs.Prelude.{◌≡◌, ℕ, ℤ, ◌<◌, true, Bool, List, length, map, Option, slice_get, Some}
 use Rattle.std.specs.Borrow.{Bor}
 use Rattle.std.specs.Option.{option_map}
 use Rattle.perfdata_events.specs.declared.fields.task.Task.{Task}
 use Rattle.perfdata_events.specs.declared.sample.SampleRecord.{SampleRecord}
 use Rattle.perfdata_profile.specs.Names.{number_of}
+use Rattle.perfdata_profile.specs.Values.{AreNamedIn, LineValue, line_in}
+use Rattle.perfdata_profile.specs.declared.lines.Line.{Line}
 use Rattle.perfdata_profile.specs.declared.names.NameId.{NameId}
 use Rattle.perfdata_profile.specs.declared.resolver.FileNames.{FileNames}
-use Rattle.perfdata_profile.specs.declared.resolver.FunctionName.{FunctionName}
 use Rattle.perfdata_profile.specs.declared.resolver.ResolvedFrame.{ResolvedFrame}
 use Rattle.perfdata_spaces.specs.Effects.{Applied}
 use Rattle.perfdata_spaces.specs.Mappings.{MappingValue, mapping_value}
@@ -43,8 +44,8 @@ pub record AreAtOneAddress (frame other : FrameValue) : Type 0 where
 pub record Meaning : Type 1 where
   -- A thread can have a name.
   pub names_thread : ThreadValue → List ℕ → Type 0
-  -- A frame can have a name.
-  pub names_frame : FrameValue → List ℕ → Type 0
+  -- A frame can have lines: those of its functions, the innermost first.
+  pub has_lines : FrameValue → List LineValue → Type 0
   -- The file of a mapping can have a path and a build id.
   pub names_file : MappingValue → List ℕ → List ℕ → Type 0
   -- A sample with the `misc` of its record header can have frames, the leaf first.
@@ -56,12 +57,13 @@ pub record IsIdOf (is_name : List ℕ → Type 0) (names : List (List ℕ)) (id 
   pub at : slice_get names (number_of id) ≡ Some name
   pub is : is_name name
 
--- An id is that of a name of a frame. If it is fixed, all frames at the same address of the same mapping can have this name.
-pub record IsFunctionId (names_frame : FrameValue → List ℕ → Type 0) (frame : FrameValue) (names : List (List ℕ)) (function : FunctionName) : Type 0 where
-  pub name : List ℕ
-  pub at : slice_get names (number_of function.id) ≡ Some name
-  pub is : names_frame frame name
-  pub fixed : function.is_fixed ≡ true → (other : FrameValue) → AreAtOneAddress frame other → names_frame other name
+-- Lines are those of a frame, one or more. If they are fixed, all frames at the same address of the same mapping can have them.
+pub record AreFrameLines (has_lines : FrameValue → List LineValue → Type 0) (frame : FrameValue) (names : List (List ℕ)) (lines : List Line)
+    (is_fixed : Bool) : Type 0 where
+  pub named : AreNamedIn names lines
+  pub some : 0 < length lines
+  pub are : has_lines frame (map (line_in names) lines)
+  pub fixed : is_fixed ≡ true → (other : FrameValue) → AreAtOneAddress frame other → has_lines other (map (line_in names) lines)
 
 -- Ids are those of a path and a build id with a property.
 pub record AreFileIds (are_names : List ℕ → List ℕ → Type 0) (names : List (List ℕ)) (file : FileNames) : Type 0 where

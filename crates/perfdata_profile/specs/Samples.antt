@@ -1,5 +1,5 @@
 -- Which samples of a recording are counted, and under which keys.
-use Rattle.std.specs.Prelude.{◌≡◌, ℕ, ℤ, ◌+◌, ◌-◌, ◌%◌, ◌^◌, ◌&&◌, min, nat_le, nat_lt, Bool, true, false, List, [], ◌∷◌, ◌++◌, negsuc, Option, None, Some}
+use Rattle.std.specs.Prelude.{◌≡◌, ℕ, ℤ, ◌+◌, ◌-◌, ◌%◌, ◌^◌, ◌<◌, ◌&&◌, length, min, nat_le, nat_lt, Bool, true, false, List, [], ◌∷◌, ◌++◌, negsuc, Option, None, Some}
 use Rattle.std.specs.List.{flat_map}
 use Rattle.std.specs.Option.{option_map, unwrap_or}
 use Rattle.perfdata_sources.specs.CpuMode.{cpu_mode_of}
@@ -93,9 +93,10 @@ module _ (meaning : Meaning) where
   IsPlace Locations mapping address range placed = IsRangeAt mapping address range × (placed ≡ address)
 
   module _ (detail : Detail) where
-    -- A location is one of a frame, by the mapping at the address at which it is looked up.
+    -- A location is one of a frame, by the mapping at the address at which it is looked up. It has at least one line.
     pub record IsLocationOf (frame : FrameValue) (location : LocationValue) : Type 0 where
-      pub is_name : meaning.names_frame frame location.function
+      pub are_lines : meaning.has_lines frame location.lines
+      pub has_line : 0 < length location.lines
       pub is_place : IsPlace detail frame.mapping (lookup_address frame.frame) location.mapping location.address
 
     -- A location of a frame after records: one for what is mapped then at the address at which it is looked up.

@@ -2,8 +2,8 @@
 //!
 //! A [`builder::ProfileBuilder`] is given the records of a recording in order of time. A
 //! [`resolver::Resolver`] says which frames a sample has, and names threads, functions and files.
-//! [`interned::Interned`] stores each name, mapping, location and stack once, and [`sums::SampleSums`] adds
-//! up the samples of each thread, stack and event.
+//! [`interned::Interned`] stores each name, mapping, list of lines, location and stack once, and
+//! [`sums::SampleSums`] adds up the samples of each thread, stack and event.
 #![tactic(auto)]
 
 pub mod builder;
@@ -12,6 +12,7 @@ pub mod error;
 pub mod function_kinds;
 pub mod interned;
 pub mod laws;
+pub mod lines;
 mod locating;
 pub mod locations;
 pub mod mapping_order;

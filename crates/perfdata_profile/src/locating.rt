@@ -13,6 +13,7 @@ ghost use Rattle.perfdata_spaces.specs.Mappings.{mapping_value};
 
 use crate::cache::{LocationCache, MappedAddress};
 use crate::interned::Interned;
+use crate::lines::{Line, LinesId};
 use crate::locations::{Location, LocationId};
 use crate::mappings::{MappedRange, MappingId};
 use crate::options::Detail;
@@ -29,11 +30,18 @@ pub(crate) struct Origin {
     pub(crate) time: Option<u64>,
 }
 
-// Where a frame is, without its function.
+// Where a frame is, without its functions.
 #[derive(Clone, Copy)]
 struct LocationKey {
     mapping: Option<MappingId>,
     address: u64,
+}
+
+// The functions of a frame, and whether they are those of each frame at the address of the mapping.
+#[derive(Clone, Copy)]
+struct FrameLines {
+    id: LinesId,
+    is_fixed: bool,
 }
 
 // The location of a frame, and whether it is that of each frame at the address of the mapping.
@@ -49,8 +57,11 @@ pub(crate) struct Locator {
     pub(crate) detail: Detail,
     pub(crate) tables: Interned,
     pub(crate) cache: LocationCache,
+    /// The lines of the frame that was looked up last.
+    lines: Vec<Line>,
     ghost cached: { AllCached (λ at id.
-        IsLocation (lists_in tables.names tables.mappings tables.locations tables.stacks) id) cache },
+        IsLocation (lists_in tables.names tables.mappings tables.lines tables.locations tables.stacks) id)
+        cache },
 }
 
 // Returns the mapping with an index, if there is an index.
@@ -67,7 +78,7 @@ impl Locator {
     ghost use Rattle.perfdata_profile.specs.Locating.{CacheHolds, IsFoundLocation};
     ghost use Rattle.perfdata_profile.specs.steps.Locating.{HasMapping, IsFoundKey};
     ghost use Rattle.perfdata_profile.specs.Locating.{IsNewLocation, LooksUp};
-    ghost use Rattle.perfdata_profile.specs.steps.Locating.{IsFoundRange, LocatorGrows};
+    ghost use Rattle.perfdata_profile.specs.steps.Locating.{AreFoundLines, IsFoundRange, LocatorGrows};
     ghost use Rattle.perfdata_profile.specs.Locating.{located_lists};
 
     // Nothing was looked up.
@@ -79,6 +90,7 @@ impl Locator {
             detail,
             tables: Interned::new(alloc),
             cache: LocationCache::new(alloc),
+            lines: Vec::new(alloc),
         }
     }
 
@@ -144,7 +156,23 @@ impl Locator {
         }
     }
 
-    // Returns the location of a frame by the names that the resolver gives.
+    // Returns the functions of a frame.
+    fn intern_lines<R: Resolver>(
+        &mut self,
+        resolver: &mut R,
+        frame: &ResolvedFrame<'_>,
+    ) -> Result<FrameLines, AllocError>
+        ensures grows { LocatorGrows self.old self.new }
+        ensures cache { self.new.cache ≡ self.old.cache }
+        ensures ok { IfOk result (λ lines. AreFoundLines R.meaning (located_lists self.new)
+            (frame_value frame.now) lines) }
+    {
+        let is_fixed = resolver.frame_lines(frame, &mut self.tables.names, &mut self.lines)?;
+        let id = self.tables.lines.intern(self.lines.as_slice())?;
+        Ok(FrameLines { id, is_fixed })
+    }
+
+    // Returns the location of a frame by what the resolver says of it.
     fn new_location<R: Resolver>(
         &mut self,
         resolver: &mut R,
@@ -155,16 +183,16 @@ impl Locator {
         ensures ok { IfOk result (λ new. IsNewLocation R.meaning self.old.detail (located_lists self.new)
             (frame_value frame.now) new) }
     {
-        let function = resolver.function(frame, &mut self.tables.names)?;
+        let lines = self.intern_lines(resolver, frame)?;
         let place = self.place(resolver, frame)?;
         let id = self.tables.locations.intern(Location {
             mapping: place.mapping,
             address: place.address,
-            function: function.id,
+            lines: lines.id,
         })?;
         Ok(NewLocation {
             id,
-            is_fixed: function.is_fixed,
+            is_fixed: lines.is_fixed,
         })
     }
 

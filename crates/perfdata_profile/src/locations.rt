@@ -3,8 +3,8 @@
 ghost use Rattle.std.specs.Prelude.{◌≡◌, [], length, slice_get, IfOk, OnErr};
 ghost use Rattle.perfdata_profile.specs.Interning.{Interns, IsOnce};
 
+use crate::lines::LinesId;
 use crate::mappings::MappingId;
-use crate::names::NameId;
 use indexmap::IndexSet;
 use std::alloc::{AllocError, Global};
 
@@ -21,8 +21,9 @@ pub struct Location {
     /// The address at which the frame is looked up: that of an instruction, or a return address less one.
     /// With [`Detail::Functions`](crate::options::Detail) it is 0.
     pub address: u64,
-    /// The name of the function.
-    pub function: NameId,
+    /// The functions at the address: that of the frame is the last one, and the others are inlined into the
+    /// next one.
+    pub lines: LinesId,
 }
 
 /// Locations, each once. Their ids count from 0 in the order in which they were interned.

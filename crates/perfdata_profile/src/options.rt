@@ -7,9 +7,9 @@ use perfdata_events::sample_id::Task;
 /// What the locations of a profile have.
 #[derive(Clone, Copy, Debug, PartialEq, Eq)]
 pub enum Detail {
-    /// A function alone: no mapping, and the address 0.
+    /// Functions alone: no mapping, and the address 0.
     Functions,
-    /// The mapping and the address, and the function.
+    /// The mapping, the address and the functions.
     Locations,
 }
 

@@ -1,15 +1,16 @@
-//! The frames of samples, and the names of threads, frames and files.
+//! The frames of samples, and the names of threads, functions and files.
 
 ghost use Rattle.std.specs.Prelude.{◌≡◌, ℕ, Bool, List, OnOk, IfOk, slice_get};
 ghost use Rattle.perfdata_profile.specs.Interning.{Grows};
 ghost use Rattle.perfdata_profile.specs.Names.{names_of};
-ghost use Rattle.perfdata_profile.specs.Resolving.{AreFileIds, IsFunctionId, IsIdOf, Meaning};
+ghost use Rattle.perfdata_profile.specs.Resolving.{AreFileIds, AreFrameLines, IsIdOf, Meaning};
 ghost use Rattle.perfdata_profile.specs.Resolving.{frame_value, thread_value};
 ghost use Rattle.perfdata_profile.specs.Samples.{frames_in};
 ghost use Rattle.perfdata_spaces.specs.AddressSpaces.{Follows};
 ghost use Rattle.perfdata_spaces.specs.Effects.{Applied};
 ghost use Rattle.perfdata_spaces.specs.Mappings.{mapping_value};
 
+use crate::lines::Line;
 use crate::names::{NameId, Names};
 use perfdata_events::event::EventRecord;
 use perfdata_events::sample::SampleRecord;
@@ -34,17 +35,6 @@ pub struct ResolvedFrame<'a> {
     pub mapping: Option<&'a Mapping>,
 }
 
-/// The name of a frame.
-#[derive(Clone, Copy, Debug, PartialEq, Eq)]
-pub struct FunctionName {
-    /// The id of the name.
-    pub id: NameId,
-    /// Whether each frame that is looked up at this address of this mapping has this name: in each sample,
-    /// of whatever time. Then the resolver isn't asked again. A frame without a mapping is asked for each
-    /// time.
-    pub is_fixed: bool,
-}
-
 /// The path and the build id of a file.
 #[derive(Clone, Copy, Debug, PartialEq, Eq)]
 pub struct FileNames {
@@ -54,7 +44,7 @@ pub struct FileNames {
     pub build_id: NameId,
 }
 
-/// What says which frames samples have, and names threads, frames and files.
+/// What says which frames samples have, and names threads, functions and files.
 pub trait Resolver {
     /// Which frames and names it may give.
     ghost meaning: { Meaning };
@@ -96,17 +86,21 @@ pub trait Resolver {
         ensures named { IfOk result (λ id.
             IsIdOf (meaning.names_thread (thread_value task comm.entry)) (names_of names.new) id) };
 
-    /// Returns the id of the name of a frame.
+    /// Sets `lines` to the functions of a frame, the innermost first: its own is the last one, and the others
+    /// are inlined into the next one. Returns whether each frame that is looked up at this address of this
+    /// mapping has these lines: in each sample, of whatever time. Then the resolver isn't asked again. A
+    /// frame without a mapping is asked for each time.
     ///
     /// Fails if memory runs out.
-    fn function(
+    fn frame_lines(
         &mut self,
         frame: &ResolvedFrame<'_>,
         names: &mut Names,
-    ) -> Result<FunctionName, AllocError>
+        lines: &mut Vec<Line>,
+    ) -> Result<bool, AllocError>
         ensures grows { Grows (names_of names.old) (names_of names.new) }
-        ensures named { IfOk result (λ name.
-            IsFunctionId meaning.names_frame (frame_value frame.now) (names_of names.new) name) };
+        ensures lines { IfOk result (λ is_fixed. AreFrameLines meaning.has_lines (frame_value frame.now)
+            (names_of names.new) lines.new.items is_fixed) };
 
     /// Returns the ids of the path and of the build id of a mapped file. It is asked with
     /// [`Detail::Locations`](crate::options::Detail) alone.

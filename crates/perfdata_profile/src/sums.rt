@@ -60,6 +60,7 @@ pub struct SampleSums {
     total: Sums,
     ghost samples_summed: { total.samples ≡ sum_by entry_samples entries.entries },
     ghost weights_summed: { total.weight ≡ sum_by entry_weight entries.entries },
+    ghost fits: { (total.samples < 2 ^ 63) × (total.weight < 2 ^ 63) },
 }
 
 // The number from which on no sum is counted.
@@ -102,8 +103,9 @@ impl Sums {
 
     // Returns these sums with others added, if both numbers are below 2^63.
     fn checked_sum(self, more: Sums) -> Option<Sums>
-        ensures { IfSome result (λ total. (total.samples ≡ self.samples + more.samples)
+        ensures some { IfSome result (λ total. (total.samples ≡ self.samples + more.samples)
             × (total.weight ≡ self.weight + more.weight)) }
+        ensures fits { IfSome result (λ sums. (sums.samples < 2 ^ 63) × (sums.weight < 2 ^ 63)) }
     {
         let samples = checked_sum(self.samples, more.samples)?;
         let weight = checked_sum(self.weight, more.weight)?;

@@ -3,6 +3,7 @@
 use crate::name_texts::push_mapped_path;
 use crate::options::FormatData;
 use crate::resolver::{FrameResolver, SourceName, UNKNOWN};
+use crate::source_lines::{SourceLine, SourceLines};
 use crate::unwinding::CopiedChain;
 use code_unwind::{ChainEnd, FrameOrigin};
 use perfdata_events::call_chain::CallContext;
@@ -137,12 +138,43 @@ impl FrameListing {
         writeln!(lines, " {}", end.name())
     }
 
-    // Adds the line of a frame.
-    fn push_frame(&mut self, frame: &ResolvedFrame<'_>, listed: ListedName<'_>) -> io::Result<()> {
+    // Adds the line of a function that is inlined at the address of a frame.
+    fn push_inlined(&mut self, address: u64, line: &SourceLine<'_>) -> io::Result<()> {
+        let lines = &mut self.lines;
+        write!(lines, "\t{address:x} ")?;
+        lines.extend_from_slice(line.name)?;
+        line.push_whole(lines)?;
+        lines.extend_from_slice(b" inlined\n")?;
+        Ok(())
+    }
+
+    // Adds the lines of a frame: of the functions that are inlined at its address, and its own.
+    fn push_frames(
+        &mut self,
+        frame: &ResolvedFrame<'_>,
+        listed: ListedName<'_>,
+        functions: &SourceLines,
+    ) -> io::Result<()> {
+        let count = functions.inlined_count();
+        for index in 0..count {
+            self.push_inlined(frame.frame.frame.address, &functions.get(index))?;
+        }
+        self.push_frame(frame, listed, &functions.get(count))
+    }
+
+    // Adds the line of a frame, whose function has a source line.
+    fn push_frame(
+        &mut self,
+        frame: &ResolvedFrame<'_>,
+        listed: ListedName<'_>,
+        line: &SourceLine<'_>,
+    ) -> io::Result<()> {
         let lines = &mut self.lines;
         let own = frame.frame.frame;
         write!(lines, "\t{:x} ", own.address)?;
-        if listed.is_symbol {
+        if !line.name.is_empty() {
+            lines.extend_from_slice(line.name)?;
+        } else if listed.is_symbol {
             lines.extend_from_slice(listed.name)?;
         } else {
             lines.extend_from_slice(UNKNOWN)?;
@@ -155,7 +187,10 @@ impl FrameListing {
             Some(mapping) => push_mapped_path(lines, mapping)?,
             None => lines.extend_from_slice(UNKNOWN)?,
         }
-        writeln!(lines, ") {}", origin_letter(own.context, listed.origin))
+        write!(lines, ") {}", origin_letter(own.context, listed.origin))?;
+        line.push_whole(lines)?;
+        lines.push(b'\n')?;
+        Ok(())
     }
 }
 
@@ -185,8 +220,10 @@ impl FrameResolver<'_> {
             index,
             mapping: index.and_then(|index| spaces.mapping(index)),
         };
-        let name = self.find(&frame)?;
+        let found = self.find_name(&frame)?;
+        let name = found.name;
         self.write_name(name, &frame)?;
+        self.read_source(found, &frame)?;
         let offset = self.listed_offset(name, &frame);
         let FormatData::Listing(listing) = &mut self.data else {
             return Ok(());
@@ -197,7 +234,9 @@ impl FrameResolver<'_> {
             offset,
             origin,
         };
-        listing.push_frame(&frame, listed).map_err(|_| AllocError)
+        listing
+            .push_frames(&frame, listed, &self.source_lines)
+            .map_err(|_| AllocError)
     }
 
     // Lists a sample and its frames, and an empty line.

@@ -11,11 +11,12 @@ mod recorded_ids;
 pub mod resolver;
 mod return_addresses;
 pub mod script_listing;
+mod source_lines;
 pub mod unwinding;
 
 pub use chain_shape::ChainShapes;
 pub use frame_listing::FrameListing;
-pub use options::{FormatData, NameKind, ResolverOptions};
+pub use options::{FormatData, NameKind, ResolverOptions, SourceOptions};
 pub use resolver::FrameResolver;
 pub use script_listing::ScriptListing;
 pub use unwinding::EndCounts;

@@ -1,16 +1,18 @@
-//! The frames of samples, and the names of threads, frames and files.
+//! The frames of samples, and the names of threads, functions and files.
 
-ghost use Rattle.std.specs.Prelude.{IfOk, IfSome};
+ghost use Rattle.std.specs.Prelude.{Bool, IfOk, IfSome, OnOk};
 ghost use Rattle.perfdata_profile.specs.Interning.{Grows};
 ghost use Rattle.perfdata_profile.specs.Names.{names_of};
-ghost use Rattle.perfdata_profile.specs.Resolving.{IsIdOf, Meaning};
+ghost use Rattle.perfdata_profile.specs.Resolving.{AreFrameLines, IsIdOf, Meaning, frame_value};
+ghost use Rattle.perfdata_profile.specs.Values.{AreNamedIn, HasNames};
 
 use crate::chain_shape::ChainShapes;
 use crate::function_kinds::add_frame;
 use crate::name_texts::{push_base_name, push_file_name, push_path};
-use crate::options::{FormatData, NameKind, ResolverOptions};
+use crate::options::{FormatData, INLINED_END, NameKind, ResolverOptions};
 use crate::recorded_ids::{add_recorded_id, add_recorded_ids};
 use crate::return_addresses::find_begun;
+use crate::source_lines::{NameReader, SourceLines};
 use crate::unwinding::{EndCounts, Unwinding};
 use code_files::{FileOptions, MappedFiles, PathError, ProblemFile};
 use demangle::{Demangler, Style};
@@ -18,11 +20,10 @@ use linux_perf_data::{Error, PerfFile, RawUserRecord};
 use perfdata_events::event::EventRecord;
 use perfdata_events::sample::SampleRecord;
 use perfdata_events::sample_id::Task;
-use perfdata_names::{MissingKernelSymbols, SymbolId, SymbolName, Symbols};
+use perfdata_names::{MissingKernelSymbols, SymbolId, SymbolName, Symbols, TableId};
+use perfdata_profile::lines::Line;
 use perfdata_profile::names::{NameId, Names};
-use perfdata_profile::resolver::{
-    FileNames, FunctionName, ResolvedFrame, Resolver, resolve_frames,
-};
+use perfdata_profile::resolver::{FileNames, ResolvedFrame, Resolver, resolve_frames};
 use perfdata_spaces::address_spaces::AddressSpaces;
 use perfdata_spaces::mapping::{Mapping, MappingKind};
 use perfdata_stacks::frames::SampleFrame;
@@ -63,13 +64,13 @@ pub(crate) enum SourceName {
 
 // What names a frame.
 #[derive(Clone, Copy)]
-struct FoundName {
-    name: SourceName,
+pub(crate) struct FoundName {
+    pub(crate) name: SourceName,
     /// Whether callers that are looked up at its address have another name than other frames there.
     is_divided: bool,
 }
 
-/// Says which frames samples have, and names threads, frames and files.
+/// Says which frames samples have, and names threads, functions and files.
 #[derive(Drop)]
 pub struct FrameResolver<'a> {
     alloc: Global,
@@ -81,6 +82,8 @@ pub struct FrameResolver<'a> {
     /// The ids of the names of frames.
     ids: HashMap<SourceName, NameId>,
     pub(crate) text: Vec<u8>,
+    /// The functions and source lines of the frame that was looked up last.
+    pub(crate) source_lines: SourceLines,
     /// What unwinds samples, unless an option says that none is unwound.
     pub(crate) unwinding: Option<Unwinding>,
     /// The number of samples so far.
@@ -132,9 +135,13 @@ impl<'a> FrameResolver<'a> {
         data: FormatData,
     ) -> Result<FrameResolver<'a>, PathError<'a>> {
         let alloc = rt.alloc();
+        let mut files = open_files(rt, options)?;
+        if options.source.has_lines && data.names_lines() {
+            files.want_lines();
+        }
         Ok(FrameResolver {
             alloc,
-            files: open_files(rt, options)?,
+            files,
             source: match options.name_kind {
                 NameKind::Symbol => NameSource::Symbols(Symbols::new(rt, options.kernel_list)),
                 NameKind::File => NameSource::Files,
@@ -144,6 +151,7 @@ impl<'a> FrameResolver<'a> {
             style: options.demangling,
             ids: HashMap::new(alloc),
             text: Vec::new(alloc),
+            source_lines: SourceLines::new(alloc, options.source),
             unwinding: if options.unwinds {
                 Some(Unwinding::new(alloc))
             } else {
@@ -200,6 +208,17 @@ impl<'a> FrameResolver<'a> {
     /// Returns the files of mappings that aren't used or not completely.
     pub fn problem_files(&self) -> &[ProblemFile] {
         self.files.problems()
+    }
+
+    /// Returns the number of compilation units whose debugging information is in other files (`.dwo`), which
+    /// aren't read.
+    pub fn split_units(&self) -> u64 {
+        self.files.split_units()
+    }
+
+    /// Returns the number of errors of other compilation units.
+    pub fn unreadable_units(&self) -> u64 {
+        self.files.unreadable_units()
     }
 
     /// Returns what call chains without a copy of the stack look like.
@@ -268,8 +287,50 @@ impl<'a> FrameResolver<'a> {
         Ok(self.find_name(frame)?.name)
     }
 
+    // Returns whether a frame is in the code of a file whose symbols are used. A caller that returns to the
+    // start of a function isn't at the address at which it is looked up.
+    fn is_in_file(&self, found: FoundName, frame: &ResolvedFrame<'_>, index: usize) -> bool {
+        let is_listed = match found.name {
+            SourceName::Symbol(symbol) => !matches!(symbol.table, TableId::File(_)),
+            _ => false,
+        };
+        let has_begun = found.is_divided && frame.frame.is_caller;
+        match self.symbols() {
+            Some(symbols) => !is_listed && !has_begun && symbols.are_of_file(index),
+            None => false,
+        }
+    }
+
+    // Looks up the functions and source lines of a frame whose name was found.
+    pub(crate) fn read_source(
+        &mut self,
+        found: FoundName,
+        frame: &ResolvedFrame<'_>,
+    ) -> Result<(), AllocError> {
+        self.source_lines.clear();
+        if !self.source_lines.options.is_given() {
+            return Ok(());
+        }
+        let (Some(index), Some(mapping)) = (frame.index, frame.mapping) else {
+            return Ok(());
+        };
+        if !self.is_in_file(found, frame, index) {
+            return Ok(());
+        }
+        let address = frame.frame.lookup_address();
+        let Some(frames) = self.files.find_source(index, mapping, address)? else {
+            return Ok(());
+        };
+        let reader = NameReader {
+            demangler: &mut self.demangler,
+            style: self.style,
+        };
+        let has_symbol = matches!(found.name, SourceName::Symbol(_));
+        self.source_lines.read(reader, &frames, !has_symbol)
+    }
+
     // Returns what names a frame, and whether callers at its address have another name.
-    fn find_name(&mut self, frame: &ResolvedFrame<'_>) -> Result<FoundName, AllocError> {
+    pub(crate) fn find_name(&mut self, frame: &ResolvedFrame<'_>) -> Result<FoundName, AllocError> {
         let (mut symbol, mut is_divided) = (None, false);
         match &mut self.source {
             NameSource::Symbols(symbols) => {
@@ -406,6 +467,23 @@ impl<'a> FrameResolver<'a> {
         }
     }
 
+    // Interns the text as the name of a function of a frame. Returns its id.
+    fn intern_text(
+        &mut self,
+        frame: &ResolvedFrame<'_>,
+        names: &mut Names,
+    ) -> Result<NameId, AllocError>
+        ensures grows { Grows (names_of names.old) (names_of names.new) }
+        ensures named { IfOk result (λ id. IsIdOf (λ text. Unit {0}) (names_of names.new) id) }
+    {
+        self.push_file(frame)?;
+        let id = intern(names, self.text.as_slice())?;
+        if let FormatData::Kinds(kinds) = &mut self.data {
+            add_frame(kinds, id, frame)?;
+        }
+        Ok(id)
+    }
+
     // Interns the name of a frame. Returns its id.
     fn intern_name(
         &mut self,
@@ -417,15 +495,186 @@ impl<'a> FrameResolver<'a> {
         ensures named { IfOk result (λ id. IsIdOf (λ text. Unit {0}) (names_of names.new) id) }
     {
         self.write_name(name, frame)?;
-        self.push_file(frame)?;
-        let id = intern(names, self.text.as_slice())?;
+        let id = self.intern_text(frame, names)?;
         if name != SourceName::Address {
             self.ids.insert(name, id)?;
         }
-        if let FormatData::Kinds(kinds) = &mut self.data {
-            add_frame(kinds, id, frame)?;
-        }
         Ok(id)
+    }
+
+    // Returns the id of the name of a frame that nothing else is written to.
+    fn plain_name(
+        &mut self,
+        name: SourceName,
+        frame: &ResolvedFrame<'_>,
+        names: &mut Names,
+    ) -> Result<NameId, AllocError>
+        ensures grows { Grows (names_of names.old) (names_of names.new) }
+        ensures named { IfOk result (λ id. IsIdOf (λ text. Unit {0}) (names_of names.new) id) }
+    {
+        match self.cached_name(name, names) {
+            Some(id) => Ok(id),
+            None => self.intern_name(name, frame, names),
+        }
+    }
+
+    // Returns whether a function, by its index, has its name from debugging information, or has a source line
+    // in its name.
+    fn has_source_name(&self, index: usize) -> bool {
+        let line = self.source_lines.get(index);
+        !line.name.is_empty() || self.data.names_lines() && line.has_file()
+    }
+
+    // Sets the text to the name of a function of a frame, by its index, with its source line if names contain
+    // it. `name` is what names the frame.
+    fn write_source_name(
+        &mut self,
+        index: usize,
+        name: SourceName,
+        frame: &ResolvedFrame<'_>,
+    ) -> Result<(), AllocError> {
+        self.write_name(name, frame)?;
+        let line = self.source_lines.get(index);
+        if !line.name.is_empty() {
+            self.text.clear();
+            self.text.extend_from_slice(line.name)?;
+        }
+        if index < self.source_lines.inlined_count() && matches!(self.data, FormatData::Kinds(_)) {
+            self.text.extend_from_slice(INLINED_END)?;
+        }
+        if self.data.names_lines() {
+            line.push_short(&mut self.text).map_err(|_| AllocError)?;
+        }
+        Ok(())
+    }
+
+    // Returns the id of the name of a function of a frame, by its index. `name` is what names the frame.
+    fn function(
+        &mut self,
+        index: usize,
+        name: SourceName,
+        frame: &ResolvedFrame<'_>,
+        names: &mut Names,
+    ) -> Result<NameId, AllocError>
+        ensures grows { Grows (names_of names.old) (names_of names.new) }
+        ensures named { IfOk result (λ id. IsIdOf (λ text. Unit {0}) (names_of names.new) id) }
+    {
+        if !self.has_source_name(index) {
+            return self.plain_name(name, frame, names);
+        }
+        self.write_source_name(index, name, frame)?;
+        self.intern_text(frame, names)
+    }
+
+    // Adds the source line of a function, by its index, to what is known of the functions with its name, if
+    // the format needs it.
+    fn add_line(&mut self, index: usize, function: NameId) -> Result<(), AllocError> {
+        let FormatData::Kinds(kinds) = &mut self.data else {
+            return Ok(());
+        };
+        let line = self.source_lines.get(index);
+        let is_inlined = index < self.source_lines.inlined_count();
+        kinds.add_line(function, is_inlined, line.path, line.line)
+    }
+
+    // Returns whether lines have files and numbers.
+    fn keeps_lines(&self) -> bool {
+        matches!(self.data, FormatData::Mappings(_))
+    }
+
+    // Returns the id of the path of a function's source file, by the function's index.
+    fn source_file(&self, index: usize, names: &mut Names) -> Result<NameId, AllocError>
+        ensures grows { Grows (names_of names.old) (names_of names.new) }
+        ensures named { IfOk result (λ id. IsIdOf (λ text. Unit {0}) (names_of names.new) id) }
+    {
+        if self.keeps_lines() {
+            intern(names, self.source_lines.get(index).path)
+        } else {
+            intern(names, b"")
+        }
+    }
+
+    // Returns the line of a function, by its index, or 0.
+    fn line_number(&self, index: usize) -> u32 {
+        let line = self.source_lines.get(index);
+        if self.keeps_lines() && line.has_file() {
+            line.line
+        } else {
+            0
+        }
+    }
+
+    // Returns a function of a frame, by its index, with its source line. `name` is what names the frame.
+    fn line(
+        &mut self,
+        index: usize,
+        name: SourceName,
+        frame: &ResolvedFrame<'_>,
+        names: &mut Names,
+    ) -> Result<Line, AllocError>
+        ensures grows { Grows (names_of names.old) (names_of names.new) }
+        ensures named { IfOk result (λ line. HasNames (names_of names.new) line) }
+    {
+        let function = self.function(index, name, frame, names)?;
+        self.add_line(index, function)?;
+        let file = self.source_file(index, names)?;
+        let line = self.line_number(index);
+        Ok(Line {
+            function,
+            file,
+            line,
+        })
+    }
+
+    // Appends the inlined functions of a frame, the innermost first.
+    fn push_inlined(
+        &mut self,
+        name: SourceName,
+        frame: &ResolvedFrame<'_>,
+        names: &mut Names,
+        lines: &mut Vec<Line>,
+    ) -> Result<(), AllocError>
+        ensures grows { Grows (names_of names.old) (names_of names.new) }
+        ensures named { OnOk result (AreNamedIn (names_of names.old) lines.old.items →
+            AreNamedIn (names_of names.new) lines.new.items) }
+    {
+        let count = self.source_lines.inlined_count();
+        'inlined: for index in 0..count {
+            let line = self.line(index, name, frame, names)?;
+            lines.push(line)?;
+        }
+        Ok(())
+    }
+
+    // Finds what names a frame, and looks up its functions and source lines.
+    fn find_frame(&mut self, frame: &ResolvedFrame<'_>) -> Result<FoundName, AllocError> {
+        let found = self.find_name(frame)?;
+        self.shapes.add_frame(frame);
+        self.read_source(found, frame)?;
+        if let Some(index) = frame.index {
+            self.files.add_sample(index, self.samples);
+        }
+        Ok(found)
+    }
+
+    // Sets the lines of a frame whose functions were looked up, the innermost first.
+    fn push_lines(
+        &mut self,
+        name: SourceName,
+        frame: &ResolvedFrame<'_>,
+        names: &mut Names,
+        lines: &mut Vec<Line>,
+    ) -> Result<(), AllocError>
+        ensures grows { Grows (names_of names.old) (names_of names.new) }
+        ensures lines { OnOk result ((is_fixed : Bool) → AreFrameLines (λ value named. Unit {0})
+            (frame_value frame.now) (names_of names.new) lines.new.items is_fixed) }
+    {
+        lines.clear();
+        self.push_inlined(name, frame, names, lines)?;
+        let own = self.source_lines.inlined_count();
+        let line = self.line(own, name, frame, names)?;
+        lines.push(line)?;
+        Ok(())
     }
 }
 
@@ -433,7 +682,7 @@ impl Resolver for FrameResolver<'_> {
     // What files contain is described by no contract.
     ghost meaning = { record {
       names_thread = λ thread name. Unit {0};
-      names_frame = λ frame name. Unit {0};
+      has_lines = λ frame lines. Unit {0};
       names_file = λ mapping path build_id. Unit {0};
       has_frames = λ before misc sample frames. Unit {0};
     } };
@@ -486,22 +735,15 @@ impl Resolver for FrameResolver<'_> {
         intern(names, self.text.as_slice())
     }
 
-    fn function(
+    fn frame_lines(
         &mut self,
         frame: &ResolvedFrame<'_>,
         names: &mut Names,
-    ) -> Result<FunctionName, AllocError> {
-        let FoundName { name, is_divided } = self.find_name(frame)?;
-        self.shapes.add_frame(frame);
-        if let Some(index) = frame.index {
-            self.files.add_sample(index, self.samples);
-        }
-        let is_fixed = !is_divided && self.is_fixed(frame);
-        let id = match self.cached_name(name, names) {
-            Some(id) => id,
-            None => self.intern_name(name, frame, names)?,
-        };
-        Ok(FunctionName { id, is_fixed })
+        lines: &mut Vec<Line>,
+    ) -> Result<bool, AllocError> {
+        let found = self.find_frame(frame)?;
+        self.push_lines(found.name, frame, names, lines)?;
+        Ok(!found.is_divided && self.is_fixed(frame))
     }
 
     fn file(&mut self, mapping: &Mapping, names: &mut Names) -> Result<FileNames, AllocError> {

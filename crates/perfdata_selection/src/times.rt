@@ -140,7 +140,7 @@ pub(crate) fn parse_time_option(
 }
 
 // Returns a part of a length, rounded half up.
-fn part_of(length: u64, part: u64) -> u64 {
+fn rounded_part(length: u64, part: u64) -> u64 {
     let product = u128::from(length).saturating_mul(u128::from(part));
     let rounded = product.saturating_add(u128::from(WHOLE / 2)) / u128::from(WHOLE);
     u64::try_from(rounded).unwrap_or(u64::MAX)
@@ -151,8 +151,12 @@ impl TimePart {
     /// nanosecond doesn't belong to the part, unless it is that of the last sample.
     pub fn times(self, recorded: NumberRange) -> NumberRange {
         let length = recorded.last.saturating_sub(recorded.first);
-        let first = recorded.first.saturating_add(part_of(length, self.start));
-        let end = recorded.first.saturating_add(part_of(length, self.end));
+        let first = recorded
+            .first
+            .saturating_add(rounded_part(length, self.start));
+        let end = recorded
+            .first
+            .saturating_add(rounded_part(length, self.end));
         if end == recorded.last {
             return NumberRange { first, last: end };
         }

@@ -11,21 +11,22 @@ use Rattle.perfdata_profile.specs.Building.{IsProfileOf}
 use Rattle.perfdata_profile.specs.Profiles.{lists_of}
 use Rattle.perfdata_profile.specs.Resolving.{Meaning}
 use Rattle.perfdata_profile.specs.Samples.{Given}
-use Rattle.perfdata_profile.specs.Values.{Lists, LocationValue, SampleValue, name_at}
+use Rattle.perfdata_profile.specs.Values.{Lists, SampleValue, name_at}
 use Rattle.perfdata_profile.specs.declared.options.ProfileOptions.{ProfileOptions}
 use Rattle.perfdata_profile.specs.declared.profile.Profile.{Profile}
 use Rattle.perfdata_views.specs.Boxes.{width_of}
 use Rattle.perfdata_views.specs.Counts.{is_line}
-use Rattle.perfdata_views.specs.CountedSamples.{AreViewsOf, CountsOnce, InBoxes, InLines, InTable, InTree, Views, ViewsCountOnce, any_frame, has_frames, has_function, has_leaf, is_in_node, sample_weight, samples_where}
-use Rattle.perfdata_views.specs.Entries.{Entry, entries_in, weight_of, weight_where}
+use Rattle.perfdata_views.specs.CountedSamples.{AreViewsOf, CountsOnce, InBoxes, InLines, InTable, InTree, Views, ViewsCountOnce, any_name, has_frames, has_function, has_leaf, is_in_node, sample_weight, samples_where}
+use Rattle.perfdata_views.specs.Entries.{Entry, entries_in, stack_names, weight_of, weight_where}
 use Rattle.perfdata_views.specs.FlameBoxes.{AreDrawn, box_of, boxes_of, is_narrow, outermost_box_width}
-use Rattle.perfdata_views.specs.FunctionTables.{IsTableOf, is_in_function, is_leaf, occurs}
+use Rattle.perfdata_views.specs.FunctionTables.{IsTableOf, is_leaf, occurs}
 use Rattle.perfdata_views.specs.Lines.{line_of}
 use Rattle.perfdata_views.specs.declared.flame.boxes.FlameBox.{FlameBox}
 use Rattle.perfdata_views.specs.declared.table.FunctionRow.{FunctionRow}
 use Rattle.perfdata_views.specs.declared.tree.Node.{Node}
 use Rattle.perfdata_views.proofs.Counting.{is_line_symm}
 use Rattle.perfdata_views.proofs.LineSums.{is_own_line}
+use Rattle.perfdata_views.proofs.PprofCounting.{samples_recounted}
 use Rattle.perfdata_views.proofs.Regrouping.{entries_regroup}
 
 -- A sum over pairs, by their first and by their second parts.
@@ -98,10 +99,10 @@ module _ (lists : Lists) (entries : List Entry) (rows : List FunctionRow) (table
   -- An entry with frames has its leaf in one row, and one without in none.
   leaves : (k : ℕ) (entry : Entry) → slice_get entries k ≡ Some entry
       → weight_of entry * count_by (λ (row : FunctionRow). is_leaf_of row entry) rows ≡ cond (has_frames entry.0) (weight_of entry) 0
-  leaves k entry at = by entry.0.stack refl
+  leaves k entry at = by (stack_names entry.0.stack) refl
     where
-      none : (stack : List LocationValue) → stack ≡ [] → (rs : List FunctionRow) → count_by (λ (row : FunctionRow). list_any (is_in_function (name_at lists row.name)) (take 1 stack)) rs ≡ 0
-      none stack is rs = ap (λ (s : List LocationValue). count_by (λ (row : FunctionRow). list_any (is_in_function (name_at lists row.name)) (take 1 s)) rs) is ∙ zeros rs
+      none : (names : List (List ℕ)) → names ≡ [] → (rs : List FunctionRow) → count_by (λ (row : FunctionRow). list_any (is_line (name_at lists row.name)) (take 1 names)) rs ≡ 0
+      none names is rs = ap (λ (ns : List (List ℕ)). count_by (λ (row : FunctionRow). list_any (is_line (name_at lists row.name)) (take 1 ns)) rs) is ∙ zeros rs
         where
           zeros : (rs : List FunctionRow) → count_by (λ (row : FunctionRow). false) rs ≡ 0
           zeros [] = refl
@@ -110,22 +111,22 @@ module _ (lists : Lists) (entries : List Entry) (rows : List FunctionRow) (table
               let whole = sum_by-cons (λ (row : FunctionRow). cond false 1 0) r rs in
               omega (arith, rest, whole)
 
-      one : (location : LocationValue) (stack : List LocationValue) → entry.0.stack ≡ location ∷ stack → count_by (λ (row : FunctionRow). is_leaf_of row entry) rows ≡ 1
-      one location stack is =
-          let found : occurs location.function entry ≡ true = ap (list_any (is_in_function location.function)) is ∙ ap (λ (b : Bool). b || list_any (is_in_function location.function) stack) (is_own_line location.function) in
-          let once = table.once location.function (any_at (occurs location.function) entries k entry at found) in
-          sum_same (λ (row : FunctionRow). cond (is_leaf_of row entry) 1 0) (λ (row : FunctionRow). cond (is_line location.function (name_at lists row.name)) 1 0) rows (λ j row there.
-          ap (λ (b : Bool). cond b 1 0) (ap (λ (s : List LocationValue). list_any (is_in_function (name_at lists row.name)) (take 1 s)) is
-          ∙ or_false (is_line (name_at lists row.name) location.function) ∙ is_line_symm (name_at lists row.name) location.function)) ∙ once
+      one : (name : List ℕ) (names : List (List ℕ)) → stack_names entry.0.stack ≡ name ∷ names → count_by (λ (row : FunctionRow). is_leaf_of row entry) rows ≡ 1
+      one name names is =
+          let found : occurs name entry ≡ true = ap (list_any (is_line name)) is ∙ ap (λ (b : Bool). b || list_any (is_line name) names) (is_own_line name) in
+          let once = table.once name (any_at (occurs name) entries k entry at found) in
+          sum_same (λ (row : FunctionRow). cond (is_leaf_of row entry) 1 0) (λ (row : FunctionRow). cond (is_line name (name_at lists row.name)) 1 0) rows (λ j row there.
+          ap (λ (b : Bool). cond b 1 0) (ap (λ (ns : List (List ℕ)). list_any (is_line (name_at lists row.name)) (take 1 ns)) is
+          ∙ or_false (is_line (name_at lists row.name) name) ∙ is_line_symm (name_at lists row.name) name)) ∙ once
 
-      by : (stack : List LocationValue) → entry.0.stack ≡ stack → weight_of entry * count_by (λ (row : FunctionRow). is_leaf_of row entry) rows ≡ cond (has_frames entry.0) (weight_of entry) 0
+      by : (names : List (List ℕ)) → stack_names entry.0.stack ≡ names → weight_of entry * count_by (λ (row : FunctionRow). is_leaf_of row entry) rows ≡ cond (has_frames entry.0) (weight_of entry) 0
       by [] is =
-          let count = none entry.0.stack is rows in
-          let frames : has_frames entry.0 ≡ false = ap any_frame is in
+          let count = none (stack_names entry.0.stack) is rows in
+          let frames : has_frames entry.0 ≡ false = ap any_name is in
           ap (λ (n : ℕ). weight_of entry * n) count ∙ mul-zero (weight_of entry) ∙ ap (λ (b : Bool). cond b (weight_of entry) 0) (sym frames)
-      by (location ∷ stack) is =
-          let count = one location stack is in
-          let frames : has_frames entry.0 ≡ true = ap any_frame is in
+      by (name ∷ names) is =
+          let count = one name names is in
+          let frames : has_frames entry.0 ≡ true = ap any_name is in
           ap (λ (n : ℕ). weight_of entry * n) count ∙ mul-one (weight_of entry) ∙ ap (λ (b : Bool). cond b (weight_of entry) 0) (sym frames)
 
   own_sum : sum_by (λ (row : FunctionRow). row.own) rows ≡ weight_where (λ (entry : Entry). has_frames entry.0) entries
@@ -193,6 +194,7 @@ module _ (meaning : Meaning) (options : ProfileOptions) (given : List Given) (pr
     table = in_table;
     tree = in_tree;
     boxes = in_boxes;
+    pprof = samples_recounted is.counted (entries_in profile) is.sums views.columns views.pprof are.pprof;
   }
 
 pub views_count_once : (meaning : Meaning) (options : ProfileOptions) → ViewsCountOnce meaning options

@@ -5,10 +5,16 @@ mod CountingSamples
 mod EntryStacks
 mod Growing
 mod LineSums
+mod Naming
 mod Nesting
 mod NodeSums
 mod Numbered
 mod Outermost
+mod PprofConverting
+mod PprofCounting
+mod PprofSamples
+mod PprofTables
+mod PprofTypes
 mod Regrouping
 mod TableRows
 mod Tallying

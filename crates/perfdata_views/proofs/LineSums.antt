@@ -1,7 +1,7 @@
 -- The numbers of lines as sums over entries.
 use Rattle.std.proofs.Common.{◌≡◌, ◌∙◌, ◌+◌, ◌-◌, ◌<◌, ◌≤◌, ap, refl, sym, subst, arith, ℕ, zero, suc, Bool, true, false, cond, List, [], ◌∷◌, ◌++◌, append_assoc, drop, filter, get_or, length, map, Option, None, Some, reverse, slice_get, take, Vec, Global}
 use Rattle.std.proofs.lemmas.Cmp.{nat_list_cmp_total, tied_itself}
-use Rattle.std.proofs.lemmas.List.{append-nil, drop_all, drop_more, get_or-map, length-map, map-append, map_more, reverse-append, take_all}
+use Rattle.std.proofs.lemmas.List.{append-nil, drop_all, drop_more, get_or-map, length-map, map_more, reverse-append, take_all}
 use Rattle.std.proofs.lemmas.List.Concat.{flat_map-append}
 use Rattle.std.proofs.lemmas.List.Sums.{sum_by-cons, sum_by_more_le}
 use Rattle.std.proofs.lemmas.Map.Lookups.{exact_bytes}
@@ -16,15 +16,15 @@ use Rattle.perfdata_profile.proofs.Elements.{some_same}
 use Rattle.perfdata_profile.proofs.Searching.{at_map}
 use Rattle.perfdata_profile.proofs.Valuing.{sum_by_map}
 use Rattle.perfdata_profile.specs.Profiles.{valued_entry}
-use Rattle.perfdata_profile.specs.Values.{Lists, LocationValue, location_at, sample_value}
+use Rattle.perfdata_profile.specs.Values.{Lists, name_at, sample_value}
 use Rattle.perfdata_profile.specs.Sums.{entry_weight}
-use Rattle.perfdata_profile.specs.declared.locations.LocationId.{LocationId}
+use Rattle.perfdata_profile.specs.declared.names.NameId.{NameId}
 use Rattle.perfdata_profile.specs.declared.sums.SampleKey.{SampleKey}
 use Rattle.perfdata_profile.specs.declared.sums.Sums.{Sums}
 use Rattle.perfdata_views.specs.Counts.{Added, Counts, IsAscending, ListsLines, counted_lines, is_line, sum_of, sum_of_counts, weights_of}
 use Rattle.perfdata_views.specs.declared.counts.LineCounts.{LineCounts}
-use Rattle.perfdata_views.specs.Entries.{Entry, functions_of, weight_of, weight_where}
-use Rattle.perfdata_views.specs.Lines.{AreLinesOf, frames_text, line_of, next_name}
+use Rattle.perfdata_views.specs.Entries.{Entry, weight_of, weight_where}
+use Rattle.perfdata_views.specs.Lines.{AreLinesOf, line_of, names_text, next_name}
 use Rattle.perfdata_views.specs.steps.Lines.{added_of}
 
 -- What a number that no entry of a table has stands for.
@@ -32,40 +32,37 @@ pub missing : {A B : Type 0} → (f : A → B) (items : List A) (number : ℕ) (
 missing {A} {B} f items number default none =
     ap (λ (o : Option A). unwrap_or (option_map f o) default) none ∙ ap (λ (o : Option B). unwrap_or o default) (sym (slice_get-map f items number)) ∙ unwrap_or-slice_get (map f items) number default
 
--- One more frame, towards the leaf.
-pub frames_more : (location : LocationValue) (stack : List LocationValue) → frames_text (location ∷ stack) ≡ frames_text stack ++ next_name location.function
-frames_more location stack =
-    let name : LocationValue → List ℕ = λ l. l.function in
-    let turned = reverse-append (location ∷ []) stack in
-    let named = ap (map name) turned ∙ map-append name (reverse stack) (location ∷ []) in
-    ap (flat_map next_name) named ∙ flat_map-append next_name (functions_of stack) (location.function ∷ []) ∙ ap (λ (t : List ℕ). frames_text stack ++ t) (append-nil (next_name location.function))
+-- One more name, towards the leaf.
+pub text_more : (name : List ℕ) (names : List (List ℕ)) → names_text (name ∷ names) ≡ names_text names ++ next_name name
+text_more name names =
+    ap (flat_map next_name) (reverse-append (name ∷ []) names) ∙ flat_map-append next_name (reverse names) (name ∷ []) ∙ ap (λ (t : List ℕ). names_text names ++ t) (append-nil (next_name name))
 
-abbrev located : Lists → List LocationId → List LocationValue
-located lists ids = map (location_at lists) ids
+abbrev named : Lists → List NameId → List (List ℕ)
+named lists ids = map (name_at lists) ids
 
--- The line after one more frame.
-pub line_more : (lists : Lists) (ids : List LocationId) (d : LocationId) (index : ℕ) (before line pushed more : List ℕ) → 0 < index → index ≤ length ids
-    → line ≡ before ++ frames_text (drop index (located lists ids)) → pushed ≡ line ++ 59 ∷ [] → more ≡ pushed ++ (location_at lists (get_or ids (index - 1) d)).function
-    → more ≡ before ++ frames_text (drop (index - 1) (located lists ids))
+-- The line after one more name.
+pub line_more : (lists : Lists) (ids : List NameId) (d : NameId) (index : ℕ) (before line pushed more : List ℕ) → 0 < index → index ≤ length ids
+    → line ≡ before ++ names_text (drop index (named lists ids)) → pushed ≡ line ++ 59 ∷ [] → more ≡ pushed ++ name_at lists (get_or ids (index - 1) d)
+    → more ≡ before ++ names_text (drop (index - 1) (named lists ids))
 line_more lists ids d index before line pushed more positive within line_is pushed_is more_is =
     let place = index - 1 in
     let below : place < length ids = omega arith in
-    let count = length-map ids (location_at lists) in
+    let count = length-map ids (name_at lists) in
     let back : place + 1 ≡ index = omega arith in
-    let location = get_or (located lists ids) place (location_at lists d) in
-    let is : location ≡ location_at lists (get_or ids place d) = get_or-map (location_at lists) ids place d (location_at lists d) below in
-    let dropped : drop place (located lists ids) ≡ location ∷ drop index (located lists ids) = drop_more (located lists ids) place (location_at lists d) (omega (arith, count)) ∙ ap (λ (n : ℕ). location ∷ drop n (located lists ids)) back in
-    let texts : frames_text (drop place (located lists ids)) ≡ frames_text (drop index (located lists ids)) ++ next_name location.function = ap frames_text dropped ∙ frames_more location (drop index (located lists ids)) in
-    let name : List ℕ = (location_at lists (get_or ids place d)).function in
-    let all : more ≡ (before ++ frames_text (drop index (located lists ids))) ++ next_name name =
+    let own = get_or (named lists ids) place (name_at lists d) in
+    let is : own ≡ name_at lists (get_or ids place d) = get_or-map (name_at lists) ids place d (name_at lists d) below in
+    let dropped : drop place (named lists ids) ≡ own ∷ drop index (named lists ids) = drop_more (named lists ids) place (name_at lists d) (omega (arith, count)) ∙ ap (λ (n : ℕ). own ∷ drop n (named lists ids)) back in
+    let texts : names_text (drop place (named lists ids)) ≡ names_text (drop index (named lists ids)) ++ next_name own = ap names_text dropped ∙ text_more own (drop index (named lists ids)) in
+    let name : List ℕ = name_at lists (get_or ids place d) in
+    let all : more ≡ (before ++ names_text (drop index (named lists ids))) ++ next_name name =
     more_is ∙ ap (λ (l : List ℕ). l ++ name) pushed_is ∙ append_assoc line (59 ∷ []) name ∙ ap (λ (l : List ℕ). l ++ next_name name) line_is in
-    all ∙ append_assoc before (frames_text (drop index (located lists ids))) (next_name name)
-    ∙ ap (λ (l : LocationValue). before ++ (frames_text (drop index (located lists ids)) ++ next_name l.function)) (sym is) ∙ ap (λ (t : List ℕ). before ++ t) (sym texts)
+    all ∙ append_assoc before (names_text (drop index (named lists ids))) (next_name name)
+    ∙ ap (λ (n : List ℕ). before ++ (names_text (drop index (named lists ids)) ++ next_name n)) (sym is) ∙ ap (λ (t : List ℕ). before ++ t) (sym texts)
 
-pub line_none : (lists : Lists) (ids : List LocationId) (before : List ℕ) → before ≡ before ++ frames_text (drop (length ids) (located lists ids))
+pub line_none : (lists : Lists) (ids : List NameId) (before : List ℕ) → before ≡ before ++ names_text (drop (length ids) (named lists ids))
 line_none lists ids before =
-    let count = length-map ids (location_at lists) in
-    sym (ap (λ (l : List LocationValue). before ++ frames_text l) (drop_all (length ids) (located lists ids) (omega (arith, count))) ∙ append-nil before)
+    let count = length-map ids (name_at lists) in
+    sym (ap (λ (l : List (List ℕ)). before ++ names_text l) (drop_all (length ids) (named lists ids) (omega (arith, count))) ∙ append-nil before)
 
 -- Lines as they are added.
 equal_from_test : (order : Ordering) → is_eq order ≡ true → order ≡ Equal

@@ -1,7 +1,7 @@
 -- The names of entries as numbers of a table of texts, and as ranks of texts.
 use Rattle.std.proofs.Common.{◌≡◌, ◌∙◌, ◌+◌, ◌-◌, ◌<◌, ◌≤◌, inl, inr, ap, refl, sym, subst, arith, ℕ, List, [], ◌∷◌, ◌++◌, Contains, append_assoc, drop, get_or, length, map, reverse, Some, set, slice_get, take}
 use Rattle.std.proofs.lemmas.Bool.{cases_eq}
-use Rattle.std.proofs.lemmas.List.{append-nil, drop_all, drop_more, get_or-map, get_or-set_other, get_or-set_same, get_or_append_left, get_or_default, length-append, length-map, map-append, map_push, reverse-append, take_all, take_more}
+use Rattle.std.proofs.lemmas.List.{append-nil, drop_all, drop_more, get_or-map, get_or-set_other, get_or-set_same, get_or_append_left, get_or_default, length-append, length-map, map_push, reverse-append, take_all, take_more}
 use Rattle.std.proofs.lemmas.List.Elements.{All-nil, All-push, All-weaker}
 use Rattle.std.proofs.lemmas.List.Sums.{sum_by-cons}
 use Rattle.std.proofs.lemmas.Option.{get_or_from_slice_get, slice_get_within}
@@ -10,11 +10,11 @@ use Rattle.perfdata_profile.proofs.Counting.{related_push}
 use Rattle.perfdata_profile.specs.Interning.{Grows, Interns}
 use Rattle.perfdata_profile.specs.Profiles.{valued_entry}
 use Rattle.perfdata_profile.specs.Samples.{AreRelated}
-use Rattle.perfdata_profile.specs.Values.{Lists, LocationValue, location_at, sample_value}
-use Rattle.perfdata_profile.specs.declared.locations.LocationId.{LocationId}
+use Rattle.perfdata_profile.specs.Values.{Lists, name_at, sample_value}
+use Rattle.perfdata_profile.specs.declared.names.NameId.{NameId}
 use Rattle.perfdata_profile.specs.declared.sums.SampleKey.{SampleKey}
 use Rattle.perfdata_profile.specs.declared.sums.Sums.{Sums}
-use Rattle.perfdata_views.specs.Entries.{Entry, functions_of, weight_of}
+use Rattle.perfdata_views.specs.Entries.{Entry, weight_of}
 use Rattle.perfdata_views.specs.EntryTrees.{AreNumbers, IsRanked, IsRanking, entry_names, text_at}
 use Rattle.perfdata_views.specs.steps.Numbering.{HasNumbers, IsNumbered, IsReranked, ranked_numbers}
 use Rattle.perfdata_views.specs.Trees.{stack_weight}
@@ -59,29 +59,24 @@ numbers_start texts numbers none = subst (HasNumbers texts texts []) (sym none) 
 })
 
 -- The names of one more function, towards the leaf.
-pub functions_more : (location : LocationValue) (stack : List LocationValue) → functions_of (location ∷ stack) ≡ functions_of stack ++ location.function ∷ []
-functions_more location stack =
-    let name : LocationValue → List ℕ = λ l. l.function in
-    ap (map name) (reverse-append (location ∷ []) stack) ∙ map-append name (reverse stack) (location ∷ [])
-
-pub names_more : (lists : Lists) (thread : List ℕ) (ids : List LocationId) (d : LocationId) (index : ℕ) → 0 < index → index ≤ length ids
-    → (thread ∷ functions_of (drop index (map (location_at lists) ids))) ++ (location_at lists (get_or ids (index - 1) d)).function ∷ [] ≡ thread ∷ functions_of (drop (index - 1) (map (location_at lists) ids))
+pub names_more : (lists : Lists) (thread : List ℕ) (ids : List NameId) (d : NameId) (index : ℕ) → 0 < index → index ≤ length ids
+    → (thread ∷ reverse (drop index (map (name_at lists) ids))) ++ name_at lists (get_or ids (index - 1) d) ∷ [] ≡ thread ∷ reverse (drop (index - 1) (map (name_at lists) ids))
 names_more lists thread ids d index positive within =
-    let located : List LocationValue = map (location_at lists) ids in
+    let named : List (List ℕ) = map (name_at lists) ids in
     let place = index - 1 in
     let below : place < length ids = omega arith in
-    let size = length-map ids (location_at lists) in
+    let size = length-map ids (name_at lists) in
     let back : place + 1 ≡ index = omega arith in
-    let location = get_or located place (location_at lists d) in
-    let is : location ≡ location_at lists (get_or ids place d) = get_or-map (location_at lists) ids place d (location_at lists d) below in
-    let dropped : drop place located ≡ location ∷ drop index located = drop_more located place (location_at lists d) (omega (arith, size)) ∙ ap (λ (n : ℕ). location ∷ drop n located) back in
-    let names : functions_of (drop place located) ≡ functions_of (drop index located) ++ location.function ∷ [] = ap functions_of dropped ∙ functions_more location (drop index located) in
-    sym (ap (λ (ns : List (List ℕ)). thread ∷ ns) (names ∙ ap (λ (l : LocationValue). functions_of (drop index located) ++ l.function ∷ []) is))
+    let own = get_or named place (name_at lists d) in
+    let is : own ≡ name_at lists (get_or ids place d) = get_or-map (name_at lists) ids place d (name_at lists d) below in
+    let dropped : drop place named ≡ own ∷ drop index named = drop_more named place (name_at lists d) (omega (arith, size)) ∙ ap (λ (n : ℕ). own ∷ drop n named) back in
+    let names : reverse (drop place named) ≡ reverse (drop index named) ++ own ∷ [] = ap reverse dropped ∙ reverse-append (own ∷ []) (drop index named) in
+    sym (ap (λ (ns : List (List ℕ)). thread ∷ ns) (names ∙ ap (λ (n : List ℕ). reverse (drop index named) ++ n ∷ []) is))
 
-pub names_none : (lists : Lists) (thread : List ℕ) (ids : List LocationId) → thread ∷ [] ≡ thread ∷ functions_of (drop (length ids) (map (location_at lists) ids))
+pub names_none : (lists : Lists) (thread : List ℕ) (ids : List NameId) → thread ∷ [] ≡ thread ∷ reverse (drop (length ids) (map (name_at lists) ids))
 names_none lists thread ids =
-    let size = length-map ids (location_at lists) in
-    ap (λ (l : List LocationValue). thread ∷ functions_of l) (sym (drop_all (length ids) (map (location_at lists) ids) (omega (arith, size))))
+    let size = length-map ids (name_at lists) in
+    ap (λ (l : List (List ℕ)). thread ∷ reverse l) (sym (drop_all (length ids) (map (name_at lists) ids) (omega (arith, size))))
 
 stacks_kept : (texts new : List (List ℕ)) → Grows texts new → (entries : List Entry) (stacks : List RankedStack) → AreRelated (IsNumbered texts) entries stacks → AreRelated (IsNumbered new) entries stacks
 stacks_kept texts new grows [] [] are = are

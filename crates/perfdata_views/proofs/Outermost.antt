@@ -1,5 +1,5 @@
 -- The outermost nodes of a tree.
-use Rattle.std.proofs.Common.{◌≡◌, ◌∙◌, ◌+◌, ◌-◌, ◌<◌, ◌≤◌, ◌==◌, ◌⊎◌, inl, inr, ap, refl, sym, subst, arith, ℕ, zero, suc, Bool, true, false, cond, true≢false, All, AllPairs, Contains, List, [], ◌∷◌, get_or, length}
+use Rattle.std.proofs.Common.{◌≡◌, ◌∙◌, ◌+◌, ◌<◌, ◌≤◌, ◌==◌, ◌⊎◌, inl, inr, ap, refl, sym, subst, arith, ℕ, zero, suc, Bool, true, false, cond, true≢false, All, AllPairs, Contains, List, [], ◌∷◌, get_or, length}
 use Rattle.std.proofs.lemmas.Bool.{cases_lt, eq-eqb, eqb-true}
 use Rattle.std.proofs.lemmas.List.{length-map}
 use Rattle.std.proofs.lemmas.List.Elements.{All-head, All-tail}

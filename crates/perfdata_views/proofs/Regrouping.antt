@@ -5,7 +5,7 @@ use Rattle.std.proofs.lemmas.List.Sums.{sum_by-cons}
 use Rattle.std.proofs.lemmas.Option.{some_pair_parts}
 use Rattle.perfdata_profile.proofs.Searching.{at_map, map_at}
 use Rattle.perfdata_profile.proofs.Valuing.{sum_by_map}
-use Rattle.perfdata_profile.specs.Tallies.{Counted, IsSumOf, IsUnder, Tallies, weight_of}
+use Rattle.perfdata_profile.specs.Tallies.{Counted, IsSumOf, IsUnder, Tallies, one_sample, weight_of}
 use Rattle.perfdata_profile.specs.declared.sums.Sums.{Sums}
 
 module _ {K : Type 0} (test : K → Bool) where
@@ -165,3 +165,35 @@ module _ {K : Type 0} (test : K → Bool) where
             let s = map_at weighed entries second (one.key, also.0) also.1 in
             tallies.once first second one.key f.0.1 s.0.1 (f.1 ∙ ap (λ (k : K). Some (k, f.0.1)) (ap (λ (p : K × ℕ). p.0) f.2)) (s.1 ∙ ap (λ (k : K). Some (k, s.0.1)) (ap (λ (p : K × ℕ). p.0) s.2))),
       ))
+
+  abbrev sampled : K × Sums → K × ℕ
+  sampled entry = (entry.0, entry.1.samples)
+
+  -- The same with a weight of 1.
+  abbrev unit : Counted K → Counted K
+  unit one = record { key = one.key; weight = 1 }
+
+  unit_sums : (key : K) (counted : List (Counted K)) (sum : ℕ) → IsSumOf (IsUnder key) one_sample counted sum → IsSumOf (IsUnder key) weight_of (map unit counted) sum
+  unit_sums key [] sum is = is
+  unit_sums key (c ∷ cs) sum is = (is.0, unit_sums key cs is.0 is.1, is.2)
+
+  -- The same of the numbers of samples.
+  pub samples_regroup : (counted : List (Counted K)) (entries : List (K × Sums)) → Tallies counted entries → sum_by (λ (entry : K × Sums). cond (test entry.0) entry.1.samples 0) entries ≡ sum_by (λ (one : Counted K). cond (test one.key) (one_sample one) 0) counted
+  samples_regroup counted entries tallies =
+      sym (sum_by_map sampled (λ (entry : K × Sums). cond (test entry.0) entry.1.samples 0) entry_part entries (λ e. refl))
+      ∙ regroup (map unit counted) (map sampled entries)
+      (λ index key sum at.
+      let e = map_at sampled entries index (key, sum) at in
+      let parts : (e.0.0 ≡ key) × (e.0.1.samples ≡ sum) = (ap (λ (p : K × ℕ). p.0) e.2, ap (λ (p : K × ℕ). p.1) e.2) in
+      unit_sums key counted sum (subst (IsSumOf (IsUnder key) one_sample counted) parts.1 (tallies.samples index key e.0.1 (e.1 ∙ ap (λ (k : K). Some (k, e.0.1)) parts.0))))
+      (λ index one at.
+      let c = map_at unit counted index one at in
+      let key : c.0.key ≡ one.key = ap (λ (o : Counted K). o.key) c.2 in
+      let there = tallies.all index c.0 c.1 in (
+        (there.0, (there.1.samples, at_map sampled entries there.0 (one.key, there.1) (there.2 ∙ ap (λ (k : K). Some (k, there.1)) key))),
+        (λ first second found also.
+            let f = map_at sampled entries first (one.key, found.0) found.1 in
+            let s = map_at sampled entries second (one.key, also.0) also.1 in
+            tallies.once first second one.key f.0.1 s.0.1 (f.1 ∙ ap (λ (k : K). Some (k, f.0.1)) (ap (λ (p : K × ℕ). p.0) f.2)) (s.1 ∙ ap (λ (k : K). Some (k, s.0.1)) (ap (λ (p : K × ℕ). p.0) s.2))),
+      ))
+      ∙ sum_by_map unit (λ (one : Counted K). cond (test one.key) (one_sample one) 0) counted_part counted (λ c. refl)

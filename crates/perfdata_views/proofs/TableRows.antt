@@ -9,19 +9,22 @@ use Rattle.perfdata_profile.proofs.Valuing.{entry_at, value_is}
 use Rattle.perfdata_profile.specs.Interning.{IsOnce}
 use Rattle.perfdata_profile.specs.Profiles.{valued_entry}
 use Rattle.perfdata_profile.specs.Interned.{stack_number}
-use Rattle.perfdata_profile.specs.Values.{AreLocations, AreWithin, Lists, location_at, name_at, stack_at}
-use Rattle.perfdata_profile.specs.declared.locations.LocationId.{LocationId}
+use Rattle.perfdata_profile.specs.Values.{AreWithin, Lists, location_at, name_at, stack_at}
+use Rattle.perfdata_profile.specs.Names.{number_of}
+use Rattle.perfdata_profile.specs.declared.names.NameId.{NameId}
 use Rattle.perfdata_profile.specs.declared.stacks.StackId.{StackId}
 use Rattle.perfdata_profile.specs.declared.sums.SampleKey.{SampleKey}
 use Rattle.perfdata_profile.specs.declared.sums.Sums.{Sums}
 use Rattle.perfdata_views.specs.Counts.{is_line}
-use Rattle.perfdata_views.specs.Entries.{Entry}
-use Rattle.perfdata_views.specs.FunctionTables.{IsRowOf, IsTableOf, is_in_function, occurs}
-use Rattle.perfdata_views.specs.steps.FunctionTables.{AreTallies, no_tally, number_at, row_of, rows_of, used_row}
+use Rattle.perfdata_views.specs.Entries.{Entry, stack_names}
+use Rattle.perfdata_views.specs.FunctionTables.{IsRowOf, IsTableOf, occurs}
+use Rattle.perfdata_views.specs.steps.Entries.{AreNames, stack_functions}
+use Rattle.perfdata_views.specs.steps.FunctionTables.{AreTallies, no_tally, row_of, rows_of, used_row}
 use Rattle.perfdata_views.specs.declared.table.FunctionRow.{FunctionRow}
 use Rattle.perfdata_views.specs.declared.table.Tally.{Tally}
 use Rattle.perfdata_views.proofs.LineSums.{same_line}
-use Rattle.perfdata_views.proofs.Tallying.{not_equal, number_is, number_test, same_tests}
+use Rattle.perfdata_views.proofs.Naming.{stack_named, stack_same}
+use Rattle.perfdata_views.proofs.Tallying.{not_equal, number_test, same_tests}
 
 abbrev tally_at : List Tally → ℕ → Tally
 tally_at tallies j = get_or tallies j no_tally
@@ -79,30 +82,28 @@ or_cases true b is = inl refl
 or_cases false b is = inr is
 
 module _ (lists : Lists) (once : IsOnce lists.names) (within : AreWithin lists) where
-  -- The locations of a stack.
-  pub stack_ids : (id : StackId) → ((ids : List LocationId) × AreLocations lists ids × (map (location_at lists) ids ≡ stack_at lists id))
+  -- The functions of a stack.
+  pub stack_ids : (id : StackId) → ((ids : List NameId) × AreNames lists ids × (map (name_at lists) ids ≡ stack_names (stack_at lists id)))
   stack_ids id = elim (cases_lt (stack_number id) (length lists.stacks)) [
     | inl inside ↦
         let there = entry_at lists.stacks (stack_number id) inside in
-        (there.0, within.stacks (stack_number id) there.0 there.1, sym (value_is (map (location_at lists)) lists.stacks [] (stack_number id) there.0 there.1))
+        (stack_functions lists there.0, stack_named lists within there.0, stack_same lists there.0 ∙ ap stack_names (sym (value_is (map (location_at lists)) lists.stacks [] (stack_number id) there.0 there.1)))
     | inr past ↦
         let count = length-map lists.stacks (map (location_at lists)) in
-        ([], (λ index other at. absurd (no_element index other at)), sym (get_or_past (map (map (location_at lists)) lists.stacks) (stack_number id) [] (omega (arith, count))))
+        ([], (λ index other at. absurd (no_element index other at)), sym (ap stack_names (get_or_past (map (map (location_at lists)) lists.stacks) (stack_number id) [] (omega (arith, count)))))
   ]
     where
-      no_element : (index : ℕ) (other : LocationId) → slice_get [] index ≡ Some other → ⊥
+      no_element : (index : ℕ) (other : NameId) → slice_get [] index ≡ Some other → ⊥
       no_element index other at = cc
 
   IsNamed : List ℕ → Type 0
   IsNamed name = ((number : ℕ) × (number < length lists.names) × (get_or lists.names number [] ≡ name))
 
-  name_in : (name : List ℕ) (ids : List LocationId) → AreLocations lists ids → list_any (is_in_function name) (map (location_at lists) ids) ≡ true → IsNamed name
+  name_in : (name : List ℕ) (ids : List NameId) → AreNames lists ids → list_any (is_line name) (map (name_at lists) ids) ≡ true → IsNamed name
   unfolding IsNamed
   name_in name [] are is = absurd (true≢false (sym is))
-  name_in name (id ∷ ids) are is = elim (or_cases (is_in_function name (location_at lists id)) (list_any (is_in_function name) (map (location_at lists) ids)) is) [
-    | inl here ↦
-        let number = number_is lists once within id (are 0 id refl) in
-        (number_at lists id, number.0, sym number.1 ∙ sym (same_line name (location_at lists id).function here))
+  name_in name (id ∷ ids) are is = elim (or_cases (is_line name (name_at lists id)) (list_any (is_line name) (map (name_at lists) ids)) is) [
+    | inl here ↦ (number_of id, are 0 id refl, sym (same_line name (name_at lists id) here))
     | inr later ↦ name_in name ids (λ index other at. are (suc index) other at) later
   ]
 
@@ -112,7 +113,7 @@ module _ (lists : Lists) (once : IsOnce lists.names) (within : AreWithin lists) 
   named name (k ∷ ks) is = elim (or_cases (occurs name (valued_entry lists k)) (list_any (occurs name) (map (valued_entry lists) ks)) is) [
     | inl here ↦
         let ids = stack_ids k.0.stack in
-        name_in name ids.0 ids.1 (ap (list_any (is_in_function name)) ids.2 ∙ here)
+        name_in name ids.0 ids.1 (ap (list_any (is_line name)) ids.2 ∙ here)
     | inr later ↦ named name ks later
   ]
 

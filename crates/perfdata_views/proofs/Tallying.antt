@@ -6,20 +6,19 @@ use Rattle.std.proofs.lemmas.List.Folds.{list_any-append}
 use Rattle.std.proofs.lemmas.List.Sums.{sum_by-le-sum_by, sum_by_more_le, sum_by_push}
 use Rattle.std.proofs.lemmas.Option.{slice_get-get_or}
 use Rattle.std.specs.List.{list_any, sum_by}
-use Rattle.perfdata_profile.proofs.Valuing.{entry_at, value_is}
 use Rattle.perfdata_profile.specs.Interning.{IsOnce}
 use Rattle.perfdata_profile.specs.Names.{number_of}
-use Rattle.perfdata_profile.specs.Interned.{location_number}
-use Rattle.perfdata_profile.specs.Values.{AreLocations, AreWithin, IsLocation, Lists, LocationValue, location_at, location_value, no_location, stack_at}
-use Rattle.perfdata_profile.specs.declared.locations.LocationId.{LocationId}
+use Rattle.perfdata_profile.specs.Values.{IsName, Lists, name_at, stack_at}
+use Rattle.perfdata_profile.specs.declared.names.NameId.{NameId}
 use Rattle.perfdata_profile.specs.Profiles.{valued_entry}
 use Rattle.perfdata_profile.specs.Sums.{entry_weight}
 use Rattle.perfdata_profile.specs.declared.sums.SampleKey.{SampleKey}
 use Rattle.perfdata_profile.specs.declared.sums.Sums.{Sums}
 use Rattle.perfdata_views.specs.Counts.{is_line}
-use Rattle.perfdata_views.specs.Entries.{Entry, weight_of, weight_where}
-use Rattle.perfdata_views.specs.FunctionTables.{is_in_function, is_leaf, occurs}
-use Rattle.perfdata_views.specs.steps.FunctionTables.{AreTallies, CountsEntry, IsTallyOf, Sees, no_tally, number_at, number_in, seen, tally_after, with_own}
+use Rattle.perfdata_views.specs.Entries.{Entry, stack_names, weight_of, weight_where}
+use Rattle.perfdata_views.specs.FunctionTables.{is_leaf, occurs}
+use Rattle.perfdata_views.specs.steps.Entries.{AreNames}
+use Rattle.perfdata_views.specs.steps.FunctionTables.{AreTallies, CountsEntry, IsTallyOf, Sees, no_tally, seen, tally_after, with_own}
 use Rattle.perfdata_views.specs.declared.table.Tally.{Tally}
 use Rattle.perfdata_views.proofs.LineSums.{inside, is_own_line, same_line, value_at, valued_weights}
 
@@ -49,31 +48,20 @@ number_test names once number other within also = same_tests (other == number) (
     let same = same_line (get_or names number []) (get_or names other []) is in
     eq-eqb other number (once other number (get_or names other []) (slice_get-get_or names other [] also) (slice_get-get_or names number [] within ∙ ap (λ (n : List ℕ). Some n) same)))
 
-module _ (lists : Lists) (once : IsOnce lists.names) (within : AreWithin lists) where
-  -- The number of the name of a location's function.
-  pub number_is : (id : LocationId) → IsLocation lists id → (number_at lists id < length lists.names) × ((location_at lists id).function ≡ get_or lists.names (number_at lists id) [])
-  number_is id is =
-      let there = entry_at lists.locations (location_number id) is in
-      let number : number_at lists id ≡ number_of there.0.function = ap number_in there.1 in
-      let inside : number_of there.0.function < length lists.names = (within.locations (location_number id) there.0 there.1).0 in
-      let function : (location_at lists id).function ≡ get_or lists.names (number_of there.0.function) [] = ap (λ (l : LocationValue). l.function) (value_is (location_value lists) lists.locations no_location (location_number id) there.0 there.1) in
-      (omega (arith, number), function ∙ ap (λ (n : ℕ). get_or lists.names n []) (sym number))
+module _ (lists : Lists) (once : IsOnce lists.names) where
+  one_same : (number : ℕ) → number < length lists.names → (id : NameId) → IsName lists id → (number_of id == number) ≡ is_line (get_or lists.names number []) (name_at lists id)
+  one_same number inside id is = number_test lists.names once number (number_of id) inside is
 
-  one_same : (number : ℕ) → number < length lists.names → (id : LocationId) → IsLocation lists id → (number_at lists id == number) ≡ is_in_function (get_or lists.names number []) (location_at lists id)
-  one_same number inside id is =
-      let there = number_is id is in
-      number_test lists.names once number (number_at lists id) inside there.0 ∙ ap (is_line (get_or lists.names number [])) (sym there.1)
-
-  -- Functions of locations by number and by name.
-  pub any_same : (number : ℕ) → number < length lists.names → (ids : List LocationId) → AreLocations lists ids
-      → list_any (λ (m : ℕ). m == number) (map (number_at lists) ids) ≡ list_any (is_in_function (get_or lists.names number [])) (map (location_at lists) ids)
+  -- Functions by number and by name.
+  pub any_same : (number : ℕ) → number < length lists.names → (ids : List NameId) → AreNames lists ids
+      → list_any (λ (m : ℕ). m == number) (map number_of ids) ≡ list_any (is_line (get_or lists.names number [])) (map (name_at lists) ids)
   any_same number below [] are = refl
   any_same number below (id ∷ ids) are =
-      ap (λ (b : Bool). b || list_any (λ (m : ℕ). m == number) (map (number_at lists) ids)) (one_same number below id (are 0 id refl))
-      ∙ ap (λ (b : Bool). is_in_function (get_or lists.names number []) (location_at lists id) || b) (any_same number below ids (λ index other at. are (suc index) other at))
+      ap (λ (b : Bool). b || list_any (λ (m : ℕ). m == number) (map number_of ids)) (one_same number below id (are 0 id refl))
+      ∙ ap (λ (b : Bool). is_line (get_or lists.names number []) (name_at lists id) || b) (any_same number below ids (λ index other at. are (suc index) other at))
 
-  pub first_same : (number : ℕ) → number < length lists.names → (ids : List LocationId) → AreLocations lists ids
-      → list_any (λ (m : ℕ). m == number) (take 1 (map (number_at lists) ids)) ≡ list_any (is_in_function (get_or lists.names number [])) (take 1 (map (location_at lists) ids))
+  pub first_same : (number : ℕ) → number < length lists.names → (ids : List NameId) → AreNames lists ids
+      → list_any (λ (m : ℕ). m == number) (take 1 (map number_of ids)) ≡ list_any (is_line (get_or lists.names number [])) (take 1 (map (name_at lists) ids))
   first_same number below [] are = refl
   first_same number below (id ∷ ids) are = ap (λ (b : Bool). b || false) (one_same number below id (are 0 id refl))
 
@@ -181,16 +169,16 @@ module _ (name : List ℕ) (entries : List Entry) (entry : Entry) (tally : Tally
       }
 
 -- The tallies of all names after one more entry.
-module _ (lists : Lists) (once : IsOnce lists.names) (within : AreWithin lists) (entries : List Entry) (entry : Entry) (ids : List LocationId) (are : AreLocations lists ids) (stack_is : map (location_at lists) ids ≡ entry.0.stack) (fits : sum_by weight_of entries + weight_of entry < 2 ^ 64) where
-  pub tallies_more : (old new : List Tally) → AreTallies lists.names entries old → CountsEntry old (map (number_at lists) ids) (length entries + 1) (weight_of entry) new → AreTallies lists.names (entries ++ entry ∷ []) new
+module _ (lists : Lists) (once : IsOnce lists.names) (entries : List Entry) (entry : Entry) (ids : List NameId) (are : AreNames lists ids) (names_are : map (name_at lists) ids ≡ stack_names entry.0.stack) (fits : sum_by weight_of entries + weight_of entry < 2 ^ 64) where
+  pub tallies_more : (old new : List Tally) → AreTallies lists.names entries old → CountsEntry old (map number_of ids) (length entries + 1) (weight_of entry) new → AreTallies lists.names (entries ++ entry ∷ []) new
   tallies_more old new is counted = record {
     count_is = counted.count_is ∙ is.count_is;
     each = λ number inside.
         let name = get_or lists.names number [] in
-        let leaf = list_any (λ (m : ℕ). m == number) (take 1 (map (number_at lists) ids)) in
-        let occurred = list_any (λ (m : ℕ). m == number) (map (number_at lists) ids) in
-        let leaf_is : leaf ≡ is_leaf name entry = first_same lists once within number inside ids are ∙ ap (λ (s : List LocationValue). list_any (is_in_function name) (take 1 s)) stack_is in
-        let occurred_is : occurred ≡ occurs name entry = any_same lists once within number inside ids are ∙ ap (list_any (is_in_function name)) stack_is in
+        let leaf = list_any (λ (m : ℕ). m == number) (take 1 (map number_of ids)) in
+        let occurred = list_any (λ (m : ℕ). m == number) (map number_of ids) in
+        let leaf_is : leaf ≡ is_leaf name entry = first_same lists once number inside ids are ∙ ap (λ (names : List (List ℕ)). list_any (is_line name) (take 1 names)) names_are in
+        let occurred_is : occurred ≡ occurs name entry = any_same lists once number inside ids are ∙ ap (list_any (is_line name)) names_are in
         let now = counted.each number (omega (arith, is.count_is)) in
         subst (IsTallyOf name (entries ++ entry ∷ [])) (sym now) (tally_more name entries entry (get_or old number no_tally) (is.each number inside) fits leaf occurred leaf_is occurred_is);
   }
@@ -204,13 +192,13 @@ tallies_none names tallies is = record {
 }
 
 -- The tallies of the first entries, and of the next one.
-module _ (lists : Lists) (once : IsOnce lists.names) (within : AreWithin lists) (keys : List (SampleKey × Sums)) (index : ℕ) (key : SampleKey × Sums) (at : slice_get keys index ≡ Some key) (fits : sum_by entry_weight keys < 2 ^ 64) where
+module _ (lists : Lists) (once : IsOnce lists.names) (keys : List (SampleKey × Sums)) (index : ℕ) (key : SampleKey × Sums) (at : slice_get keys index ≡ Some key) (fits : sum_by entry_weight keys < 2 ^ 64) where
   abbrev all : List Entry
   all = map (valued_entry lists) keys
 
-  pub tallies_next : (ids : List LocationId) → AreLocations lists ids → map (location_at lists) ids ≡ stack_at lists key.0.stack → (old new : List Tally) → AreTallies lists.names (take index all) old
-      → CountsEntry old (map (number_at lists) ids) (index + 1) key.1.weight new → AreTallies lists.names (take (index + 1) all) new
-  tallies_next ids are stack_is old new is counted =
+  pub tallies_next : (ids : List NameId) → AreNames lists ids → map (name_at lists) ids ≡ stack_names (stack_at lists key.0.stack) → (old new : List Tally) → AreTallies lists.names (take index all) old
+      → CountsEntry old (map number_of ids) (index + 1) key.1.weight new → AreTallies lists.names (take (index + 1) all) new
+  tallies_next ids are names_are old new is counted =
       let entry : Entry = valued_entry lists key in
       let read : get_or all index entry ≡ entry = value_at lists keys index key at in
       let below : index < length all = inside lists keys index key at in
@@ -219,8 +207,8 @@ module _ (lists : Lists) (once : IsOnce lists.names) (within : AreWithin lists) 
       let whole = valued_weights lists keys in
       let part = sum_by_more_le weight_of all index entry below in
       let last : weight_of (get_or all index entry) ≡ weight_of entry = ap weight_of read in
-      let counted_as : CountsEntry old (map (number_at lists) ids) (length (take index all) + 1) (weight_of entry) new = subst (λ (n : ℕ). CountsEntry old (map (number_at lists) ids) (n + 1) key.1.weight new) (sym count) counted in
-      subst (λ (es : List Entry). AreTallies lists.names es new) (sym next) (tallies_more lists once within (take index all) entry ids are stack_is (omega (arith, part, last, whole)) old new is counted_as)
+      let counted_as : CountsEntry old (map number_of ids) (length (take index all) + 1) (weight_of entry) new = subst (λ (n : ℕ). CountsEntry old (map number_of ids) (n + 1) key.1.weight new) (sym count) counted in
+      subst (λ (es : List Entry). AreTallies lists.names es new) (sym next) (tallies_more lists once (take index all) entry ids are names_are (omega (arith, part, last, whole)) old new is counted_as)
 
 -- The functions that were seen up to an index.
 pub sees_none : (n w : ℕ) (tallies : List Tally) → Sees tallies [] n w tallies

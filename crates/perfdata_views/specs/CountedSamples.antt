@@ -7,21 +7,25 @@ use Rattle.perfdata_profile.specs.Names.{names_of}
 use Rattle.perfdata_profile.specs.Profiles.{lists_of}
 use Rattle.perfdata_profile.specs.Resolving.{Meaning}
 use Rattle.perfdata_profile.specs.Samples.{AreCounted, Given, IsSample, is_selected}
-use Rattle.perfdata_profile.specs.Tallies.{Counted}
-use Rattle.perfdata_profile.specs.Values.{Lists, LocationValue, SampleValue, name_at}
+use Rattle.perfdata_profile.specs.Sums.{entry_samples, entry_weight}
+use Rattle.perfdata_profile.specs.Tallies.{Counted, one_sample, weight_of}
+use Rattle.perfdata_profile.specs.Values.{Lists, SampleValue, name_at}
 use Rattle.perfdata_profile.specs.declared.options.ProfileOptions.{ProfileOptions}
 use Rattle.perfdata_profile.specs.declared.profile.Profile.{Profile}
 use Rattle.perfdata_views.specs.Boxes.{outermost_width}
 use Rattle.perfdata_views.specs.Counts.{is_line}
-use Rattle.perfdata_views.specs.Entries.{entries_in}
+use Rattle.perfdata_views.specs.Entries.{entries_in, entry_key, stack_names}
 use Rattle.perfdata_views.specs.EntryTrees.{IsEntryTree, entry_names, node_names}
 use Rattle.perfdata_views.specs.FlameBoxes.{AreDrawn, box_of, box_width, boxes_of, is_narrow, outermost_box_width, total_of}
-use Rattle.perfdata_views.specs.FunctionTables.{IsTableOf, is_in_function}
+use Rattle.perfdata_views.specs.FunctionTables.{IsTableOf}
 use Rattle.perfdata_views.specs.Lines.{AreLinesOf, Lines, line_of}
+use Rattle.perfdata_views.specs.PprofSamples.{CountsSamples, counted_key}
 use Rattle.perfdata_views.specs.declared.entry_tree.EntryTree.{EntryTree}
 use Rattle.perfdata_views.specs.declared.flame.boxes.DrawnBoxes.{DrawnBoxes}
+use Rattle.perfdata_views.specs.declared.pprof_profile.Column.{Column}
 use Rattle.perfdata_views.specs.declared.table.FunctionRow.{FunctionRow}
 use Rattle.perfdata_views.specs.declared.tree.Node.{Node}
+use Rattle.pprof.specs.Messages.{ProfileValue}
 
 -- The sum of the weights of the samples whose thread, stack and column pass a test.
 abbrev pub samples_where : (SampleValue → Bool) → List (Counted SampleValue) → ℕ
@@ -30,19 +34,19 @@ samples_where test counted = sum_by (λ (one : Counted SampleValue). if test one
 abbrev pub sample_weight : Counted SampleValue → ℕ
 sample_weight one = one.weight
 
--- Whether a function has the leaf of a stack, whether it occurs in it, and whether a stack has frames.
+-- Whether a function has the leaf of a stack, whether it occurs in it, and whether a stack has functions, as each has that has frames.
 abbrev pub has_leaf : List ℕ → SampleValue → Bool
-has_leaf name key = list_any (is_in_function name) (take 1 key.stack)
+has_leaf name key = list_any (is_line name) (take 1 (stack_names key.stack))
 
 abbrev pub has_function : List ℕ → SampleValue → Bool
-has_function name key = list_any (is_in_function name) key.stack
+has_function name key = list_any (is_line name) (stack_names key.stack)
 
-abbrev pub any_frame : List LocationValue → Bool
-any_frame [] = false
-any_frame (location ∷ stack) = true
+abbrev pub any_name : List (List ℕ) → Bool
+any_name [] = false
+any_name (name ∷ names) = true
 
 abbrev pub has_frames : SampleValue → Bool
-has_frames key = any_frame key.stack
+has_frames key = any_name (stack_names key.stack)
 
 -- The names of a node of the tree of a profile, from the root.
 abbrev pub names_in : EntryTree → Node → List (List ℕ)
@@ -90,12 +94,18 @@ module _ (counted : List (Counted SampleValue)) where
     pub sum : sum_by outermost_box_width drawn.boxes.items
         + sum_by outermost_box_width (filter (is_narrow (sum_by sample_weight counted)) (boxes_of tree)) ≡ sum_by sample_weight counted
 
--- What is shown of a profile.
+  -- Each sample of a described column is in one sample for pprof, that of its locations and labels, whose values are the sums of its samples.
+  abbrev pub InPprof : List Column → ProfileValue → Type 0
+  InPprof columns pprof = CountsSamples counted_key one_sample weight_of columns counted pprof
+
+-- What is shown of a profile. The columns are those that the profile for pprof describes.
 pub record Views : Type 0 where
   pub lines : Lines
   pub rows : List FunctionRow
   pub tree : EntryTree
   pub drawn : DrawnBoxes
+  pub columns : List Column
+  pub pprof : ProfileValue
 
 -- The views are those of a profile.
 pub record AreViewsOf (profile : Profile) (views : Views) : Type 0 where
@@ -104,6 +114,7 @@ pub record AreViewsOf (profile : Profile) (views : Views) : Type 0 where
   pub tree : IsEntryTree (names_of views.tree.texts) views.tree.order.items views.tree.tree.stacks.items views.tree.tree.positions.items
       views.tree.tree.nodes.items (entries_in profile)
   pub drawn : AreDrawn (total_of views.tree) (boxes_of views.tree) views.drawn
+  pub pprof : CountsSamples entry_key entry_samples entry_weight views.columns (entries_in profile) views.pprof
 
 module _ (meaning : Meaning) (options : ProfileOptions) where
   -- Each selected sample is counted once in each view, under its own thread and stack.
@@ -115,6 +126,7 @@ module _ (meaning : Meaning) (options : ProfileOptions) where
     pub table : InTable counted (lists_of profile.tables) views.rows
     pub tree : InTree counted views.tree
     pub boxes : InBoxes counted views.tree views.drawn
+    pub pprof : InPprof counted views.columns views.pprof
 
   -- The views of a profile of records count each selected sample of these once.
   abbrev pub ViewsCountOnce : Type 0

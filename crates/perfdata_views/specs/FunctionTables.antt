@@ -1,22 +1,18 @@
 -- The functions of a profile with the weights of their samples.
-use Rattle.std.specs.Prelude.{◌≡◌, ℕ, ◌-◌, true, Bool, All, List, count_by, take}
+use Rattle.std.specs.Prelude.{◌≡◌, ℕ, true, Bool, All, List, count_by, take}
 use Rattle.std.specs.List.{list_any}
-use Rattle.perfdata_profile.specs.Values.{Lists, LocationValue, name_at}
+use Rattle.perfdata_profile.specs.Values.{Lists, name_at}
 use Rattle.perfdata_views.specs.Counts.{is_line}
-use Rattle.perfdata_views.specs.Entries.{Entry, weight_where}
+use Rattle.perfdata_views.specs.Entries.{Entry, stack_names, weight_where}
 use Rattle.perfdata_views.specs.declared.table.FunctionRow.{FunctionRow}
 
--- Whether a location is in a function with a name.
-abbrev pub is_in_function : List ℕ → LocationValue → Bool
-is_in_function name location = is_line name location.function
-
--- Whether the leaf of an entry's stack is in a function.
+-- Whether a function has the leaf of an entry's stack: if functions are inlined there, the innermost.
 abbrev pub is_leaf : List ℕ → Entry → Bool
-is_leaf name entry = list_any (is_in_function name) (take 1 entry.0.stack)
+is_leaf name entry = list_any (is_line name) (take 1 (stack_names entry.0.stack))
 
 -- Whether a function occurs in an entry's stack, once or more often.
 abbrev pub occurs : List ℕ → Entry → Bool
-occurs name entry = list_any (is_in_function name) entry.0.stack
+occurs name entry = list_any (is_line name) (stack_names entry.0.stack)
 
 -- A row has the sums of its function: those of the entries whose leaf is in it, and those of the entries in which it occurs.
 pub record IsRowOf (lists : Lists) (entries : List Entry) (row : FunctionRow) : Type 0 where

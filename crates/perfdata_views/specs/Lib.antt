@@ -7,6 +7,7 @@ pub mod EntryTrees
 pub mod FlameBoxes
 pub mod FunctionTables
 pub mod Lines
+pub mod PprofSamples
 pub mod StackTrees
 pub mod Trees
 pub mod steps

@@ -1,5 +1,5 @@
 -- The folded lines of a profile.
-use Rattle.std.specs.Prelude.{◌≡◌, ℕ, ℤ, List, [], ◌∷◌, ◌++◌, map, Option, None, Some, slice_get, Vec}
+use Rattle.std.specs.Prelude.{◌≡◌, ℕ, ℤ, List, [], ◌∷◌, ◌++◌, map, Option, None, Some, reverse, slice_get, Vec}
 use Rattle.std.specs.declared.alloc.Global.{Global}
 use Rattle.std.specs.Fmt.{signed_decimal}
 use Rattle.std.specs.List.{flat_map, sum_by}
@@ -8,7 +8,7 @@ use Rattle.std.specs.Map.{keys_of}
 use Rattle.perfdata_profile.specs.Values.{LocationValue, SampleValue, ThreadKey}
 use Rattle.perfdata_views.specs.Counts.{is_line, line_cmp}
 use Rattle.perfdata_stacks.specs.Line.{comm_byte}
-use Rattle.perfdata_views.specs.Entries.{Entry, functions_of, weight_of, weight_where}
+use Rattle.perfdata_views.specs.Entries.{Entry, stack_names, weight_of, weight_where}
 
 -- A number after a byte, if there is one.
 abbrev pub id_text : ℕ → Option ℤ → List ℕ
@@ -23,9 +23,13 @@ thread_text thread = map comm_byte thread.name ++ (id_text 45 thread.pid ++ id_t
 abbrev pub next_name : List ℕ → List ℕ
 next_name name = 59 ∷ name
 
+-- Names of which the last one is the first in a line, each after a semicolon.
+abbrev pub names_text : List (List ℕ) → List ℕ
+names_text names = flat_map next_name (reverse names)
+
 -- The names of the functions of a stack, the root's first, each after a semicolon.
 abbrev pub frames_text : List LocationValue → List ℕ
-frames_text stack = flat_map next_name (functions_of stack)
+frames_text stack = names_text (stack_names stack)
 
 -- The line of a thread and a stack: the thread, then the names of the functions.
 abbrev pub line_of : SampleValue → List ℕ

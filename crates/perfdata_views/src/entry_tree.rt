@@ -12,7 +12,7 @@ ghost use Rattle.perfdata_views.specs.EntryTrees.{IsEntryTree, IsRanking, entry_
 ghost use Rattle.perfdata_views.specs.Lines.{thread_text};
 ghost use Rattle.perfdata_views.specs.steps.Numbering.{HasNumbers, IsNumbered, IsReranked, ranked_numbers};
 
-use crate::entries::{find_entry, find_function, find_stack};
+use crate::entries::{find_entry, find_functions, find_name};
 use crate::lines::push_thread;
 use crate::tree::{RankedStack, StackTree, tree};
 use perfdata_profile::interned::Interned;
@@ -80,9 +80,10 @@ fn numbers(
 {
     let mut numbers = Vec::new(alloc);
     push_thread_text(alloc, &mut numbers, texts, tables, key.thread)?;
-    let stack = find_stack(tables, key.stack);
-    'frames: for index in (0..stack.len()).rev() {
-        push_text(&mut numbers, texts, find_function(tables, stack[index]))?;
+    let names = find_functions(alloc, tables, key.stack)?;
+    let functions = names.as_slice();
+    'frames: for index in (0..functions.len()).rev() {
+        push_text(&mut numbers, texts, find_name(tables, functions[index]))?;
     }
     Ok(numbers)
 }

@@ -9,8 +9,9 @@ use perfdata_profile::resolver::Resolver;
 
 /// For any records and any resolver, each selected sample is counted exactly once in each view of the
 /// profile, under its own thread and frames: in its line, in the own weight of the function of its leaf, in
-/// the total of each function of its stack, and in the nodes and boxes whose names are those with which its
-/// thread and frames start. The boxes that are drawn and those that are left out are all of these.
+/// the total of each function of its stack, in the nodes and boxes whose names are those with which its
+/// thread and frames start, and in the sample for pprof that has its thread and its locations. The boxes that
+/// are drawn and those that are left out are all of these.
 pub fn samples<R: Resolver>()
     ensures { (options : ProfileOptions) → ViewsCountOnce R.meaning options }
 {}

@@ -9,7 +9,7 @@ ghost use Rattle.perfdata_views.specs.Entries.{entries_in, total_weight};
 ghost use Rattle.perfdata_views.specs.Lines.{AreLinesOf, id_text, line_of, thread_text};
 
 use crate::counts::{LineCountError, LineCounts};
-use crate::entries::{find_entry, find_function, find_name, find_stack};
+use crate::entries::{find_entry, find_functions, find_name};
 use itoa::Buffer;
 use perfdata_profile::interned::Interned;
 use perfdata_profile::profile::Profile;
@@ -51,15 +51,21 @@ pub fn push_thread(line: &mut Vec<u8>, tables: &Interned, thread: Thread) -> Res
 }
 
 // Appends the line of samples with a key.
-fn push_line(line: &mut Vec<u8>, tables: &Interned, key: &SampleKey) -> Result<(), AllocError>
+fn push_line(
+    alloc: Global,
+    line: &mut Vec<u8>,
+    tables: &Interned,
+    key: &SampleKey,
+) -> Result<(), AllocError>
     ensures { OnOk result (line.new.items
         ≡ line.old.items ++ line_of (sample_value (lists_of tables.now) key.now)) }
 {
     push_thread(line, tables, key.thread)?;
-    let stack = find_stack(tables, key.stack);
-    'frames: for index in (0..stack.len()).rev() {
+    let names = find_functions(alloc, tables, key.stack)?;
+    let functions = names.as_slice();
+    'frames: for index in (0..functions.len()).rev() {
         line.push(b';')?;
-        line.extend_from_slice(find_function(tables, stack[index]))?;
+        line.extend_from_slice(find_name(tables, functions[index]))?;
     }
     Ok(())
 }
@@ -91,7 +97,7 @@ pub fn lines(alloc: Global, profile: &Profile) -> Result<LineCounts, AllocError>
     'entries: for index in 0..profile.sums.len() {
         let (key, sums) = find_entry(&profile.sums, index);
         line.clear();
-        push_line(&mut line, &profile.tables, &key)?;
+        push_line(alloc, &mut line, &profile.tables, &key)?;
         add_line(&mut counts, line.as_slice(), sums.weight)?;
     }
     let _lines = counts.iter(); // for the prover

@@ -1,16 +1,14 @@
 //! The table of the functions of a profile.
 
 ghost use Rattle.std.specs.Prelude.{◌≡◌, ◌<◌, ◌++◌, length, map, slice_index_or, slice_set, IfOk, OnOk};
-ghost use Rattle.perfdata_profile.specs.Names.{names_of};
+ghost use Rattle.perfdata_profile.specs.Names.{names_of, number_of};
 ghost use Rattle.perfdata_profile.specs.Profiles.{lists_of};
 ghost use Rattle.perfdata_views.specs.Entries.{entries_in};
 ghost use Rattle.perfdata_views.specs.FunctionTables.{IsTableOf};
 ghost use Rattle.perfdata_views.specs.steps.FunctionTables.{AreTallies, CountsEntry, Sees, no_tally};
-ghost use Rattle.perfdata_views.specs.steps.FunctionTables.{number_at, rows_of, seen, used_row, with_own};
+ghost use Rattle.perfdata_views.specs.steps.FunctionTables.{rows_of, seen, used_row, with_own};
 
-use crate::entries::{find_entry, find_stack};
-use perfdata_profile::interned::Interned;
-use perfdata_profile::locations::LocationId;
+use crate::entries::{find_entry, find_functions};
 use perfdata_profile::names::{NameId, Names};
 use perfdata_profile::profile::Profile;
 use std::alloc::{AllocError, Global};
@@ -34,16 +32,6 @@ struct Tally {
     total: u64,
     // The number of entries up to the last one in which the function occurs, or 0.
     last: usize,
-}
-
-// Returns the number of the name of a location's function.
-fn function_number(tables: &Interned, id: LocationId) -> usize
-    ensures { result ≡ number_at (lists_of tables.now) id }
-{
-    match tables.locations.get(id) {
-        Some(location) => location.function.number(),
-        None => usize::MAX,
-    }
 }
 
 // Adds the weight of an entry to the total of a function, unless it was seen in the entry before. `count` is
@@ -83,36 +71,23 @@ fn add_own(tallies: &mut [Tally], number: usize, weight: u64)
 }
 
 // Adds the weight of an entry to the totals of the functions of its stack.
-fn see_stack(
-    tallies: &mut [Tally],
-    tables: &Interned,
-    stack: &[LocationId],
-    count: usize,
-    weight: u64,
-)
-    ensures { Sees tallies.old (map (number_at (lists_of tables.now)) stack.now) count weight tallies.new }
+fn see_stack(tallies: &mut [Tally], functions: &[NameId], count: usize, weight: u64)
+    ensures { Sees tallies.old (map number_of functions.now) count weight tallies.new }
 {
-    'frames: for id in stack {
-        see(tallies, function_number(tables, *id), count, weight);
+    'frames: for id in functions {
+        see(tallies, id.number(), count, weight);
     }
 }
 
-// Counts an entry with a stack and a weight.
-fn count_entry(
-    tallies: &mut [Tally],
-    tables: &Interned,
-    stack: &[LocationId],
-    count: usize,
-    weight: u64,
-)
-    ensures { CountsEntry tallies.old (map (number_at (lists_of tables.now)) stack.now) count weight
-        tallies.new }
+// Counts an entry with the functions of its stack, that of the leaf first, and a weight.
+fn count_entry(tallies: &mut [Tally], functions: &[NameId], count: usize, weight: u64)
+    ensures { CountsEntry tallies.old (map number_of functions.now) count weight tallies.new }
 {
-    see_stack(tallies, tables, stack, count, weight);
-    if stack.is_empty() {
+    see_stack(tallies, functions, count, weight);
+    if functions.is_empty() {
         return;
     }
-    add_own(tallies, function_number(tables, stack[0]), weight);
+    add_own(tallies, functions[0].number(), weight);
 }
 
 // Returns the tallies of all names.
@@ -129,8 +104,8 @@ fn tallies(alloc: Global, profile: &Profile) -> Result<Vec<Tally>, AllocError>
     let mut tallies = vec![in alloc; none; profile.tables.names.len()]?;
     'entries: for index in 0..profile.sums.len() {
         let (key, sums) = find_entry(&profile.sums, index);
-        let stack = find_stack(&profile.tables, key.stack);
-        count_entry(&mut tallies, &profile.tables, stack, index + 1, sums.weight);
+        let functions = find_functions(alloc, &profile.tables, key.stack)?;
+        count_entry(&mut tallies, functions.as_slice(), index + 1, sums.weight);
     }
     Ok(tallies)
 }

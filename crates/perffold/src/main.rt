@@ -15,7 +15,7 @@ use messages::print_messages;
 use options::{
     Arguments, FOCUS, IGNORE, Options, OutputFormat, command_with_options, meaningless_option,
 };
-use output::{FoldError, profile_bytes, refusal};
+use output::{FoldError, no_output_reason, profile_bytes};
 use perfdata_cli::arguments::{parse_filter, recording_filter};
 use perfdata_cli::command_line::{FAILURE, Program, SUCCESS, USAGE_ERROR, run_program};
 use perfdata_cli::error::{InputError, ProgramError, print_error};
@@ -24,7 +24,7 @@ use perfdata_cli::progress::Progress;
 use perfdata_cli::recording::{Recording, RecordingRecords};
 use perfdata_cli::text_output::TextOutput;
 use perfdata_focus::FocusPatterns;
-use perfdata_resolver::FrameResolver;
+use perfdata_resolver::{FrameResolver, ResolverOptions};
 use perfdata_selection::error::SelectionError;
 use perfdata_selection::options::FilterOptions;
 use regex::bytes::Regex;
@@ -85,8 +85,8 @@ fn write_read<'a>(
 ) -> Result<(), FoldError<'a>> {
     let (counted, mut resolver) = counted;
     let read = read?;
-    let refused = refusal(rt.alloc(), perf_file, &counted, arguments, format);
-    let refused = refused.map_err(|_| InputError::OutOfMemory)?;
+    let reason = no_output_reason(rt.alloc(), perf_file, &counted, arguments, format);
+    let reason = reason.map_err(|_| InputError::OutOfMemory)?;
     if counted.notes.lacks_cpu {
         output.remove();
         return Ok(read?);
@@ -95,10 +95,10 @@ fn write_read<'a>(
         output.remove();
         return Err(error.into());
     }
-    if let Some(reason) = refused {
+    if let Some(reason) = reason {
         output.remove();
         read?;
-        return Err(FoldError::Refused(reason));
+        return Err(FoldError::NoOutput(reason));
     }
     let written = match resolver.data.text() {
         Some(text) => output.finish(text.as_slice()),
@@ -124,7 +124,12 @@ fn fold<'a>(
     path: &str,
 ) -> Result<(), FoldError<'a>> {
     let data = format.data(rt.alloc());
-    let resolver = FrameResolver::open(rt, &arguments.options.names, data)?;
+    let names = arguments.options.names;
+    let names = ResolverOptions {
+        source: format.source(names.source),
+        ..names
+    };
+    let resolver = FrameResolver::open(rt, &names, data)?;
     let input = OpenInput::open_recording(rt, path)?;
     let mut progress = Progress::start(rt, input.size).unless_quiet(arguments.is_quiet);
     let Recording { reader, kind } = Recording::open(rt.alloc(), input)?;
@@ -239,7 +244,7 @@ fn print_fold_error(rt: &HostRuntime, path: &str, error: FoldError<'_>) -> u8 {
         FoldError::File(PathError { path, error }) => {
             print_error(rt, NAME, path, &ProgramError::Input(InputError::Io(error)))
         }
-        FoldError::Refused(reason) => {
+        FoldError::NoOutput(reason) => {
             let reason = String::from_utf8(reason);
             let reason = reason
                 .as_ref()

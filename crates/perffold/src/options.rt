@@ -9,7 +9,7 @@ use perfdata_names::KernelList;
 use perfdata_overview::events::EventSelection;
 use perfdata_overview::weight::WeightKind;
 use perfdata_profile::options::ThreadIds;
-use perfdata_resolver::{NameKind, ResolverOptions};
+use perfdata_resolver::{NameKind, ResolverOptions, SourceOptions};
 use perfdata_views::call_tree::MinShare;
 use std::alloc::{AllocError, Global};
 
@@ -61,6 +61,11 @@ const KALLSYMS: &str = "kallsyms";
 const MAPS: &str = "maps";
 
 const NO_UNWIND: &str = "no-unwind";
+
+const NO_INLINE: &str = "no-inline";
+
+/// The option of source lines in names.
+const LINES: &str = "lines";
 
 const VDSO: &str = "vdso";
 
@@ -209,6 +214,18 @@ const OPTIONS: &[OptionText] = &[
         value: None,
         conflicts: &[],
         help: "Don't unwind the stacks that samples have a copy of",
+    },
+    OptionText {
+        name: NO_INLINE,
+        value: None,
+        conflicts: &[],
+        help: "Don't show the functions that the compiler inlined into others as frames of their own",
+    },
+    OptionText {
+        name: LINES,
+        value: None,
+        conflicts: &[NO_SYMBOLS, RAW, NO_INLINE],
+        help: "Add the source lines of functions to their names in lines and in the table",
     },
     OptionText {
         name: BY_PID,
@@ -403,6 +420,10 @@ fn parse_names<'a>(matches: &ArgMatches<'a>) -> ResolverOptions<'a> {
     ResolverOptions {
         name_kind: parse_name_kind(matches),
         demangling: parse_demangling(matches),
+        source: SourceOptions {
+            has_inlined: !matches.get_flag(NO_INLINE),
+            has_lines: matches.get_flag(LINES),
+        },
         unwinds: !matches.get_flag(NO_UNWIND),
         files: FileOptions {
             symfs: matches.get_str(SYMFS),
@@ -441,6 +462,10 @@ pub(crate) fn meaningless_option(
     }
     if format != OutputFormat::Top && matches.get_one::<usize>(ROWS).is_some() {
         return Some(ROWS);
+    }
+    let names_lines = matches!(format, OutputFormat::Lines | OutputFormat::Top);
+    if !names_lines && matches.get_flag(LINES) {
+        return Some(LINES);
     }
     if format != OutputFormat::Script {
         return None;

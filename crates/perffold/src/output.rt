@@ -12,7 +12,7 @@ use perfdata_overview::weight::WeightKind;
 use perfdata_profile::function_kinds::FunctionKinds;
 use perfdata_profile::mapping_order::MappingOrder;
 use perfdata_profile::options::Detail;
-use perfdata_resolver::{FormatData, FrameListing, ScriptListing};
+use perfdata_resolver::{FormatData, FrameListing, ScriptListing, SourceOptions};
 use perfdata_views::call_tree::{MinShare, TreeOptions, write_call_tree};
 use perfdata_views::flame::svg::{Caption, write_svg};
 use perfdata_views::lines::write_lines;
@@ -40,7 +40,7 @@ pub(crate) enum FoldError<'a> {
     /// A file of the command line can't be read or written.
     File(PathError<'a>),
     /// Nothing is written, for a reason.
-    Refused(Vec<u8>),
+    NoOutput(Vec<u8>),
 }
 
 impl<'a> From<AllocError> for FoldError<'a> {
@@ -113,6 +113,27 @@ impl OutputFormat {
             Detail::Locations
         } else {
             Detail::Functions
+        }
+    }
+
+    /// Returns what is looked up in debugging information. Formats that don't write source lines into names
+    /// have them beside these, unless inlined functions aren't wanted.
+    pub(crate) fn source(self, source: SourceOptions) -> SourceOptions {
+        match self {
+            OutputFormat::Lines | OutputFormat::Top => source,
+            OutputFormat::Svg | OutputFormat::Pprof | OutputFormat::Html | OutputFormat::Frames =>
+                SourceOptions {
+                    has_lines: source.has_inlined,
+                    ..source
+                },
+            OutputFormat::Tree => SourceOptions {
+                has_lines: false,
+                ..source
+            },
+            OutputFormat::Script => SourceOptions {
+                has_inlined: false,
+                has_lines: false,
+            },
         }
     }
 
@@ -204,7 +225,7 @@ fn write_profile<W: Write>(
 }
 
 /// Returns why nothing is written: an event isn't there, no sample was counted, or weights have no sum.
-pub(crate) fn refusal(
+pub(crate) fn no_output_reason(
     alloc: Global,
     perf_file: &PerfFile,
     counted: &CountedSamples<'_>,

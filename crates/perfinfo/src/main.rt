@@ -42,8 +42,11 @@ use std::process::ExitCode;
 const NAME: &str = "perfinfo";
 
 // What the program does.
-const ABOUT: &str =
-    "Summarizes a perf.data file, a pipe or a jitdump: the command, the machine, samples by event, process and file, the events, the records by type, processes and threads, mappings, lost records, context switches and build ids.";
+const ABOUT: &str = concat!(
+    "Summarizes a perf.data file, a pipe or a jitdump: the command, the machine, samples by event, process ",
+    "and file, the events, the records by type, processes and threads, mappings, lost records, context ",
+    "switches and build ids.",
+);
 
 // What the arguments select beside the input.
 #[derive(Drop)]

@@ -2,12 +2,12 @@
 use Rattle.std.proofs.Common.{◌≡◌, ◌==◌, ℕ, Bool, true, false, not, List, [], ◌∷◌, map, refl, ap, ◌∙◌, Option, None, Some}
 use Rattle.std.proofs.lemmas.List.{append-nil}
 use Rattle.std.specs.Int.{from_bool}
-use Rattle.pprof.specs.Decoding.{DecodesEncoded, bytes_in, fields_of, first_of, function_of, label_of, location_of, mapping_of, messages_in, number_in, profile_of, sample_of, value_type_of}
-use Rattle.pprof.specs.Messages.{ProfileValue, SampleValue, function_fields, label_fields, location_fields, mapping_fields, profile_fields, sample_fields, value_type_fields}
+use Rattle.pprof.specs.Decoding.{DecodesEncoded, bytes_in, fields_of, first_of, function_of, label_of, line_of, location_of, mapping_of, messages_in, number_in, profile_of, sample_of, value_type_of}
+use Rattle.pprof.specs.Messages.{LocationValue, ProfileValue, SampleValue, function_fields, label_fields, line_fields, location_fields, mapping_fields, profile_fields, sample_fields, value_type_fields}
 use Rattle.pprof.specs.Wire.{Field, message_bytes}
 use Rattle.pprof.specs.declared.profile.Function.{Function}
 use Rattle.pprof.specs.declared.profile.Label.{Label}
-use Rattle.pprof.specs.declared.profile.Location.{Location}
+use Rattle.pprof.specs.declared.profile.Line.{Line}
 use Rattle.pprof.specs.declared.profile.Mapping.{Mapping}
 use Rattle.pprof.specs.declared.profile.ValueType.{ValueType}
 use Rattle.pprof.proofs.Reading.{fields_of-message}
@@ -26,6 +26,9 @@ pub flag_back : (b : Bool) → not (from_bool b == 0) ≡ b
 flag_back true = refl
 flag_back false = refl
 
+pub line : (l : Line) → line_of (line_fields l) ≡ l
+line l = simp (numbers_in-append, numbers_in-number, append-nil, first_of_list)
+
 pub mapping : (m : Mapping) → mapping_of (mapping_fields m) ≡ m
 mapping m = simp (numbers_in-append, numbers_in-number, append-nil, first_of_list, flag_back)
 
@@ -38,8 +41,8 @@ decoded {A} value_of fields_of_one back (x ∷ xs) =
     ap (λ (y : A). y ∷ map (λ (b : List ℕ). value_of (fields_of b)) (map (λ (x : A). message_bytes (fields_of_one x)) xs)) first
     ∙ ap (λ (ys : List A). x ∷ ys) (decoded value_of fields_of_one back xs)
 
-pub location : (l : Location) → location_of (location_fields l) ≡ l
-location l = simp (numbers_in-append, bytes_in-append, numbers_in-number, bytes_in-number, bytes_in-bytes, numbers_in-bytes, append-nil, first_of_list, fields_of-message)
+pub location : (l : LocationValue) → location_of (location_fields l) ≡ l
+location l = simp (numbers_in-append, bytes_in-append, numbers_in-number, numbers_in-messages, bytes_in-number, bytes_in-messages, append-nil, first_of_list, decoded line_of line_fields line)
 
 pub sample : (s : SampleValue) → sample_of (sample_fields s) ≡ s
 sample s = simp (bytes_in-append, bytes_in-packed, bytes_in-messages, append-nil, unpacked, decoded label_of label_fields label)
@@ -57,7 +60,7 @@ samples_in p = simp (bytes_in-append, bytes_in-messages, bytes_in-texts, bytes_i
 mappings_in : (p : ProfileValue) → bytes_in 3 (profile_fields p) ≡ map (λ (m : Mapping). message_bytes (mapping_fields m)) p.mappings
 mappings_in p = simp (bytes_in-append, bytes_in-messages, bytes_in-texts, bytes_in-number, bytes_in-period_type, append-nil)
 
-locations_in : (p : ProfileValue) → bytes_in 4 (profile_fields p) ≡ map (λ (l : Location). message_bytes (location_fields l)) p.locations
+locations_in : (p : ProfileValue) → bytes_in 4 (profile_fields p) ≡ map (λ (l : LocationValue). message_bytes (location_fields l)) p.locations
 locations_in p = simp (bytes_in-append, bytes_in-messages, bytes_in-texts, bytes_in-number, bytes_in-period_type, append-nil)
 
 functions_in : (p : ProfileValue) → bytes_in 5 (profile_fields p) ≡ map (λ (f : Function). message_bytes (function_fields f)) p.functions
@@ -95,7 +98,7 @@ same_profile p q sample_types samples mappings locations functions strings durat
     let with_types = λ (x : List ValueType). record p { sample_types = x } in
     let with_samples = λ (x : List SampleValue). record p { sample_types = q.sample_types; samples = x } in
     let with_mappings = λ (x : List Mapping). record p { sample_types = q.sample_types; samples = q.samples; mappings = x } in
-    let with_locations = λ (x : List Location). record p { sample_types = q.sample_types; samples = q.samples; mappings = q.mappings; locations = x } in
+    let with_locations = λ (x : List LocationValue). record p { sample_types = q.sample_types; samples = q.samples; mappings = q.mappings; locations = x } in
     let with_functions = λ (x : List Function). record q { functions = x; strings = p.strings; duration = p.duration; period_type = p.period_type; period = p.period; comment = p.comment; default_sample_type = p.default_sample_type } in
     let with_strings = λ (x : List (List ℕ)). record q { strings = x; duration = p.duration; period_type = p.period_type; period = p.period; comment = p.comment; default_sample_type = p.default_sample_type } in
     let with_duration = λ (x : ℕ). record q { duration = x; period_type = p.period_type; period = p.period; comment = p.comment; default_sample_type = p.default_sample_type } in

@@ -2,6 +2,7 @@ mod Building
 mod Counting
 mod Decoding
 mod Distinct
+mod Flagging
 mod Growing
 mod Interning
 mod Keys

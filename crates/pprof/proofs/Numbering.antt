@@ -28,3 +28,7 @@ rows_more {A} {B} {S} with_id shows yielded shown old new len are counted longer
     longer ∙ (ap (λ (bs : List B). bs ++ with_id (len + 1) (shows shown) ∷ []) are
     ∙ (ap (λ (n : ℕ). numbered with_id 1 rows ++ with_id n (shows shown) ∷ []) count
     ∙ (sym (numbered_more with_id 1 rows (shows shown)) ∙ ap (λ (all : List A). numbered with_id 1 all) (sym (map-append shows yielded (shown ∷ []))))))
+
+pub map_twice : {A B C : Type 0} → (f : A → B) (g : B → C) (xs : List A) → map (λ (x : A). g (f x)) xs ≡ map g (map f xs)
+map_twice f g [] = refl
+map_twice {A} {B} {C} f g (x ∷ xs) = ap (λ (ys : List C). g (f x) ∷ ys) (map_twice f g xs)

@@ -6,9 +6,10 @@ use Rattle.std.proofs.lemmas.List.{append-nil, take_all, take_more}
 use Rattle.std.proofs.lemmas.List.Folds.{flat_map-map}
 use Rattle.std.specs.List.{flat_map}
 use Rattle.std.specs.String.{string_bytes}
-use Rattle.pprof.specs.Messages.{SampleValue, sample_fields, sample_value, text_fields}
+use Rattle.pprof.specs.Messages.{LocationValue, SampleValue, location_fields, location_value, sample_fields, sample_value, text_fields}
 use Rattle.pprof.specs.Wire.{Field, bytes_field, contents_bytes, message_bytes, message_field, message_fields, number_field, packed_field, varint}
 use Rattle.pprof.specs.steps.Wire.{Appends}
+use Rattle.pprof.specs.declared.profile.Location.{Location}
 use Rattle.pprof.specs.declared.profile.Sample.{Sample}
 
 pub message_bytes-append : (fields more : List Field) → message_bytes (fields ++ more) ≡ message_bytes fields ++ message_bytes more
@@ -98,6 +99,11 @@ all_texts {old} {new} k texts i enough written =
 pub samples_of : (k : ℕ) (samples : List Sample)
     → message_fields k (λ (sample : Sample). sample_fields (sample_value sample)) samples ≡ message_fields k sample_fields (map sample_value samples)
 samples_of k samples = sym (flat_map-map (λ (sample : SampleValue). message_field k (sample_fields sample)) sample_value samples)
+
+-- The fields of locations, apart from their vectors' memory.
+pub locations_of : (k : ℕ) (locations : List Location)
+    → message_fields k (λ (location : Location). location_fields (location_value location)) locations ≡ message_fields k location_fields (map location_value locations)
+locations_of k locations = sym (flat_map-map (λ (location : LocationValue). message_field k (location_fields location)) location_value locations)
 
 -- What is appended to no bytes is all there is.
 pub started : {old new : List ℕ} {fields : List Field} → old ≡ [] → Appends old fields new → new ≡ message_bytes fields

@@ -1,11 +1,11 @@
 -- A decoder of the bytes of a profile.
 use Rattle.std.specs.Prelude.{◌≡◌, ℕ, zero, suc, ◌+◌, ◌-◌, ◌*◌, ◌/◌, ◌%◌, ◌==◌, nat_lt, if◌then◌else◌, Bool, true, not, List, [], ◌∷◌, ◌++◌, length, map, take, drop, Option, None, Some}
 use Rattle.std.specs.List.{flat_map}
-use Rattle.pprof.specs.Messages.{ProfileValue, SampleValue, encode}
+use Rattle.pprof.specs.Messages.{LocationValue, ProfileValue, SampleValue, encode}
 use Rattle.pprof.specs.Wire.{Contents, Field, bytes, number}
 use Rattle.pprof.specs.declared.profile.Function.{Function}
 use Rattle.pprof.specs.declared.profile.Label.{Label}
-use Rattle.pprof.specs.declared.profile.Location.{Location}
+use Rattle.pprof.specs.declared.profile.Line.{Line}
 use Rattle.pprof.specs.declared.profile.Mapping.{Mapping}
 use Rattle.pprof.specs.declared.profile.ValueType.{ValueType}
 
@@ -106,18 +106,29 @@ mapping_of fields = record {
   filename = number_in 5 fields;
   build_id = number_in 6 fields;
   has_functions = not (number_in 7 fields == 0);
+  has_filenames = not (number_in 8 fields == 0);
+  has_line_numbers = not (number_in 9 fields == 0);
+  has_inline_frames = not (number_in 10 fields == 0);
 }
 
-abbrev pub location_of : List Field → Location
+abbrev pub line_of : List Field → Line
+line_of fields = record { function_id = number_in 1 fields; line = number_in 2 fields }
+
+abbrev pub location_of : List Field → LocationValue
 location_of fields = record {
   id = number_in 1 fields;
   mapping_id = number_in 2 fields;
   address = number_in 3 fields;
-  function_id = number_in 1 (flat_map fields_of (bytes_in 4 fields));
+  lines = messages_in 4 line_of fields;
 }
 
 abbrev pub function_of : List Field → Function
-function_of fields = record { id = number_in 1 fields; name = number_in 2 fields; system_name = number_in 3 fields }
+function_of fields = record {
+  id = number_in 1 fields;
+  name = number_in 2 fields;
+  system_name = number_in 3 fields;
+  filename = number_in 4 fields;
+}
 
 abbrev pub profile_of : List Field → ProfileValue
 profile_of fields = record {

@@ -6,6 +6,7 @@ use Rattle.std.specs.String.{string_bytes}
 use Rattle.pprof.specs.Wire.{Field, bytes_field, message_bytes, message_field, message_fields, number_field, packed_field}
 use Rattle.pprof.specs.declared.profile.Function.{Function}
 use Rattle.pprof.specs.declared.profile.Label.{Label}
+use Rattle.pprof.specs.declared.profile.Line.{Line}
 use Rattle.pprof.specs.declared.profile.Location.{Location}
 use Rattle.pprof.specs.declared.profile.Mapping.{Mapping}
 use Rattle.pprof.specs.declared.profile.Profile.{Profile}
@@ -21,12 +22,22 @@ pub record SampleValue : Type 0 where
 abbrev pub sample_value : Sample → SampleValue
 sample_value s = record { location_ids = s.location_ids.items; values = s.values.items; labels = s.labels.items }
 
+-- A location, apart from its vector's memory.
+pub record LocationValue : Type 0 where
+  pub id : ℕ
+  pub mapping_id : ℕ
+  pub address : ℕ
+  pub lines : List Line
+
+abbrev pub location_value : Location → LocationValue
+location_value l = record { id = l.id; mapping_id = l.mapping_id; address = l.address; lines = l.lines.items }
+
 -- A profile, apart from its vectors' memory.
 pub record ProfileValue : Type 0 where
   pub sample_types : List ValueType
   pub samples : List SampleValue
   pub mappings : List Mapping
-  pub locations : List Location
+  pub locations : List LocationValue
   pub functions : List Function
   pub strings : List (List ℕ)
   pub duration : ℕ
@@ -40,7 +51,7 @@ profile_value p = record {
   sample_types = p.sample_types.items;
   samples = map sample_value p.samples.items;
   mappings = p.mappings.items;
-  locations = p.locations.items;
+  locations = map location_value p.locations.items;
   functions = p.functions.items;
   strings = map string_bytes p.strings.items;
   duration = p.duration;
@@ -62,14 +73,17 @@ sample_fields s = packed_field 1 s.location_ids ++ packed_field 2 s.values ++ me
 abbrev pub mapping_fields : Mapping → List Field
 mapping_fields m = number_field 1 m.id ++ number_field 2 m.memory_start ++ number_field 3 m.memory_limit ++ number_field 4 m.file_offset
     ++ number_field 5 m.filename ++ number_field 6 m.build_id ++ number_field 7 (from_bool m.has_functions)
+    ++ number_field 8 (from_bool m.has_filenames) ++ number_field 9 (from_bool m.has_line_numbers)
+    ++ number_field 10 (from_bool m.has_inline_frames)
 
--- A location has one line, which has a function and no number.
-abbrev pub location_fields : Location → List Field
-location_fields l = number_field 1 l.id ++ number_field 2 l.mapping_id ++ number_field 3 l.address
-    ++ message_field 4 (number_field 1 l.function_id)
+abbrev pub line_fields : Line → List Field
+line_fields l = number_field 1 l.function_id ++ number_field 2 l.line
+
+abbrev pub location_fields : LocationValue → List Field
+location_fields l = number_field 1 l.id ++ number_field 2 l.mapping_id ++ number_field 3 l.address ++ message_fields 4 line_fields l.lines
 
 abbrev pub function_fields : Function → List Field
-function_fields f = number_field 1 f.id ++ number_field 2 f.name ++ number_field 3 f.system_name
+function_fields f = number_field 1 f.id ++ number_field 2 f.name ++ number_field 3 f.system_name ++ number_field 4 f.filename
 
 abbrev pub period_type_fields : Option ValueType → List Field
 period_type_fields None = []

@@ -1,3 +1,4 @@
+pub mod Flags
 pub mod Rows
 pub mod Samples
 pub mod Wire

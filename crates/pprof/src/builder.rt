@@ -1,21 +1,25 @@
 //! Builds a profile of mappings, functions, locations and samples.
-ghost use Rattle.std.specs.Prelude.{◌≡◌, ◌<◌, ◌++◌, length, map, replicate, slice_get, IfOk, OnErr, OnOk};
+ghost use Rattle.std.specs.Prelude.{◌≡◌, ◌<◌, ◌||◌, [], ◌∷◌, ◌++◌, List, length, map, replicate, slice_get};
+ghost use Rattle.std.specs.Prelude.{slice_index_or, IfOk, OnErr, OnOk};
+ghost use Rattle.std.specs.List.{list_any};
 ghost use Rattle.std.specs.Str.Lossy.{utf8_lossy};
+ghost use Rattle.std.specs.String.{string_bytes};
 ghost use Rattle.indexmap.specs.IndexMap.{index_map_len};
 ghost use Rattle.indexmap.specs.IndexSet.{IsUnique};
-ghost use Rattle.pprof.specs.Builders.{rows_of};
+ghost use Rattle.pprof.specs.Builders.{place_of, rows_of};
 ghost use Rattle.pprof.specs.Labels.{HasLabels, IsKeyOf, number_labels, thread_labels};
-ghost use Rattle.pprof.specs.Messages.{profile_value, sample_value};
+ghost use Rattle.pprof.specs.Messages.{location_value, profile_value, sample_value};
 ghost use Rattle.pprof.specs.Rows.{AreDistinct, Grows, Identifies, Interns, numbered};
 ghost use Rattle.pprof.specs.steps.Rows.{IdentifiesBy};
 ghost use Rattle.pprof.specs.Samples.{AddsSamples, raised, sample_row, weighted};
 ghost use Rattle.pprof.specs.steps.Samples.{RaisesRow};
 ghost use Rattle.pprof.specs.Strings.{texts_of};
-ghost use Rattle.pprof.specs.Tables.{Builds, function_row, known_id, location_row, mapping_row};
-ghost use Rattle.pprof.specs.Tables.{no_rows};
+ghost use Rattle.pprof.specs.Tables.{Builds, Place, function_row, has_filename, has_number, known_id};
+ghost use Rattle.pprof.specs.Tables.{known_line, location_row, mapping_row, no_rows};
+ghost use Rattle.pprof.specs.steps.Flags.{AreFlags, flagged_row, no_flags};
 ghost use Rattle.pprof.specs.Texts.{AreStrings};
 
-use crate::profile::{Function, Label, Location, Mapping, Profile, Sample, ValueType};
+use crate::profile::{Function, Label, Line, Location, Mapping, Profile, Sample, ValueType};
 use crate::strings::StringTable;
 use indexmap::{IndexMap, IndexSet};
 use std::alloc::{AllocError, Global};
@@ -43,17 +47,43 @@ pub struct FunctionNames {
     pub name: u64,
     /// The name as the file has it.
     pub system_name: u64,
+    /// The path of the source file, or 0.
+    pub filename: u64,
 }
 
 /// Where a frame of a stack is.
-#[derive(Clone, Copy, PartialEq, Eq, Hash)]
+#[derive(PartialEq, Eq, Hash, Drop)]
 pub struct LocationRow {
     /// The id of the mapping that contains the address, or 0.
     pub mapping_id: u64,
     /// The address.
     pub address: u64,
-    /// The id of the function.
-    pub function_id: u64,
+    /// The functions at the address, the innermost first. All but the last one are inlined into the next one.
+    pub lines: Vec<Line>,
+}
+
+// What the locations in a mapping have.
+#[derive(Clone, Copy)]
+struct SourceFlags {
+    has_filenames: bool,
+    has_line_numbers: bool,
+    has_inline_frames: bool,
+}
+
+// The parts of a profile that say where frames are.
+#[derive(Drop)]
+struct CodeParts {
+    mappings: Vec<Mapping>,
+    locations: Vec<Location>,
+    functions: Vec<Function>,
+}
+
+// The samples of a profile, their types, and all texts.
+#[derive(Drop)]
+struct SampleParts {
+    sample_types: Vec<ValueType>,
+    samples: Vec<Sample>,
+    strings: Vec<String>,
 }
 
 /// The thread of samples. Its name is an index of the table of strings.
@@ -210,7 +240,7 @@ impl Builder {
     /// Fails if memory runs out.
     pub fn location(&mut self, place: LocationRow) -> Result<u64, AllocError>
         ensures ok { IfOk result (λ id.
-            Identifies (tables_of self.old).locations place id (tables_of self.new).locations) }
+            Identifies (tables_of self.old).locations (place_of place) id (tables_of self.new).locations) }
         ensures once { AreDistinct (tables_of self.new).locations }
         ensures err { OnErr result (tables_of self.new ≡ tables_of self.old) }
         ensures rest { tables_of self.new
@@ -279,15 +309,23 @@ impl Builder {
             places,
             rows,
         } = self;
-        let samples = take_samples(alloc, rows, sample_types.len())?;
-        let (mapping_count, function_count) = (mappings.len(), functions.len());
-        Ok(Profile {
-            sample_types: take_types(alloc, sample_types)?,
+        let SampleParts {
+            sample_types,
             samples,
-            mappings: take_mappings(alloc, &mappings)?,
-            locations: take_locations(alloc, &places, mapping_count, function_count)?,
-            functions: take_functions(alloc, &functions)?,
-            strings: strings.finish()?,
+            strings,
+        } = take_sample_parts(alloc, strings, sample_types, rows)?;
+        let CodeParts {
+            mappings,
+            locations,
+            functions,
+        } = take_code_parts(alloc, &mappings, &functions, &places)?;
+        Ok(Profile {
+            sample_types,
+            samples,
+            mappings,
+            locations,
+            functions,
+            strings,
             duration: summary.duration,
             period_type: summary.period_type,
             period: summary.period,
@@ -366,12 +404,121 @@ fn take_types(alloc: Global, rows: IndexSet<ValueType>) -> Result<Vec<ValueType>
     rows.into_iter().collect(alloc)
 }
 
-// Returns the mappings with their ids.
-fn take_mappings(alloc: Global, files: &IndexSet<MappedFile>) -> Result<Vec<Mapping>, AllocError>
-    ensures { IfOk result (λ mappings. mappings.items ≡ numbered mapping_row 1 files.now.keys) }
+// Returns whether the function of a line has a source file.
+fn has_filename(functions: &IndexSet<FunctionNames>, line: Line) -> bool
+    ensures { result ≡ has_filename functions.now.keys line }
+{
+    if line.function_id == 0 {
+        return false;
+    }
+    match functions.get_index((line.function_id - 1) as usize) {
+        Some(names) => names.filename != 0,
+        None => false,
+    }
+}
+
+// Returns whether a line of a location has a function with a source file.
+fn has_filenames(functions: &IndexSet<FunctionNames>, lines: &[Line]) -> bool
+    ensures { result ≡ list_any (has_filename functions.now.keys) lines.now }
+{
+    'lines: for line in lines {
+        if has_filename(functions, *line) {
+            return true;
+        }
+    }
+    false
+}
+
+// Returns whether a line of a location has a number.
+fn has_numbers(lines: &[Line]) -> bool
+    ensures { result ≡ list_any has_number lines.now }
+{
+    'lines: for line in lines {
+        if line.line != 0 {
+            return true;
+        }
+    }
+    false
+}
+
+// Returns whether one of two things is so.
+fn either(first: bool, second: bool) -> bool
+    ensures { result ≡ (first || second) }
+{
+    first || second
+}
+
+// Adds what a location has to what its mapping has, if it has one.
+fn add_place(flags: &mut Vec<SourceFlags>, functions: &IndexSet<FunctionNames>, place: &LocationRow)
+    ensures count { length flags.new.items ≡ length flags.old.items }
+    ensures are { (places : List Place) → AreFlags functions.now.keys places flags.old.items →
+        AreFlags functions.now.keys (places ++ place_of place.now ∷ []) flags.new.items }
+{
+    if place.mapping_id == 0 {
+        return;
+    }
+    let index = (place.mapping_id - 1) as usize;
+    if index >= flags.len() {
+        return;
+    }
+    let old = flags[index];
+    let lines = place.lines.as_slice();
+    let has_filename = has_filenames(functions, lines);
+    let has_number = has_numbers(lines);
+    flags[index] = SourceFlags {
+        has_filenames: either(old.has_filenames, has_filename),
+        has_line_numbers: either(old.has_line_numbers, has_number),
+        has_inline_frames: either(old.has_inline_frames, lines.len() > 1),
+    };
+}
+
+// What the locations in a mapping have without any.
+const NO_FLAGS: SourceFlags = SourceFlags {
+    has_filenames: false,
+    has_line_numbers: false,
+    has_inline_frames: false,
+};
+
+// Returns what the locations in each mapping have.
+fn source_flags(
+    alloc: Global,
+    places: &IndexSet<LocationRow>,
+    functions: &IndexSet<FunctionNames>,
+    mapping_count: usize,
+) -> Result<Vec<SourceFlags>, AllocError>
+    ensures count { IfOk result (λ flags. length flags.items ≡ mapping_count) }
+    ensures are { IfOk result (λ flags.
+        AreFlags functions.now.keys (map place_of places.now.keys) flags.items) }
+{
+    let mut flags = vec![in alloc; NO_FLAGS; mapping_count]?;
+    'places: for place in places {
+        add_place(&mut flags, functions, place);
+    }
+    Ok(flags)
+}
+
+// Returns what the locations in the mapping with an index have.
+fn flags_at(flags: &[SourceFlags], index: usize) -> SourceFlags
+    ensures { result ≡ slice_index_or flags.now index no_flags }
+{
+    if index < flags.len() {
+        flags[index]
+    } else {
+        NO_FLAGS
+    }
+}
+
+// Returns the mappings with their ids and flags.
+fn flagged_mappings(
+    alloc: Global,
+    files: &IndexSet<MappedFile>,
+    flags: &[SourceFlags],
+) -> Result<Vec<Mapping>, AllocError>
+    ensures { IfOk result (λ mappings. mappings.items ≡ numbered (flagged_row flags.now) 1 files.now.keys) }
 {
     let mut mappings = Vec::new(alloc);
     'rows: for file in files {
+        let flags = flags_at(flags, mappings.len());
         mappings.push(Mapping {
             id: mappings.len() as u64 + 1,
             memory_start: file.memory_start,
@@ -380,9 +527,26 @@ fn take_mappings(alloc: Global, files: &IndexSet<MappedFile>) -> Result<Vec<Mapp
             filename: file.filename,
             build_id: file.build_id,
             has_functions: true,
+            has_filenames: flags.has_filenames,
+            has_line_numbers: flags.has_line_numbers,
+            has_inline_frames: flags.has_inline_frames,
         })?;
     }
     Ok(mappings)
+}
+
+// Returns the mappings with their ids, and with what their locations have.
+fn take_mappings(
+    alloc: Global,
+    files: &IndexSet<MappedFile>,
+    functions: &IndexSet<FunctionNames>,
+    places: &IndexSet<LocationRow>,
+) -> Result<Vec<Mapping>, AllocError>
+    ensures { IfOk result (λ mappings. mappings.items
+        ≡ numbered (mapping_row functions.now.keys (map place_of places.now.keys)) 1 files.now.keys) }
+{
+    let flags = source_flags(alloc, places, functions, files.len())?;
+    flagged_mappings(alloc, files, flags.as_slice())
 }
 
 // Returns the functions with their ids.
@@ -398,6 +562,7 @@ fn take_functions(
             id: functions.len() as u64 + 1,
             name: names.name,
             system_name: names.system_name,
+            filename: names.filename,
         })?;
     }
     Ok(functions)
@@ -410,6 +575,24 @@ fn known(id: u64, count: usize) -> u64
     if (count as u64) < id { 0 } else { id }
 }
 
+// Returns lines, in which ids of functions that none of some rows has are 0.
+fn known_lines(
+    alloc: Global,
+    lines: &[Line],
+    function_count: usize,
+) -> Result<Vec<Line>, AllocError>
+    ensures { IfOk result (λ known. known.items ≡ map (known_line function_count) lines.now) }
+{
+    let mut known_lines = Vec::new(alloc);
+    'lines: for line in lines {
+        known_lines.push(Line {
+            function_id: known(line.function_id, function_count),
+            line: line.line,
+        })?;
+    }
+    Ok(known_lines)
+}
+
 // Returns the locations with their ids.
 fn take_locations(
     alloc: Global,
@@ -417,19 +600,42 @@ fn take_locations(
     mapping_count: usize,
     function_count: usize,
 ) -> Result<Vec<Location>, AllocError>
-    ensures { IfOk result (λ locations.
-        locations.items ≡ numbered (location_row mapping_count function_count) 1 places.now.keys) }
+    ensures { IfOk result (λ locations. map location_value locations.items
+        ≡ numbered (location_row mapping_count function_count) 1 (map place_of places.now.keys)) }
 {
     let mut locations = Vec::new(alloc);
     'rows: for place in places {
+        let lines = known_lines(alloc, place.lines.as_slice(), function_count)?;
         locations.push(Location {
             id: locations.len() as u64 + 1,
             mapping_id: known(place.mapping_id, mapping_count),
             address: place.address,
-            function_id: known(place.function_id, function_count),
+            lines,
         })?;
     }
     Ok(locations)
+}
+
+// Returns the mappings, locations and functions with their ids.
+fn take_code_parts(
+    alloc: Global,
+    files: &IndexSet<MappedFile>,
+    names: &IndexSet<FunctionNames>,
+    places: &IndexSet<LocationRow>,
+) -> Result<CodeParts, AllocError>
+    ensures mappings { IfOk result (λ parts. parts.mappings.items
+        ≡ numbered (mapping_row names.now.keys (map place_of places.now.keys)) 1 files.now.keys) }
+    ensures locations { IfOk result (λ parts. map location_value parts.locations.items
+        ≡ numbered (location_row (length files.now.keys) (length names.now.keys)) 1
+        (map place_of places.now.keys)) }
+    ensures functions { IfOk result (λ parts.
+        parts.functions.items ≡ numbered function_row 1 names.now.keys) }
+{
+    Ok(CodeParts {
+        mappings: take_mappings(alloc, files, names, places)?,
+        locations: take_locations(alloc, places, files.len(), names.len())?,
+        functions: take_functions(alloc, names)?,
+    })
 }
 
 // Returns the index of the key of a label with a number, or 0 if there is none.
@@ -497,4 +703,25 @@ fn take_samples(
         })?;
     }
     Ok(samples)
+}
+
+// Returns the samples, their types, and all texts.
+fn take_sample_parts(
+    alloc: Global,
+    strings: StringTable,
+    sample_types: IndexSet<ValueType>,
+    rows: IndexMap<RowKey, Vec<u64>>,
+) -> Result<SampleParts, AllocError>
+    ensures sample_types { IfOk result (λ parts. parts.sample_types.items ≡ sample_types.keys) }
+    ensures samples { IfOk result (λ parts. map sample_value parts.samples.items
+        ≡ map (sample_row (length sample_types.keys)) (rows_of rows.entries)) }
+    ensures texts { IfOk result (λ parts. map string_bytes parts.strings.items ≡ texts_of strings) }
+    ensures once { IfOk result (λ parts. AreStrings (map string_bytes parts.strings.items)) }
+{
+    let samples = take_samples(alloc, rows, sample_types.len())?;
+    Ok(SampleParts {
+        sample_types: take_types(alloc, sample_types)?,
+        samples,
+        strings: strings.finish()?,
+    })
 }

@@ -1,13 +1,13 @@
 //! Writes a profile as bytes.
 ghost use Rattle.std.specs.Prelude.{◌≡◌, ◌<◌, ◌^◌, map, IfOk, OnOk};
 ghost use Rattle.std.specs.String.{string_bytes};
-ghost use Rattle.pprof.specs.Messages.{encode, function_fields, label_fields, location_fields};
+ghost use Rattle.pprof.specs.Messages.{encode, function_fields, label_fields, line_fields, location_fields};
+ghost use Rattle.pprof.specs.Messages.{location_value};
 ghost use Rattle.pprof.specs.Messages.{mapping_fields, period_type_fields, profile_value};
 ghost use Rattle.pprof.specs.Messages.{sample_fields, sample_value, text_fields, value_type_fields};
-ghost use Rattle.pprof.specs.Wire.{number_field};
 ghost use Rattle.pprof.specs.steps.Wire.{Appends};
 
-use crate::profile::{Function, Label, Location, Mapping, Profile, Sample, ValueType};
+use crate::profile::{Function, Label, Line, Location, Mapping, Profile, Sample, ValueType};
 use crate::wire::{Message, push_bytes, push_message, push_messages, push_number, push_packed};
 use std::alloc::{AllocError, Global};
 
@@ -50,35 +50,30 @@ impl Message for Mapping {
         push_number(bytes, 4, self.file_offset)?;
         push_number(bytes, 5, self.filename)?;
         push_number(bytes, 6, self.build_id)?;
-        push_number(bytes, 7, u64::from(self.has_functions))
+        push_number(bytes, 7, u64::from(self.has_functions))?;
+        push_number(bytes, 8, u64::from(self.has_filenames))?;
+        push_number(bytes, 9, u64::from(self.has_line_numbers))?;
+        push_number(bytes, 10, u64::from(self.has_inline_frames))
     }
 }
 
-// The line of a location.
-#[derive(Clone, Copy)]
-struct SourceLine {
-    function_id: u64,
-}
-
-impl Message for SourceLine {
-    ghost fields = { λ line. number_field 1 line.function_id };
+impl Message for Line {
+    ghost fields = { line_fields };
 
     fn push(&self, _alloc: Global, bytes: &mut Vec<u8>) -> Result<(), AllocError> {
-        push_number(bytes, 1, self.function_id)
+        push_number(bytes, 1, self.function_id)?;
+        push_number(bytes, 2, self.line)
     }
 }
 
 impl Message for Location {
-    ghost fields = { location_fields };
+    ghost fields = { λ location. location_fields (location_value location) };
 
     fn push(&self, alloc: Global, bytes: &mut Vec<u8>) -> Result<(), AllocError> {
         push_number(bytes, 1, self.id)?;
         push_number(bytes, 2, self.mapping_id)?;
         push_number(bytes, 3, self.address)?;
-        let line = SourceLine {
-            function_id: self.function_id,
-        };
-        push_message(alloc, bytes, 4, &line)
+        push_messages(alloc, bytes, 4, self.lines.as_slice())
     }
 }
 
@@ -88,7 +83,8 @@ impl Message for Function {
     fn push(&self, _alloc: Global, bytes: &mut Vec<u8>) -> Result<(), AllocError> {
         push_number(bytes, 1, self.id)?;
         push_number(bytes, 2, self.name)?;
-        push_number(bytes, 3, self.system_name)
+        push_number(bytes, 3, self.system_name)?;
+        push_number(bytes, 4, self.filename)
     }
 }
 

@@ -51,10 +51,25 @@ pub struct Mapping {
     pub build_id: u64,
     /// Whether the locations in it have functions.
     pub has_functions: bool,
+    /// Whether a location in it has a function with a source file.
+    pub has_filenames: bool,
+    /// Whether a location in it has a source line.
+    pub has_line_numbers: bool,
+    /// Whether a location in it has an inlined function.
+    pub has_inline_frames: bool,
+}
+
+/// A function at an address, and its source line there.
+#[derive(Clone, Copy, PartialEq, Eq, Hash)]
+pub struct Line {
+    /// The function.
+    pub function_id: u64,
+    /// The line in the function's file, or 0.
+    pub line: u64,
 }
 
 /// An address of a stack.
-#[derive(Clone, Copy)]
+#[derive(Drop)]
 pub struct Location {
     /// The id.
     pub id: u64,
@@ -62,8 +77,8 @@ pub struct Location {
     pub mapping_id: u64,
     /// The address.
     pub address: u64,
-    /// The function of its only line.
-    pub function_id: u64,
+    /// The functions at the address, the innermost first. All but the last one are inlined into the next one.
+    pub lines: Vec<Line>,
 }
 
 /// A function.
@@ -75,6 +90,8 @@ pub struct Function {
     pub name: u64,
     /// The name as the file has it.
     pub system_name: u64,
+    /// The path of the source file, or 0.
+    pub filename: u64,
 }
 
 /// A profile.

@@ -98,7 +98,7 @@ impl<R: PlacedSource + Drop> ElfFile<R> {
         Ok(Some(SectionBytes {
             address,
             bytes,
-            is_compressed: false,
+            compression: None,
         }))
     }
 }

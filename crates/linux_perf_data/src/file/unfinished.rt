@@ -1,7 +1,18 @@
 //! The opening of a file whose recording wasn't finished, or whose end is missing.
-ghost use Rattle.std.specs.Prelude.{IfOk};
-ghost use Rattle.linux_perf_data.specs.Attribute.{AreConsistent};
-ghost use Rattle.linux_perf_data.specs.PerfFile.{attributes_of_file};
+ghost use Rattle.std.specs.Prelude.{◌≡◌, ◌-◌, [], is_some, nat_le};
+ghost use Rattle.perfdata_sources.specs.Source.{PausesOnlyOnError};
+ghost use Rattle.perfdata_identifiers.specs.Features.{features_of};
+ghost use Rattle.linux_perf_data.specs.FeatureData.{feature_data_of};
+ghost use Rattle.linux_perf_data.specs.FeatureNumbers.{simpleperf_meta_info};
+ghost use Rattle.linux_perf_data.specs.UnfinishedFile.{has_whole_data, header_with_ids};
+ghost use Rattle.linux_perf_data.specs.WholeParts.{FindsWholeParts};
+ghost use Rattle.linux_perf_data.specs.steps.FeatureData.{feature_entries_of};
+ghost use Rattle.linux_perf_data.specs.steps.UnfinishedFile.{HasLength, ReadsLength, ReadsWord, ReadsStep};
+ghost use Rattle.linux_perf_data.specs.steps.UnfinishedFile.{ReadsRecordsSize, ReadsDataSize};
+ghost use Rattle.linux_perf_data.specs.steps.UnfinishedFile.{PushesWholeEntry, ReadsWholeEntries};
+ghost use Rattle.linux_perf_data.specs.steps.UnfinishedFile.{ReadsWholeTable, ReadsWholeSections};
+ghost use Rattle.linux_perf_data.specs.steps.UnfinishedFile.{ContainsFeatures};
+ghost use Rattle.linux_perf_data.specs.steps.UnfinishedFile.{OpensUnfinishedFile, OpensUnfinishedAfterHeader};
 
 use crate::attributes::first_id_index::FirstIdIndex;
 use crate::file::feature_data::{read_feature_data, read_section_entry, seek_to_offset};
@@ -42,13 +53,21 @@ pub(crate) enum RecordStep {
 }
 
 // The length that a source shows.
-fn visible_length<C: PlacedSource>(source: &mut C) -> Result<u64, Error> {
+fn visible_length<C: PlacedSource>(source: &mut C) -> Result<u64, Error>
+    ensures reads { ReadsLength (C.state source.old) result (C.state source.new) }
+    ensures pauses { PausesOnlyOnError (C.state source.old) result (C.state source.new) }
+    ensures same_loan { C.loan source.new ≡ C.loan source.old }
+{
     let length = source.seek_to(SeekFrom::End(0))?;
     Ok(length)
 }
 
 // Reads the eight bytes at an offset.
-fn read_word<C: PlacedSource>(source: &mut C, offset: u64) -> Result<[u8; 8], Error> {
+fn read_word<C: PlacedSource>(source: &mut C, offset: u64) -> Result<[u8; 8], Error>
+    ensures reads { ReadsWord offset (C.state source.old) result (C.state source.new) }
+    ensures pauses { PausesOnlyOnError (C.state source.old) result (C.state source.new) }
+    ensures same_loan { C.loan source.new ≡ C.loan source.old }
+{
     seek_to_offset(source, offset)?;
     let mut bytes = [0u8; 8];
     read_exact(source, &mut bytes)?;
@@ -61,7 +80,12 @@ fn record_step<C: PlacedSource>(
     endian: Endianness,
     offset: u64,
     length: u64,
-) -> Result<RecordStep, Error> {
+) -> Result<RecordStep, Error>
+    requires { HasLength length (C.state source.now) }
+    ensures reads { ReadsStep endian offset length (C.state source.old) result (C.state source.new) }
+    ensures pauses { PausesOnlyOnError (C.state source.old) result (C.state source.new) }
+    ensures same_loan { C.loan source.new ≡ C.loan source.old }
+{
     let left = length.saturating_sub(offset);
     if left < HEADER_SIZE {
         return Ok(RecordStep::Partial);
@@ -80,14 +104,11 @@ fn record_step<C: PlacedSource>(
     if size < AUXTRACE_SIZE {
         return Ok(RecordStep::Invalid);
     }
-    let aux_size = read_u64(
-        endian,
-        &read_word(source, offset.saturating_add(HEADER_SIZE))?,
-    );
-    if left.saturating_sub(size) < aux_size {
+    let aux_size = read_u64(endian, &read_word(source, offset + HEADER_SIZE)?);
+    if left - size < aux_size {
         return Ok(RecordStep::Partial);
     }
-    Ok(RecordStep::Whole(size.saturating_add(aux_size)))
+    Ok(RecordStep::Whole(size + aux_size))
 }
 
 // The size in bytes of the whole records from an offset on. It includes all bytes of the file if a record is
@@ -97,20 +118,29 @@ fn records_size<C: PlacedSource>(
     endian: Endianness,
     start: u64,
     length: u64,
-) -> Result<u64, Error> {
+) -> Result<u64, Error>
+    requires { HasLength length (C.state source.now) }
+    ensures reads { ReadsRecordsSize endian start length (C.state source.old) result
+        (C.state source.new) }
+    ensures pauses { PausesOnlyOnError (C.state source.old) result (C.state source.new) }
+    ensures same_loan { C.loan source.new ≡ C.loan source.old }
+{
     let mut offset = start;
-    for _ in 0..u64::MAX {
-        match record_step(source, endian, offset, length)? {
-            RecordStep::Partial => break,
-            RecordStep::Invalid => return Ok(length.saturating_sub(start)),
-            RecordStep::Whole(size) => offset = offset.saturating_add(size),
+    'records: while offset < length {
+        let step = record_step(source, endian, offset, length)?;
+        match step {
+            RecordStep::Partial => return Ok(offset - start),
+            RecordStep::Invalid => return Ok(length - start),
+            RecordStep::Whole(size) => offset += size,
         }
     }
-    Ok(offset.saturating_sub(start))
+    Ok(offset - start)
 }
 
 // Whether the header has a data size, and a file of this length contains the whole data section.
-fn has_whole_data(header: &PerfHeader, length: u64) -> bool {
+fn has_whole_data(header: &PerfHeader, length: u64) -> bool
+    ensures { result ≡ has_whole_data header.now length }
+{
     let data = header.data_section;
     match data.offset.checked_add(data.size) {
         Some(end) => 0 < data.size && end <= length,
@@ -124,11 +154,40 @@ fn data_size<C: PlacedSource>(
     endian: Endianness,
     header: &PerfHeader,
     length: u64,
-) -> Result<u64, Error> {
+) -> Result<u64, Error>
+    requires { HasLength length (C.state source.now) }
+    ensures reads { ReadsDataSize endian header.now length (C.state source.old) result
+        (C.state source.new) }
+    ensures pauses { PausesOnlyOnError (C.state source.old) result (C.state source.new) }
+    ensures same_loan { C.loan source.new ≡ C.loan source.old }
+{
     if has_whole_data(header, length) {
         return Ok(header.data_section.size);
     }
     records_size(source, endian, header.data_section.offset, length)
+}
+
+// Whether a file of this length contains the whole section.
+fn contains_section(section: &PerfFileSection, length: u64) -> bool
+    ensures { result ≡ nat_le section.now.size (length - section.now.offset) }
+{
+    section.size <= length.saturating_sub(section.offset)
+}
+
+// Pushes an entry if a file of this length contains its section.
+fn push_whole_entry(
+    table: &mut Vec<(Feature, PerfFileSection)>,
+    feature: Feature,
+    section: PerfFileSection,
+    length: u64,
+) -> Result<(), Error>
+    ensures { PushesWholeEntry length feature section table.old.items result table.new.items }
+{
+    if !contains_section(&section, length) {
+        return Ok(());
+    }
+    table.push((feature, section))?;
+    Ok(())
 }
 
 // Reads the first `count` entries of the table at the position of the source. Returns those whose section is
@@ -140,31 +199,38 @@ fn read_whole_entries<C: PlacedSource>(
     features: &FeatureSet,
     count: u64,
     length: u64,
-) -> Result<Vec<(Feature, PerfFileSection)>, Error> {
+) -> Result<Vec<(Feature, PerfFileSection)>, Error>
+    ensures reads { ReadsWholeEntries endian (features_of features.now) count length
+        (C.state source.old) result (C.state source.new) }
+    ensures pauses { PausesOnlyOnError (C.state source.old) result (C.state source.new) }
+    ensures same_loan { C.loan source.new ≡ C.loan source.old }
+{
     let mut table = Vec::new(alloc);
     let mut left = count;
-    for feature in features.iter() {
+    'entries: for feature in features.iter() {
         if left == 0 {
             return Ok(table);
         }
-        left = left.saturating_sub(1);
+        left -= 1;
         let entry = read_section_entry(source, endian)?;
-        if entry.size <= length.saturating_sub(entry.offset) {
-            table.push((feature, entry))?;
-        }
+        push_whole_entry(&mut table, feature, entry, length)?;
     }
     Ok(table)
 }
 
 // The empty set of features.
-fn no_features() -> FeatureSet {
+fn no_features() -> FeatureSet
+    ensures { ContainsFeatures [] result }
+{
     FeatureSet([0; 4])
 }
 
 // The features of these entries.
-fn features_in(table: &[(Feature, PerfFileSection)]) -> FeatureSet {
+fn present_features(table: &[(Feature, PerfFileSection)]) -> FeatureSet
+    ensures { ContainsFeatures (feature_entries_of table.now) result }
+{
     let mut features = no_features();
-    for entry in table {
+    'entries: for entry in table {
         let (feature, _section) = *entry;
         features.insert(feature);
     }
@@ -179,13 +245,19 @@ fn read_whole_table<C: PlacedSource>(
     endian: Endianness,
     header: &PerfHeader,
     length: u64,
-) -> Result<Vec<(Feature, PerfFileSection)>, Error> {
+) -> Result<Vec<(Feature, PerfFileSection)>, Error>
+    requires { HasLength length (C.state source.now) }
+    ensures reads { ReadsWholeTable endian header.now length (C.state source.old) result
+        (C.state source.new) }
+    ensures pauses { PausesOnlyOnError (C.state source.old) result (C.state source.new) }
+    ensures same_loan { C.loan source.new ≡ C.loan source.old }
+{
     if !has_whole_data(header, length) {
         return Ok(Vec::new(alloc));
     }
     let data = header.data_section;
-    let offset = data.offset.saturating_add(data.size);
-    let count = length.saturating_sub(offset) / PerfFileSection::STRUCT_SIZE;
+    let offset = data.offset + data.size;
+    let count = (length - offset) / PerfFileSection::STRUCT_SIZE;
     seek_to_offset(source, offset)?;
     read_whole_entries(alloc, source, endian, &header.features, count, length)
 }
@@ -197,15 +269,31 @@ fn read_whole_sections<C: PlacedSource>(
     endian: Endianness,
     header: &PerfHeader,
     length: u64,
-) -> Result<(FeatureSet, IndexMap<Feature, Vec<u8>>), Error> {
+) -> Result<(FeatureSet, IndexMap<Feature, Vec<u8>>), Error>
+    requires { HasLength length (C.state source.now) }
+    ensures reads { ReadsWholeSections endian header.now length (C.state source.old) result
+        (C.state source.new) }
+    ensures pauses { PausesOnlyOnError (C.state source.old) result (C.state source.new) }
+    ensures same_loan { C.loan source.new ≡ C.loan source.old }
+{
     let table = read_whole_table(alloc, source, endian, header, length)?;
-    let sections = read_feature_data(alloc, source, &table)?;
-    Ok((features_in(&table), sections))
+    let entries = table.as_slice();
+    let sections = read_feature_data(alloc, source, entries)?;
+    Ok((present_features(entries), sections))
+}
+
+// Whether these sections contain simpleperf's meta info.
+fn has_meta_info(sections: &IndexMap<Feature, Vec<u8>>) -> bool
+    ensures { result ≡ is_some (feature_data_of sections.now simpleperf_meta_info) }
+{
+    feature_bytes(sections, Feature::SIMPLEPERF_META_INFO).is_some()
 }
 
 // The header by which the attributes of an unfinished file are read. Without names, the entries of the
 // attribute section are read as those of an event types section, with their ids, if they have them.
-fn header_with_ids(header: &PerfHeader, has_meta_info: bool) -> PerfHeader {
+fn header_with_ids(header: &PerfHeader, has_meta_info: bool) -> PerfHeader
+    ensures { result ≡ header_with_ids header.now has_meta_info }
+{
     let has_ids = header.attr_size >= ATTRIBUTE_SIZE + PerfFileSection::STRUCT_SIZE;
     if header.event_types_section.size != 0 || has_meta_info || !has_ids {
         return *header;
@@ -213,9 +301,7 @@ fn header_with_ids(header: &PerfHeader, has_meta_info: bool) -> PerfHeader {
     PerfHeader {
         magic: header.magic,
         header_size: header.header_size,
-        attr_size: header
-            .attr_size
-            .saturating_sub(PerfFileSection::STRUCT_SIZE),
+        attr_size: header.attr_size - PerfFileSection::STRUCT_SIZE,
         attr_section: header.attr_section,
         data_section: header.data_section,
         event_types_section: header.attr_section,
@@ -231,12 +317,16 @@ fn open_unfinished_after_header<C: PlacedSource>(
     header: &PerfHeader,
     length: u64,
 ) -> Result<FileOpening, Error>
-    ensures { IfOk result (λ o. AreConsistent (attributes_of_file o.perf_file)) }
+    requires { HasLength length (C.state source.now) }
+    ensures reads { OpensUnfinishedAfterHeader endian header.now length (C.state source.old) result
+        (C.state source.new) }
+    ensures pauses { PausesOnlyOnError (C.state source.old) result (C.state source.new) }
+    ensures same_loan { C.loan source.new ≡ C.loan source.old }
 {
     let data_size = data_size(source, endian, header, length)?;
-    let (features, sections) = read_whole_sections(alloc, source, endian, header, length)?;
-    let has_meta_info = feature_bytes(&sections, Feature::SIMPLEPERF_META_INFO).is_some();
-    let named = header_with_ids(header, has_meta_info);
+    let whole = read_whole_sections(alloc, source, endian, header, length)?;
+    let (features, sections) = whole;
+    let named = header_with_ids(header, has_meta_info(&sections));
     let attributes = read_consistent_attributes(alloc, source, endian, &named, &sections)?;
     seek_to_offset(source, header.data_section.offset)?;
     let perf_file = PerfFile {
@@ -259,7 +349,9 @@ pub(crate) fn open_unfinished_file<C: PlacedSource>(
     alloc: Global,
     source: &mut C,
 ) -> Result<FileOpening, Error>
-    ensures { IfOk result (λ o. AreConsistent (attributes_of_file o.perf_file)) }
+    ensures reads { OpensUnfinishedFile (C.state source.old) result (C.state source.new) }
+    ensures pauses { PausesOnlyOnError (C.state source.old) result (C.state source.new) }
+    ensures same_loan { C.loan source.new ≡ C.loan source.old }
 {
     let header = PerfHeader::parse_from::<C>(source)?;
     let endian = endian_of_magic(header.magic)?;
@@ -294,8 +386,12 @@ pub struct WholeParts {
 }
 
 impl WholeParts {
+    ghost use Rattle.linux_perf_data.specs.WholeParts.{IsCompletenessOf};
+
     /// Returns what the file contains of a recording.
-    pub fn completeness(&self) -> Completeness {
+    pub fn completeness(&self) -> Completeness
+        ensures { IsCompletenessOf self.now result }
+    {
         if self.header.data_section.size == 0 {
             return Completeness::NoDataSize;
         }
@@ -321,10 +417,11 @@ impl WholeParts {
 /// - [`Error::IoError`] if the header can't be read, or if a read or a seek fails.
 /// - [`Error::UnrecognizedMagicValue`] if the magic is unknown.
 /// - [`Error::Memory`] if memory runs out for the table of feature sections.
-pub fn find_whole_parts<C: PlacedSource>(
-    alloc: Global,
-    source: &mut C,
-) -> Result<WholeParts, Error> {
+pub fn find_whole_parts<C: PlacedSource>(alloc: Global, source: &mut C) -> Result<WholeParts, Error>
+    ensures finds { FindsWholeParts (C.state source.old) result (C.state source.new) }
+    ensures pauses { PausesOnlyOnError (C.state source.old) result (C.state source.new) }
+    ensures same_loan { C.loan source.new ≡ C.loan source.old }
+{
     let header = PerfHeader::parse_from::<C>(source)?;
     let endian = endian_of_magic(header.magic)?;
     let length = visible_length(source)?;

@@ -1,10 +1,11 @@
 -- Steps of private functions: the locations of frames as they are looked up.
-use Rattle.std.specs.Prelude.{◌≡◌, ℕ, List, Option, Some, slice_get}
+use Rattle.std.specs.Prelude.{◌≡◌, ℕ, ◌<◌, true, List, length, Option, Some, slice_get}
 use Rattle.std.specs.Option.{option_map}
-use Rattle.perfdata_profile.specs.Resolving.{FrameValue, Meaning}
+use Rattle.perfdata_profile.specs.Resolving.{AreAtOneAddress, FrameValue, Meaning}
 use Rattle.perfdata_profile.specs.Samples.{IsPlace, IsRangeAt}
-use Rattle.perfdata_profile.specs.Values.{IsPlaced, Lists, range_at}
+use Rattle.perfdata_profile.specs.Values.{IsLines, IsPlaced, Lists, lines_at, range_at}
 use Rattle.perfdata_profile.specs.steps.Values.{ListsGrow}
+use Rattle.perfdata_profile.specs.declared.locating.FrameLines.{FrameLines}
 use Rattle.perfdata_profile.specs.declared.locating.Locator.{Locator}
 use Rattle.perfdata_profile.specs.declared.locating.LocationKey.{LocationKey}
 use Rattle.perfdata_profile.specs.declared.mappings.MappingId.{MappingId}
@@ -28,6 +29,13 @@ module _ (meaning : Meaning) where
   pub record IsFoundRange (lists : Lists) (mapping : MappingValue) (address : ℕ) (id : Option MappingId) : Type 0 where
     pub placed : IsPlaced lists id address
     pub is : IsRangeAt meaning (Some mapping) address (option_map (range_at lists) id)
+
+  -- The lines of a frame, and of all frames at the same address of the same mapping if they are fixed.
+  pub record AreFoundLines (lists : Lists) (frame : FrameValue) (lines : FrameLines) : Type 0 where
+    pub within : IsLines lists lines.id
+    pub some : 0 < length (lines_at lists lines.id)
+    pub are : meaning.has_lines frame (lines_at lists lines.id)
+    pub fixed : lines.is_fixed ≡ true → (other : FrameValue) → AreAtOneAddress frame other → meaning.has_lines other (lines_at lists lines.id)
 
   module _ (detail : Detail) where
     pub record IsFoundKey (lists : Lists) (frame : FrameValue) (place : LocationKey) : Type 0 where

@@ -1,23 +1,10 @@
 -- Steps of private functions: the functions of a profile with the weights of their samples.
-use Rattle.std.specs.Prelude.{◌≡◌, ℕ, ◌+◌, ◌-◌, ◌^◌, ◌==◌, ◌<◌, ◌≤◌, min, not, Bool, List, [], ◌∷◌, ◌++◌, if◌then◌else◌, length, Option, None, Some, slice_get, slice_index_or, take}
+use Rattle.std.specs.Prelude.{◌≡◌, ℕ, ◌+◌, ◌-◌, ◌^◌, ◌==◌, ◌<◌, ◌≤◌, min, not, Bool, List, [], ◌∷◌, ◌++◌, if◌then◌else◌, length, slice_index_or, take}
 use Rattle.std.specs.List.{list_any}
-use Rattle.perfdata_profile.specs.Names.{number_of}
-use Rattle.perfdata_profile.specs.Interned.{location_number}
-use Rattle.perfdata_profile.specs.Values.{Lists}
-use Rattle.perfdata_profile.specs.declared.locations.Location.{Location}
-use Rattle.perfdata_profile.specs.declared.locations.LocationId.{LocationId}
 use Rattle.perfdata_views.specs.Entries.{Entry, weight_where}
 use Rattle.perfdata_views.specs.declared.table.FunctionRow.{FunctionRow}
 use Rattle.perfdata_views.specs.declared.table.Tally.{Tally}
 use Rattle.perfdata_views.specs.FunctionTables.{is_leaf, occurs}
-
--- The number of the name of a location's function.
-abbrev pub number_in : Option Location → ℕ
-number_in None = 2 ^ 64 - 1
-number_in (Some location) = number_of location.function
-
-abbrev pub number_at : Lists → LocationId → ℕ
-number_at lists id = number_in (slice_get lists.locations (location_number id))
 
 abbrev pub no_tally : Tally
 no_tally = record { own = 0; total = 0; last = 0 }

@@ -50,3 +50,17 @@ pub(crate) fn frame_color(kind: FrameKind, name: &[u8]) -> [u8; 3] {
         blend(first[2], last[2], shade),
     ]
 }
+
+/// Returns a color that is nearer to white by half, that of an inlined function.
+pub(crate) fn lighter(color: [u8; 3]) -> [u8; 3] {
+    [
+        half_to_white(color[0]),
+        half_to_white(color[1]),
+        half_to_white(color[2]),
+    ]
+}
+
+// Returns the part of a color that is half as far from white.
+fn half_to_white(part: u8) -> u8 {
+    part.saturating_add((u8::MAX - part) / 2)
+}

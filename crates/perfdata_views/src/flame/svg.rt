@@ -4,13 +4,13 @@ ghost use Rattle.std.specs.Io.KnownBytes.{Appends};
 
 use crate::entry_tree::{EntryTree, entry_tree};
 use crate::flame::boxes::{DrawnBoxes, FlameBox, GRAPH_WIDTH, drawn_boxes};
-use crate::flame::colors::frame_color;
+use crate::flame::colors::{frame_color, lighter};
 use crate::flame::script::{LEGEND, SCRIPT, START, STYLE};
 use crate::flame::span::{WidthSpan, share};
 use crate::flame::xml_text::XmlText;
 use crate::share::Share;
 use bstr::ByteSlice;
-use perfdata_profile::function_kinds::{FrameKind, FunctionKinds};
+use perfdata_profile::function_kinds::{FrameKind, FunctionKinds, LineRange};
 use perfdata_profile::profile::Profile;
 use std::alloc::Global;
 use std::fmt::{Display, Formatter};
@@ -44,8 +44,11 @@ const MIN_CHARACTERS: u64 = 3;
 // The box of all samples.
 const ALL: Label<'static> = Label {
     kind: FrameKind::Thread,
+    is_inlined: false,
     text: b"all",
     file: b"",
+    source: b"",
+    lines: LineRange { first: 0, last: 0 },
 };
 
 /// What a flame graph says of itself.
@@ -95,8 +98,19 @@ struct Picture<'a> {
 #[derive(Clone, Copy)]
 struct Label<'a> {
     kind: FrameKind,
+    is_inlined: bool,
     text: &'a [u8],
     file: &'a [u8],
+    /// The source file, or nothing, and the lines.
+    source: &'a [u8],
+    lines: LineRange,
+}
+
+impl<'a> Label<'a> {
+    // Returns what is written of what is in no file.
+    fn without_file(kind: FrameKind, text: &'a [u8]) -> Label<'a> {
+        Label { kind, text, ..ALL }
+    }
 }
 
 impl<'a> Picture<'a> {
@@ -104,18 +118,21 @@ impl<'a> Picture<'a> {
     fn label(&self, flame_box: &FlameBox) -> Label<'a> {
         let text = self.tree.text(flame_box.text);
         if flame_box.depth == 0 {
-            return Label {
-                kind: FrameKind::Thread,
-                text,
-                file: b"",
-            };
+            return Label::without_file(FrameKind::Thread, text);
         }
         let function = self.profile.tables.names.id(flame_box.text);
-        let (kind, file) = match (self.function_kinds, function) {
-            (Some(kinds), Some(name)) => (kinds.kind(name), kinds.path(name)),
-            _ => (FrameKind::Unknown, b"".as_slice()),
+        let (Some(kinds), Some(name)) = (self.function_kinds, function) else {
+            return Label::without_file(FrameKind::Unknown, text);
         };
-        Label { kind, text, file }
+        let (source, lines) = kinds.source(name);
+        Label {
+            kind: kinds.kind(name),
+            is_inlined: kinds.is_inlined(name),
+            text,
+            file: kinds.path(name),
+            source,
+            lines,
+        }
     }
 
     // Returns the place of samples at a depth.
@@ -143,6 +160,7 @@ impl<'a> Picture<'a> {
             let file = XmlText::whole(label.file);
             write!(out, ", {file}")?;
         }
+        write_source(label, out)?;
         out.write_all(b"</title>")
     }
 
@@ -156,7 +174,13 @@ impl<'a> Picture<'a> {
     ) -> io::Result<()> {
         let place = self.place(span, row);
         self.write_title(label, span.weight(), out)?;
-        write_rectangle(place, frame_color(label.kind, label.text), out)?;
+        let color = frame_color(label.kind, label.text);
+        let color = if label.is_inlined {
+            lighter(color)
+        } else {
+            color
+        };
+        write_rectangle(place, color, out)?;
         write_name(place, label.text, out)?;
         out.write_all(b"</g>\n")
     }
@@ -176,6 +200,20 @@ impl<'a> Picture<'a> {
         }
         Ok(())
     }
+}
+
+// Writes the source file of a function and its lines with samples, if they are known.
+fn write_source(label: Label<'_>, out: &mut Vec<u8>) -> io::Result<()> {
+    if label.source.is_empty() {
+        return Ok(());
+    }
+    let source = XmlText::whole(label.source);
+    let LineRange { first, last } = label.lines;
+    write!(out, ", {source}:{first}")?;
+    if first != last {
+        write!(out, "-{last}")?;
+    }
+    Ok(())
 }
 
 // Returns the number of rows of boxes: that of all samples, and those below it.

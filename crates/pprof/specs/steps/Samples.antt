@@ -1,5 +1,5 @@
 -- Steps of private functions: the samples of a builder, and how more are added.
-use Rattle.std.specs.Prelude.{◌≡◌, ℕ, ◌-◌, List, slice_get, Some}
+use Rattle.std.specs.Prelude.{◌≡◌, ℕ, List, slice_get, Some}
 use Rattle.pprof.specs.declared.builder.WeightedSamples.{WeightedSamples}
 use Rattle.pprof.specs.Samples.{Row, padded, weighted, set_values}
 

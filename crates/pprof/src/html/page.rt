@@ -118,37 +118,64 @@ pub(crate) const END: &str = r##"</script>
     message(end, (field, value, stop) => { all[field] = stop === undefined ? value : fields(stop); });
     return all;
   }
+  // A location with all its lines, the innermost function's first.
+  function placeFields(end) {
+    const place = { lines: [] };
+    message(end, (field, value, stop) => {
+      if (field === 4) place.lines.push(fields(stop)); else place[field] = value;
+    });
+    return place;
+  }
   const strings = [], types = [], ranges = [], mappings = [null], places = [null], names = [null];
   let shown = 0;
   message(bytes.length, (field, value, stop) => {
     if (field === 1) types.push(fields(stop));
     if (field === 2) ranges.push([at, stop]);
     if (field === 3) mappings.push(fields(stop));
-    if (field === 4) places.push(fields(stop));
+    if (field === 4) places.push(placeFields(stop));
     if (field === 5) names.push(fields(stop));
     if (field === 6) strings.push(decoder.decode(bytes.subarray(at, stop)));
     if (field === 14) shown = value;
   });
   const string = index => strings[index || 0];
 
-  // What is known of each function: its name, and the file and the kind of code of one of its locations.
-  // The first is the root of the tree, the last that of the locations without a function.
-  const functions = names.map(row => ({
-    name: row ? string(row[2]) : "all", file: "", kind: row ? "unknown" : "all", found: false
-  }));
-  functions.push({ name: "[unknown]", file: "", kind: "unknown", found: false });
-  const functionOf = Int32Array.from(places, place => {
-    const id = place && place[4] ? place[4][1] : 0;
-    return id > 0 && id < names.length ? id : names.length;
+  // What is known of each function: its name, the file and the kind of code of one of its locations, its
+  // source file and the lines of samples in it. The first is the root of the tree. After the functions come
+  // that of the locations without a function, and the functions where they are inlined.
+  const describeFunction = (name, source, kind, inlined) =>
+    ({ name, file: "", source, first: 0, last: 0, kind, inlined, found: false });
+  const functions = names.map(row => row ? describeFunction(string(row[2]), string(row[4]), "unknown", false)
+    : describeFunction("all", "", "all", false));
+  functions.push(describeFunction("[unknown]", "", "unknown", false));
+  for (const row of names.slice(1)) {
+    functions.push(describeFunction(string(row[2]) + " (inlined)", string(row[4]), "unknown", true));
+  }
+  const codesOf = places.map(place => {
+    const lines = place && place.lines.length ? place.lines : [[]];
+    return lines.map(([, id, line], index) => {
+      if (!(id > 0 && id < names.length)) return names.length;
+      const code = index < lines.length - 1 ? names.length + id : id, one = functions[code];
+      if (line && (!one.first || line < one.first)) one.first = line;
+      if (line && line > one.last) one.last = line;
+      return code;
+    });
   });
+  function sourceOf({ source, first, last }, parts) {
+    if (source === "") return "";
+    const path = source.split("/").slice(-parts).join("/");
+    return first === 0 ? path : path + ":" + first + (last > first ? "-" + last : "");
+  }
   const KINDS = [
     [/^\[kernel|^\[guest|\.ko(\.|$)/, "kernel"], [/^\[(perf-|jit|anon)|^\/\/anon|jitted-/, "generated"]
   ];
   places.forEach((place, id) => {
-    const one = functions[functionOf[id]], mapping = place && mappings[place[2] || 0];
-    if (!mapping || one.file) return;
-    one.file = string(mapping[5]);
-    one.kind = (KINDS.find(kind => kind[0].test(one.file)) || ["", one.file ? "user" : "unknown"])[1];
+    const mapping = place && mappings[place[2] || 0];
+    for (const code of mapping ? codesOf[id] : []) {
+      const one = functions[code];
+      if (one.file) continue;
+      one.file = string(mapping[5]);
+      one.kind = (KINDS.find(kind => kind[0].test(one.file)) || ["", one.file ? "user" : "unknown"])[1];
+    }
   });
 
   // The samples: the values of each, its thread, and the range of its functions in `codes`, the root first.
@@ -157,13 +184,20 @@ pub(crate) const END: &str = r##"</script>
     message(end, (field, value) => { label[field] = field === 3 ? low : value; });
     return label[2] ? string(label[2]) : string(label[1]) + " " + (label[3] || 0);
   }
-  const codes = new Int32Array(bytes.length);
-  let used = 0;
+  let codes = new Int32Array(bytes.length), used = 0;
+  function push(added) {
+    if (used + added.length > codes.length) {
+      const longer = new Int32Array(2 * codes.length + added.length);
+      longer.set(codes);
+      codes = longer;
+    }
+    for (const code of added) codes[used++] = code;
+  }
   function readSample([start, end]) {
     const sample = { from: used, to: used, values: [], thread: "" }, labels = [];
     at = start;
     message(end, (field, value, stop) => {
-      if (field === 1) while (at < stop) codes[used++] = functionOf[number()] || names.length;
+      if (field === 1) while (at < stop) push(codesOf[number()] || [names.length]);
       if (field === 2) sample.values = numbers(stop);
       if (field === 3) labels.push(labelText(stop));
     });
@@ -269,6 +303,7 @@ pub(crate) const END: &str = r##"</script>
         if (again) again.focus();
       };
       row.insertCell().append(button);
+      if (heads.includes("source")) row.insertCell().textContent = sourceOf(functions[code], 2);
     }
   }
   function neighbours(step) {
@@ -288,7 +323,9 @@ pub(crate) const END: &str = r##"</script>
     listed.sort((a, b) => weights[b] - weights[a] || sums[b] - sums[a] || byName(a, b));
     const title = listed.length > ROWS ? "the first " + ROWS + " of " + listed.length : "";
     const rows = listed.slice(0, ROWS).map(code => [code, self[code], sums[code]]);
-    fill(element("functions"), title, ["self", "total", "function"], rows);
+    const heads = ["self", "total", "function"];
+    if (functions.some(one => one.source !== "")) heads.push("source");
+    fill(element("functions"), title, heads, rows);
     const name = functions[selected].name;
     fill(element("callers"), "Callers of " + name, ["total", "function"], selected && neighbours(-1));
     fill(element("callees"), "Callees of " + name, ["total", "function"], selected && neighbours(1));
@@ -305,7 +342,7 @@ pub(crate) const END: &str = r##"</script>
   }
   function colour(code, dim) {
     const one = functions[code], [hue, strength] = HUES[one.kind], spread = hash(one.name);
-    const light = (dark.matches ? 32 : 72) + spread % 7;
+    const light = (dark.matches ? 32 : 72) + spread % 7 + (one.inlined ? 11 : 0);
     return "hsl(" + (hue - 18 + spread % 37) + "," + (dim ? 8 : strength) + "%," + light + "%)";
   }
   function box(node, left, width, top) {
@@ -363,8 +400,8 @@ pub(crate) const END: &str = r##"</script>
   }
   function describe(code, weight) {
     const one = functions[code];
-    const parts = [weight + " " + what(), share(weight), one.file].filter(part => part !== "");
-    element("details").textContent = one.name + "\n" + parts.join(", ");
+    const parts = [weight + " " + what(), share(weight), one.file, sourceOf(one, Infinity)];
+    element("details").textContent = one.name + "\n" + parts.filter(part => part !== "").join(", ");
   }
   function show(node) {
     current = node;

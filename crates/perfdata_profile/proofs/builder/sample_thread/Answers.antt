@@ -9,4 +9,4 @@ pub returns-clause-ok : goal.returns-clause-ok
 returns-clause-ok g c = λ before follows.
     let tables = c.args.locator.now.tables in
     let tid : to_z w32 (of_z w32 c.args.task.tid) ≡ c.args.task.tid = to_z-of_z w32 c.args.task.tid (search rules) in
-    has_thread g.R.Resolver.meaning (lists_in c.thread.new.names tables.mappings tables.locations tables.stacks) c.args.thread_ids before c.args.task (record { name = c.in_ok-name.name; pid = c.pid.result; tid = c.tid.result }) (option_map (λ name. name.now) c.comm.result) (rw tid at (c.comm.ensures before follows)) c.in_ok-name.ensures.named c.pid.ensures c.tid.ensures
+    has_thread g.R.Resolver.meaning (lists_in c.thread.new.names tables.mappings tables.lines tables.locations tables.stacks) c.args.thread_ids before c.args.task (record { name = c.in_ok-name.name; pid = c.pid.result; tid = c.tid.result }) (option_map (λ name. name.now) c.comm.result) (rw tid at (c.comm.ensures before follows)) c.in_ok-name.ensures.named c.pid.ensures c.tid.ensures

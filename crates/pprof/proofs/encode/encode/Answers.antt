@@ -1,9 +1,9 @@
 use Rattle.std.proofs.Common.{map}
 use Rattle.std.specs.String.{string_bytes}
-use Rattle.pprof.specs.Messages.{function_fields, location_fields, mapping_fields, sample_fields, sample_value, text_fields, value_type_fields}
+use Rattle.pprof.specs.Messages.{function_fields, location_fields, location_value, mapping_fields, sample_fields, sample_value, text_fields, value_type_fields}
 use Rattle.pprof.specs.Wire.{message_fields}
 use Rattle.pprof.specs.steps.Wire.{Appends}
-use Rattle.pprof.proofs.Writing.{more, samples_of, started}
+use Rattle.pprof.proofs.Writing.{locations_of, more, samples_of, started}
 use Rattle.pprof.proofs.encode.encode.Goals as goal
 
 pub returns : goal.returns
@@ -15,8 +15,8 @@ returns c =
     rw (← samples_of 2 p.samples.items, ← c.as_slice-2.ensures.value) c.in_ok-push_messages-2.ensures in
     let mappings : Appends c.push_messages-2.new.bytes.items (message_fields 3 mapping_fields p.mappings.items) c.push_messages-3.new.bytes.items =
     rw (← c.as_slice-3.ensures.value) c.in_ok-push_messages-3.ensures in
-    let locations : Appends c.push_messages-3.new.bytes.items (message_fields 4 location_fields p.locations.items) c.push_messages-4.new.bytes.items =
-    rw (← c.as_slice-4.ensures.value) c.in_ok-push_messages-4.ensures in
+    let locations : Appends c.push_messages-3.new.bytes.items (message_fields 4 location_fields (map location_value p.locations.items)) c.push_messages-4.new.bytes.items =
+    rw (← locations_of 4 p.locations.items, ← c.as_slice-4.ensures.value) c.in_ok-push_messages-4.ensures in
     let functions : Appends c.push_messages-4.new.bytes.items (message_fields 5 function_fields p.functions.items) c.push_messages-5.new.bytes.items =
     rw (← c.as_slice-5.ensures.value) c.in_ok-push_messages-5.ensures in
     let strings : Appends c.push_messages-5.new.bytes.items (text_fields 6 (map string_bytes p.strings.items)) c.push_texts.new.bytes.items =

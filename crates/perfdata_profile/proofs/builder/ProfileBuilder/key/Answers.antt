@@ -4,7 +4,7 @@ use Rattle.perfdata_profile.specs.Building.{options_of}
 use Rattle.perfdata_profile.specs.steps.Building.{HasStack}
 use Rattle.perfdata_profile.specs.Locating.{located_lists}
 use Rattle.perfdata_profile.specs.Names.{names_of}
-use Rattle.perfdata_profile.specs.Interned.{locations_of, ranges_of, stack_number, stacks_of}
+use Rattle.perfdata_profile.specs.Interned.{line_lists_of, locations_of, ranges_of, stack_number, stacks_of}
 use Rattle.perfdata_profile.specs.Values.{AreLocations, lists_in}
 use Rattle.perfdata_profile.specs.declared.locations.LocationId.{LocationId}
 use Rattle.perfdata_profile.proofs.Building.{has_key}
@@ -20,7 +20,7 @@ invariant_of-self g c =
     let first = located_lists c.set_stack.new.locator in
     let second = located_lists c.sample_thread.new.locator in
     let ids = subst (AreLocations second) (sym c.as_slice-2.ensures.value) (locations_within first second c.in_ok-thread.ensures.grows.lists c.set_stack.new.stack.items c.in_ok-set_stack.ensures.within) in
-    let within = stack_result (names_of tables.names) (ranges_of tables.mappings) (locations_of tables.locations) (stacks_of tables.stacks) tables.within stack_number c.intern.result (stacks_of c.intern.new.self) c.as_slice-2.result.now ids c.intern.ensures.ok c.intern.ensures.err in
+    let within = stack_result (names_of tables.names) (ranges_of tables.mappings) (line_lists_of tables.lines) (locations_of tables.locations) (stacks_of tables.stacks) tables.within stack_number c.intern.result (stacks_of c.intern.new.self) c.as_slice-2.result.now ids c.intern.ensures.ok c.intern.ensures.err in
     ((within, tt), (c.sample_thread.new.locator.cached, tt))
 
 pub returns-clause-grows : goal.returns-clause-grows
@@ -29,9 +29,9 @@ returns-clause-grows g c =
     let first = located_lists c.args.self.now.locator in
     let second = located_lists c.set_stack.new.locator in
     let third = located_lists c.sample_thread.new.locator in
-    let fourth = lists_in tables.names tables.mappings tables.locations c.intern.new.self in
+    let fourth = lists_in tables.names tables.mappings tables.lines tables.locations c.intern.new.self in
     let more = result_grows stack_number c.intern.result (stacks_of tables.stacks) (stacks_of c.intern.new.self) c.as_slice-2.result.now c.intern.ensures.ok c.intern.ensures.err in
-    let stacks = stacks_grow (names_of tables.names) (ranges_of tables.mappings) (locations_of tables.locations) (stacks_of tables.stacks) (stacks_of c.intern.new.self) more in
+    let stacks = stacks_grow (names_of tables.names) (ranges_of tables.mappings) (line_lists_of tables.lines) (locations_of tables.locations) (stacks_of tables.stacks) (stacks_of c.intern.new.self) more in
     record {
       lists = lists_trans first second fourth c.in_ok-set_stack.ensures.grows.lists (lists_trans second third fourth c.in_ok-thread.ensures.grows.lists stacks);
       detail = c.in_ok-thread.ensures.grows.detail ∙ c.in_ok-set_stack.ensures.grows.detail;
@@ -44,9 +44,9 @@ returns-clause-cache g c = λ before follows holds.
     let mappings = mapping_values c.args.self.now.spaces in
     let tables = c.sample_thread.new.locator.tables in
     let second = located_lists c.sample_thread.new.locator in
-    let third = lists_in tables.names tables.mappings tables.locations c.intern.new.self in
+    let third = lists_in tables.names tables.mappings tables.lines tables.locations c.intern.new.self in
     let more = result_grows stack_number c.intern.result (stacks_of tables.stacks) (stacks_of c.intern.new.self) c.as_slice-2.result.now c.intern.ensures.ok c.intern.ensures.err in
-    let grows = stacks_grow (names_of tables.names) (ranges_of tables.mappings) (locations_of tables.locations) (stacks_of tables.stacks) (stacks_of c.intern.new.self) more in
+    let grows = stacks_grow (names_of tables.names) (ranges_of tables.mappings) (line_lists_of tables.lines) (locations_of tables.locations) (stacks_of tables.stacks) (stacks_of c.intern.new.self) more in
     let kept = cache_grows meaning detail mappings c.set_stack.new.locator c.sample_thread.new.locator c.in_ok-thread.ensures.grows c.in_ok-thread.ensures.cache (c.in_ok-set_stack.ensures.cache before follows holds) in
     cached_kept meaning detail second third grows tables.within mappings c.sample_thread.new.locator.cache kept
 

@@ -14,7 +14,7 @@ invariant_of-self c =
     let key = found_at (eq_key c.args.key) (keys_of entries) c.in-Some-get_index_of.index (sym c.in-Some-get_index_of.ensures.index) in
     let entry = map_at (λ (e : SampleKey × Sums). e.0) entries c.in-Some-get_index_of.index key.0 key.1 in
     let totals = raised_totals entries c.in-Some-get_index_of.index entry.0.0 entry.0.1 entry.1 c.raise.new.entries.entries c.args.self.now.total c.in-Some.total c.args.weight c.args.self.now.samples_summed c.args.self.now.weights_summed c.in-Some.ensures.some c.in-Some.ensures.fits.0 c.in-Some.ensures.fits.1 (c.raise.ensures entry.0.0 entry.0.1 entry.1) in
-    record { samples_summed = totals.0; weights_summed = totals.1 }
+    record { samples_summed = totals.0; weights_summed = totals.1; fits = c.in-Some.ensures.fits }
 
 pub returns-in-Some-get_index_of-clause-ok : goal.returns-in-Some-get_index_of-clause-ok
 returns-in-Some-get_index_of-clause-ok c = λ counted tallies. raised_sample eq_key key-Decides c.args.self.now _ c.args.key c.args.weight counted tallies c.in-Some.ensures.some c.in-Some-get_index_of.index (sym c.in-Some-get_index_of.ensures.index) c.in-Some.ensures.fits.0 c.in-Some.ensures.fits.1 c.raise.ensures
@@ -24,7 +24,7 @@ invariant_of-self-in-Ok c =
     let absent : lookup (eq_key c.args.key) c.args.self.now.entries.entries ≡ None = search rules in
     let longer = c.in-Ok.ensures.entries ∙ insert_entry-new eq_key c.args.self.now.entries c.args.key _ absent in
     let totals = first_totals c.args.self.now.entries.entries c.insert.new.self.entries c.args.key c.args.self.now.total c.in-Some.total c.args.weight c.args.self.now.samples_summed c.args.self.now.weights_summed c.in-Some.ensures.some longer in
-    record { samples_summed = totals.0; weights_summed = totals.1 }
+    record { samples_summed = totals.0; weights_summed = totals.1; fits = c.in-Some.ensures.fits }
 
 pub returns-in-Ok-clause-ok : goal.returns-in-Ok-clause-ok
 returns-in-Ok-clause-ok c = λ counted tallies.

@@ -1,6 +1,13 @@
-use Rattle.pprof.specs.Wire.{message_field, number_field}
+use Rattle.std.proofs.Common.{OnOk}
+use Rattle.pprof.specs.Messages.{line_fields}
+use Rattle.pprof.specs.Wire.{message_fields}
+use Rattle.pprof.specs.steps.Wire.{Appends}
 use Rattle.pprof.proofs.Writing.{last, more}
 use Rattle.pprof.proofs.encode.LocationMessage.push.Goals as goal
 
 pub returns : goal.returns
-returns c = last (message_field 4 (number_field 1 c.args.self.now.function_id)) c.push_message.new.bytes.items c.push_message.result (more (more c.in_ok-push_number.ensures c.in_ok-push_number-2.ensures) c.in_ok-push_number-3.ensures) c.push_message.ensures
+returns c =
+    let l = c.args.self.now in
+    let lines : OnOk c.push_messages.result (Appends c.push_number-3.new.bytes.items (message_fields 4 line_fields l.lines.items) c.push_messages.new.bytes.items) =
+    rw (← c.as_slice.ensures.value) c.push_messages.ensures in
+    last (message_fields 4 line_fields l.lines.items) c.push_messages.new.bytes.items c.push_messages.result (more (more c.in_ok-push_number.ensures c.in_ok-push_number-2.ensures) c.in_ok-push_number-3.ensures) lines
