@@ -1,6 +1,7 @@
 //! Tests of what stands for Rattle's library, against Rust's own.
 
 use dewikura::shim::bstr::ByteSlice;
+use dewikura::shim::hasher::HashSecrets;
 use dewikura::shim::indexmap::{IndexMap, IndexSet};
 use dewikura::shim::itoa;
 use dewikura::shim::json::{Writer, is_number};
@@ -14,7 +15,8 @@ use dewikura::shim::std::slice::SliceExt;
 use dewikura::shim::std::string::String as ShimString;
 use dewikura::shim::std::vec::Vec as ShimVec;
 use std::cell::Cell;
-use std::collections;
+use std::collections::{self, HashSet};
+use std::hash::BuildHasher;
 use std::io::{self, BufRead, Cursor, ErrorKind, Read, Seek, SeekFrom, Write};
 
 /// Numbers that look random (xorshift64).
@@ -105,6 +107,27 @@ fn index_map_keeps_the_order_of_insertion() {
     assert_eq!(set.into_iter().collect::<Vec<_>>(), order);
 }
 
+// Keys of a type that differ in one place have different hashes, and maps have different secrets.
+#[test]
+fn hashes_of_other_keys_are_others() {
+    let secrets = HashSecrets::new();
+    let mut texts = HashSet::new();
+    for len in 1..70 {
+        for (position, byte) in (0..len).flat_map(|position| (1..4).map(move |byte| (position, byte))) {
+            let mut text = vec![0_u8; len];
+            text[position] = byte;
+            assert!(texts.insert(secrets.hash_one(text.as_slice())), "{text:?}");
+        }
+    }
+    let (mut numbers, mut shifted, mut pairs) = (HashSet::new(), HashSet::new(), HashSet::new());
+    for number in 0..5000_u64 {
+        assert!(numbers.insert(secrets.hash_one(number)), "{number}");
+        assert!(shifted.insert(secrets.hash_one(number << 40)), "{number}");
+        assert!(pairs.insert(secrets.hash_one((number / 50, number % 50))), "{number}");
+    }
+    assert_ne!(secrets.hash_one(1), HashSecrets::new().hash_one(1));
+}
+
 #[test]
 fn sorts_are_stable() {
     let mut numbers = Numbers(9);
@@ -163,6 +186,14 @@ fn owners_share_a_value_that_the_last_one_drops() {
 #[test]
 fn numbers_have_their_digits() {
     let mut buffer = itoa::Buffer::new();
+    for power in (0..20).map(|exponent| 10_u64.pow(exponent)).chain((0..64).map(|bit| 1 << bit)) {
+        for number in [power - 1, power, power + 1] {
+            let mut bytes = [0; 20];
+            let start = itoa::write_digits(number, &mut bytes, 20);
+            assert_eq!(str::from_utf8(&bytes[start..]), Ok(number.to_string().as_str()));
+            assert_eq!(itoa::count_digits(number), 20 - start);
+        }
+    }
     for number in [0, 9, 10, 99, 100, 101, 12345, u64::MAX / 10, u64::MAX] {
         assert_eq!(buffer.format(number), number.to_string());
     }
@@ -207,6 +238,33 @@ fn json_has_commas_and_escapes() {
     write().expect("memory");
     let text = "{\"a\\\"\\\\\\n\\u0001\u{7f}é\":[1,-2,null,true],\"b\":\"\"}";
     assert_eq!(writer.into_inner().as_slice(), text.as_bytes());
+}
+
+// Texts of each length up to 40 bytes, with each byte that is escaped, and those beside them, at each position.
+#[test]
+fn each_text_is_escaped_as_by_its_bytes() {
+    let escaped = |byte: u8| match byte {
+        b'"' | b'\\' => format!("\\{}", char::from(byte)),
+        8 => "\\b".to_string(),
+        9 => "\\t".to_string(),
+        10 => "\\n".to_string(),
+        12 => "\\f".to_string(),
+        13 => "\\r".to_string(),
+        0..0x20 => format!("\\u{byte:04x}"),
+        _ => char::from(byte).to_string(),
+    };
+    for len in 1..40 {
+        for position in 0..len {
+            for byte in (0..0x24).chain([b'[', b'\\', b']', 0x7f]) {
+                let mut text = vec![b'a'; len];
+                text[position] = byte;
+                let mut writer = Writer::new(ShimVec::new(Global));
+                writer.string(str::from_utf8(&text).expect("UTF-8")).expect("memory");
+                let expected: String = text.iter().map(|byte| escaped(*byte)).collect();
+                assert_eq!(writer.into_inner().as_slice(), format!("\"{expected}\"").as_bytes());
+            }
+        }
+    }
 }
 
 #[test]

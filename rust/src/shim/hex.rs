@@ -22,6 +22,7 @@ pub fn encode<T: AsRef<[u8]>>(alloc: Global, data: T) -> Result<String, AllocErr
 }
 
 /// Writes the digits of bytes into `out`, which has just that length.
+#[inline]
 pub fn encode_to_slice<T: AsRef<[u8]>>(data: T, out: &mut [u8]) -> Result<(), FromHexError> {
     let bytes = data.as_ref();
     if bytes.len().checked_mul(2) != Some(out.len()) {
@@ -34,6 +35,8 @@ pub fn encode_to_slice<T: AsRef<[u8]>>(data: T, out: &mut [u8]) -> Result<(), Fr
     Ok(())
 }
 
+// By arithmetic, which several digits share, as a table isn't.
+#[inline]
 fn digit(value: u8) -> u8 {
-    b"0123456789abcdef"[usize::from(value & 15)]
+    value + if value < 10 { b'0' } else { b'a' - 10 }
 }

@@ -1,9 +1,10 @@
 //! Maps and sets in the order of insertion.
 
+use super::hasher::HashSecrets;
 use super::std::alloc::{AllocError, AllocFailed, Global};
 use ::std::borrow::Borrow;
 use ::std::fmt;
-use ::std::hash::{BuildHasher, Hash, RandomState};
+use ::std::hash::{BuildHasher, Hash};
 use ::std::ops::{Index, IndexMut};
 use ::std::slice;
 
@@ -14,7 +15,7 @@ const FIRST_PLACES: usize = 8;
 struct Table {
     // There are more places than entries, so each search ends.
     places: ::std::vec::Vec<Place>,
-    hasher: RandomState,
+    secrets: HashSecrets,
 }
 
 // A part of the hash of an entry's key, and the entry's position plus 1, or 0. More entries than fit are no memory.
@@ -28,7 +29,7 @@ impl Table {
     fn new() -> Table {
         Table {
             places: ::std::vec::Vec::new(),
-            hasher: RandomState::new(),
+            secrets: HashSecrets::new(),
         }
     }
 
@@ -51,7 +52,7 @@ impl Table {
 
     // The part of a key's hash that the places have.
     fn hash<Q: Hash + ?Sized>(&self, key: &Q) -> u32 {
-        self.hasher.hash_one(key) as u32
+        self.secrets.hash_one(key) as u32
     }
 
     // Makes room for one more entry than `len`.
@@ -104,7 +105,18 @@ impl<K: Eq + Hash, V> IndexMap<K, V> {
         if self.entries.is_empty() {
             return None;
         }
-        let hash = self.table.hash(key);
+        self.position(self.table.hash(key), key)
+    }
+
+    // The position of a key with this hash.
+    #[inline]
+    fn position<Q: Eq + ?Sized>(&self, hash: u32, key: &Q) -> Option<usize>
+    where
+        K: Borrow<Q>,
+    {
+        if self.entries.is_empty() {
+            return None;
+        }
         self.table.find(hash, |at| self.entries[at].0.borrow() == key).ok()
     }
 
@@ -138,12 +150,11 @@ impl<K: Eq + Hash, V> IndexMap<K, V> {
         Ok(self.entries.try_reserve(1)?)
     }
 
-    // Appends the entry of a key that is absent and returns its position, or gives both back.
-    fn push(&mut self, key: K, value: V) -> Result<usize, AllocFailed<(K, V)>> {
+    // Appends the entry of an absent key with this hash and returns its position, or gives both back.
+    fn push(&mut self, hash: u32, key: K, value: V) -> Result<usize, AllocFailed<(K, V)>> {
         if self.reserve().is_err() {
             return Err(AllocFailed { value: (key, value) });
         }
-        let hash = self.table.hash(&key);
         self.entries.push((key, value));
         let entry = self.entries.len() as u32;
         self.table.put(Place { hash, entry });
@@ -152,10 +163,11 @@ impl<K: Eq + Hash, V> IndexMap<K, V> {
 
     /// Sets the value of a key and returns the one before, or gives both back.
     pub fn insert(&mut self, key: K, value: V) -> Result<Option<V>, AllocFailed<(K, V)>> {
-        if let Some(found) = self.get_mut(&key) {
-            return Ok(Some(::std::mem::replace(found, value)));
+        let hash = self.table.hash(&key);
+        if let Some(at) = self.position(hash, &key) {
+            return Ok(Some(::std::mem::replace(&mut self.entries[at].1, value)));
         }
-        self.push(key, value)?;
+        self.push(hash, key, value)?;
         Ok(None)
     }
 }
@@ -279,9 +291,10 @@ impl<T: Eq + Hash> IndexSet<T> {
 
     /// Adds a value. Returns its position and whether it wasn't there, or gives it back.
     pub fn insert_full(&mut self, value: T) -> Result<(usize, bool), AllocFailed<T>> {
-        match self.0.get_index_of(&value) {
+        let hash = self.0.table.hash(&value);
+        match self.0.position(hash, &value) {
             Some(at) => Ok((at, false)),
-            None => match self.0.push(value, ()) {
+            None => match self.0.push(hash, value, ()) {
                 Ok(at) => Ok((at, true)),
                 Err(failed) => Err(AllocFailed { value: failed.value.0 }),
             },

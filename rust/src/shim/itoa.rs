@@ -99,36 +99,63 @@ fn with_sign(is_negative: bool, bytes: &mut [u8; MAX_LEN], start: usize) -> usiz
     start - 1
 }
 
+/// The number of digits of a number.
+#[inline]
+pub fn count_digits(n: u64) -> usize {
+    // 1233 / 4096 is about the logarithm of 2 to the base 10.
+    let bits = 64 - (n | 1).leading_zeros() as usize;
+    let fewest = (bits * 1233) >> 12;
+    fewest + usize::from(n >= POWERS[fewest])
+}
+
 /// Writes the digits of a number before the index `end`, and returns where they begin.
 #[inline]
 pub fn write_digits(n: u64, bytes: &mut [u8], end: usize) -> usize {
+    let mut room = &mut bytes[..end];
     let mut rest = n;
-    let mut start = end;
     while rest >= 100 {
-        let pair = (rest % 100) as usize;
+        room = put_last(room, PAIRS[(rest % 100) as usize]);
         rest /= 100;
-        start -= 2;
-        bytes[start..start + 2].copy_from_slice(&PAIRS[2 * pair..2 * pair + 2]);
     }
     if rest >= 10 {
-        let pair = rest as usize;
-        start -= 2;
-        bytes[start..start + 2].copy_from_slice(&PAIRS[2 * pair..2 * pair + 2]);
+        room = put_last(room, PAIRS[rest as usize]);
     } else {
-        start -= 1;
-        bytes[start] = b'0' + rest as u8;
+        room = put_last(room, [b'0' + rest as u8]);
     }
-    start
+    room.len()
+}
+
+// Puts digits at the end of the room, and returns what is left of it.
+#[inline]
+fn put_last<const N: usize>(room: &mut [u8], digits: [u8; N]) -> &mut [u8] {
+    match room.split_last_chunk_mut() {
+        Some((before, last)) => {
+            *last = digits;
+            before
+        }
+        None => unreachable!("the caller has room for the digits"),
+    }
 }
 
 /// The digits of each number below 100.
-const PAIRS: [u8; 200] = {
-    let mut pairs = [0; 200];
+const PAIRS: [[u8; 2]; 100] = {
+    let mut pairs = [[0; 2]; 100];
     let mut number = 0;
     while number < 100 {
-        pairs[2 * number] = b'0' + (number / 10) as u8;
-        pairs[2 * number + 1] = b'0' + (number % 10) as u8;
+        pairs[number] = [b'0' + (number / 10) as u8, b'0' + (number % 10) as u8];
         number += 1;
     }
     pairs
+};
+
+/// The least number with more digits than the index, but for 0, which has one digit too.
+const POWERS: [u64; 20] = {
+    let mut powers = [0; 20];
+    let mut index = 0;
+    while index < 20 {
+        powers[index] = 10_u64.pow(index as u32);
+        index += 1;
+    }
+    powers[0] = 0;
+    powers
 };

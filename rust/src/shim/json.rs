@@ -6,9 +6,16 @@ use super::std::fmt::InlineText;
 use super::std::vec::Vec;
 use ::std::fmt;
 
-/// Appends tokens to a buffer. It writes the commas and colons, and leaves the nesting to its caller.
+/// The fewest bytes that are made room for at a time, and the most beyond those that are needed.
+const LEAST_AHEAD: usize = 128;
+const MOST_AHEAD: usize = 16 * 1024;
+
+/// Appends tokens to a buffer. It writes the commas and colons, and leaves the nesting to its caller. A call that fails
+/// has written nothing.
 pub struct Writer {
-    out: Vec<u8>,
+    // The first `len` bytes are written. The others are room, filled ahead so that a token needs one test.
+    bytes: Vec<u8>,
+    len: usize,
     is_after_value: bool,
 }
 
@@ -16,14 +23,17 @@ impl Writer {
     /// A writer that appends to a buffer.
     pub fn new(out: Vec<u8>) -> Writer {
         Writer {
-            out,
+            len: out.len(),
+            bytes: out,
             is_after_value: false,
         }
     }
 
     /// The buffer.
     pub fn into_inner(self) -> Vec<u8> {
-        self.out
+        let mut bytes = self.bytes;
+        bytes.truncate(self.len);
+        bytes
     }
 
     /// `{`
@@ -71,15 +81,13 @@ impl Writer {
     /// A number.
     #[inline]
     pub fn u64(&mut self, n: u64) -> Result<(), AllocError> {
-        let mut buffer = itoa::Buffer::new();
-        self.number(buffer.format(n))
+        self.digits(false, n)
     }
 
     /// A number.
     #[inline]
     pub fn i64(&mut self, n: i64) -> Result<(), AllocError> {
-        let mut buffer = itoa::Buffer::new();
-        self.number(buffer.format(n))
+        self.digits(n < 0, n.unsigned_abs())
     }
 
     /// The shortest number that reads back as `x`, with a sign at each exponent. `x` is finite.
@@ -102,32 +110,94 @@ impl Writer {
         self.put(self.is_after_value, b"null", true)
     }
 
+    // The next `count` bytes of the room.
+    #[inline]
+    fn room(&mut self, count: usize) -> Result<&mut [u8], AllocError> {
+        if self.bytes.len() - self.len < count {
+            self.grow(count)?;
+        }
+        Ok(&mut self.bytes[self.len..][..count])
+    }
+
+    #[cold]
+    #[inline(never)]
+    fn grow(&mut self, count: usize) -> Result<(), AllocError> {
+        let ahead = count.max(self.bytes.len().clamp(LEAST_AHEAD, MOST_AHEAD));
+        self.bytes.resize(self.len.checked_add(ahead).ok_or(AllocError)?, 0)
+    }
+
     #[inline]
     fn put(&mut self, has_comma: bool, text: &[u8], is_value: bool) -> Result<(), AllocError> {
-        self.out.try_reserve(text.len() + 1)?;
-        if has_comma {
-            self.out.push(b',')?;
-        }
-        self.out.extend_from_slice(text)?;
+        let room = self.room(text.len() + 1)?;
+        // The comma counts only where it is wanted.
+        room[0] = b',';
+        let start = usize::from(has_comma);
+        copy_text(&mut room[start..][..text.len()], text);
+        self.len += start + text.len();
         self.is_after_value = is_value;
         Ok(())
     }
 
-    // A text in quotes; `close` is the second one, and the colon of a key.
-    fn quoted(&mut self, text: &str, close: &[u8], is_value: bool) -> Result<(), AllocError> {
-        self.put(self.is_after_value, b"\"", is_value)?;
-        let bytes = text.as_bytes();
-        let mut at = 0;
-        while let Some(plain) = bytes[at..].iter().position(|byte| needs_escape(*byte)) {
-            self.out.extend_from_slice(&bytes[at..at + plain])?;
-            self.escaped(bytes[at + plain])?;
-            at += plain + 1;
+    #[inline]
+    fn digits(&mut self, is_negative: bool, n: u64) -> Result<(), AllocError> {
+        let end = usize::from(self.is_after_value) + usize::from(is_negative) + itoa::count_digits(n);
+        let room = self.room(end)?;
+        room[0] = b',';
+        let start = itoa::write_digits(n, room, end);
+        if is_negative {
+            room[start - 1] = b'-';
         }
-        self.out.extend_from_slice(&bytes[at..])?;
-        self.out.extend_from_slice(close)
+        self.len += end;
+        self.is_after_value = true;
+        Ok(())
     }
 
-    fn escaped(&mut self, byte: u8) -> Result<(), AllocError> {
+    // A text in quotes; `close` is the second one, and the colon of a key.
+    #[inline]
+    fn quoted(&mut self, text: &str, close: &[u8], is_value: bool) -> Result<(), AllocError> {
+        let text = text.as_bytes();
+        if !is_plain(text) {
+            return self.escaped(text, close, is_value);
+        }
+        let has_comma = self.is_after_value;
+        let room = self.room(text.len() + close.len() + 2)?;
+        room[0] = b',';
+        let start = usize::from(has_comma);
+        room[start] = b'"';
+        let room = &mut room[start + 1..];
+        copy_text(&mut room[..text.len()], text);
+        room[text.len()..][..close.len()].copy_from_slice(close);
+        self.len += start + 1 + text.len() + close.len();
+        self.is_after_value = is_value;
+        Ok(())
+    }
+
+    // The same, of a text in which some bytes are escaped.
+    #[cold]
+    #[inline(never)]
+    fn escaped(&mut self, text: &[u8], close: &[u8], is_value: bool) -> Result<(), AllocError> {
+        let (len, is_after_value) = (self.len, self.is_after_value);
+        let written = self.append_escaped(text, close, is_value);
+        if written.is_err() {
+            self.len = len;
+            self.is_after_value = is_after_value;
+        }
+        written
+    }
+
+    fn append_escaped(&mut self, text: &[u8], close: &[u8], is_value: bool) -> Result<(), AllocError> {
+        self.put(self.is_after_value, b"\"", is_value)?;
+        let mut rest = text;
+        while let Some(plain) = rest.iter().position(|byte| needs_escape(*byte)) {
+            self.put(false, &rest[..plain], is_value)?;
+            self.escape(rest[plain], is_value)?;
+            rest = &rest[plain + 1..];
+        }
+        self.put(false, rest, is_value)?;
+        self.put(false, close, is_value)
+    }
+
+    fn escape(&mut self, byte: u8, is_value: bool) -> Result<(), AllocError> {
         let letter = match byte {
             b'"' | b'\\' => byte,
             8 => b'b',
@@ -137,16 +207,66 @@ impl Writer {
             b'\t' => b't',
             _ => {
                 let digits = |value: u8| b"0123456789abcdef"[usize::from(value & 15)];
-                return self.out.extend_from_slice(&[b'\\', b'u', b'0', b'0', digits(byte >> 4), digits(byte)]);
+                return self.put(false, &[b'\\', b'u', b'0', b'0', digits(byte >> 4), digits(byte)], is_value);
             }
         };
-        self.out.extend_from_slice(&[b'\\', letter])
+        self.put(false, &[b'\\', letter], is_value)
+    }
+}
+
+// Copies a text to a place of its length. A short one is two copies of a fixed size, which may overlap.
+#[inline]
+fn copy_text(to: &mut [u8], text: &[u8]) {
+    match text.len() {
+        0 => {}
+        1 => copy_ends::<1>(to, text),
+        2..4 => copy_ends::<2>(to, text),
+        4..8 => copy_ends::<4>(to, text),
+        8..16 => copy_ends::<8>(to, text),
+        16..32 => copy_ends::<16>(to, text),
+        _ => to.copy_from_slice(text),
+    }
+}
+
+#[inline]
+fn copy_ends<const N: usize>(to: &mut [u8], text: &[u8]) {
+    if let (Some(to), Some(first)) = (to.first_chunk_mut::<N>(), text.first_chunk()) {
+        *to = *first;
+    }
+    if let (Some(to), Some(last)) = (to.last_chunk_mut::<N>(), text.last_chunk()) {
+        *to = *last;
     }
 }
 
 #[inline]
 fn needs_escape(byte: u8) -> bool {
     byte < 0x20 || byte == b'"' || byte == b'\\'
+}
+
+// Whether no byte of a text is escaped.
+#[inline]
+fn is_plain(text: &[u8]) -> bool {
+    let (words, _) = text.as_chunks();
+    if let Some(last) = text.last_chunk() {
+        let found = words.iter().fold(escapes(*last), |found, word| found | escapes(*word));
+        return found == 0;
+    }
+    if let (Some([a, b, c, d]), Some([e, f, g, h])) = (text.first_chunk(), text.last_chunk()) {
+        return escapes([*a, *b, *c, *d, *e, *f, *g, *h]) == 0;
+    }
+    !text.iter().any(|byte| needs_escape(*byte))
+}
+
+// A number that isn't 0 if one of 8 bytes is escaped: one that is less than 0x20, or 0 without the bits of a quote or a
+// backslash.
+#[inline]
+fn escapes(bytes: [u8; 8]) -> u64 {
+    const ONES: u64 = 0x0101_0101_0101_0101;
+    let word = u64::from_le_bytes(bytes);
+    let below = |word: u64, limit: u64| word.wrapping_sub(ONES * limit) & !word;
+    let quote = word ^ (ONES * 0x22);
+    let backslash = word ^ (ONES * 0x5c);
+    (below(word, 0x20) | below(quote, 1) | below(backslash, 1)) & (ONES << 7)
 }
 
 // A number in JSON, from Rust's form `d.ddde-n`: without an exponent where that has few zeros.

@@ -11,6 +11,7 @@ pub mod bstr;
 pub mod c;
 #[cfg(feature = "programs")]
 pub mod clap;
+pub mod hasher;
 pub mod hex;
 pub mod indexmap;
 pub mod itoa;

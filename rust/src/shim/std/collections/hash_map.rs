@@ -1,5 +1,6 @@
 //! Maps without an order.
 
+use crate::shim::hasher::HashSecrets;
 use crate::shim::std::alloc::{AllocError, AllocFailed, Global};
 use std::borrow::Borrow;
 use std::collections::hash_map;
@@ -9,16 +10,16 @@ use std::hash::Hash;
 pub use std::collections::hash_map::{Iter, Keys, Values};
 
 /// Rust's map. Each method that allocates returns an error when memory runs out.
-pub struct HashMap<K, V>(hash_map::HashMap<K, V>);
+pub struct HashMap<K, V>(hash_map::HashMap<K, V, HashSecrets>);
 
 impl<K: Eq + Hash, V> HashMap<K, V> {
     /// An empty map, which has allocated nothing.
     pub fn new(_: Global) -> HashMap<K, V> {
-        HashMap(hash_map::HashMap::new())
+        HashMap(hash_map::HashMap::with_hasher(HashSecrets::new()))
     }
 
     /// The map of Rust.
-    pub fn into_std(self) -> hash_map::HashMap<K, V> {
+    pub fn into_std(self) -> hash_map::HashMap<K, V, HashSecrets> {
         self.0
     }
 
