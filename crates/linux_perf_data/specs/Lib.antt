@@ -14,6 +14,7 @@ pub mod AttributeSources
 pub mod IdPairs
 pub mod Pauses
 pub mod RecordViews
+pub mod ContentRecords
 pub mod Iter
 pub mod BufferedRecord
 pub mod PerfFile

@@ -11,7 +11,7 @@ use crate::perf_file::PerfFile;
 use crate::pipe::opening::{PipeOpening, open_pipe};
 use crate::records::input::RecordInput;
 use crate::records::iter::Stage;
-pub use crate::records::iter::{PerfRecordIter, RecordPlace};
+pub use crate::records::iter::{IdentifiedRecord, NextItem, PerfItem, PerfRecordIter, RecordPlace};
 use perfdata_base::source::{PlacedSource, Source};
 use perfdata_sections::error::Error;
 use std::alloc::Global;
@@ -218,5 +218,68 @@ impl<R: Source + Drop> PerfFileReader<R> {
         let mut source = source;
         let opening = open_pipe(alloc, &mut source)?;
         PerfFileReader::from_pipe_opening(alloc, source, opening)
+    }
+}
+
+/// Which records a reader returns that [`PerfFileReader::parse_file`] and the others don't.
+#[derive(Clone, Copy, Debug, Default, PartialEq, Eq)]
+pub struct ReadOptions {
+    /// Whether compressed records (types 81 and 83), which `perf record -z` writes, are returned as records.
+    /// Otherwise the first one is an error of kind `Unsupported`.
+    pub compressed_records: bool,
+}
+
+impl ReadOptions {
+    // The reader with these options.
+    fn apply<R>(self, reader: PerfFileReader<R>) -> PerfFileReader<R> {
+        let mut reader = reader;
+        reader.record_iter.returns_compressed = self.compressed_records;
+        reader
+    }
+
+    /// Opens a perf.data file, as [`PerfFileReader::parse_file`] does.
+    ///
+    /// # Errors
+    ///
+    /// The errors are those of [`PerfFileReader::parse_file`].
+    pub fn parse_file<C: PlacedSource + Drop>(
+        &self,
+        alloc: Global,
+        source: C,
+    ) -> Result<PerfFileReader<C>, Error>
+        ensures named_error { IfErr result IsFileOpeningError }
+    {
+        Ok(self.apply(PerfFileReader::parse_file(alloc, source)?))
+    }
+
+    /// Opens a perf.data file that wasn't finished, or whose end is missing, as
+    /// [`PerfFileReader::parse_unfinished_file`] does.
+    ///
+    /// # Errors
+    ///
+    /// The errors are those of [`PerfFileReader::parse_unfinished_file`].
+    pub fn parse_unfinished_file<C: PlacedSource + Drop>(
+        &self,
+        alloc: Global,
+        source: C,
+    ) -> Result<PerfFileReader<C>, Error>
+        ensures named_error { IfErr result IsFileOpeningError }
+    {
+        Ok(self.apply(PerfFileReader::parse_unfinished_file(alloc, source)?))
+    }
+
+    /// Opens a perf.data pipe, as [`PerfFileReader::parse_pipe`] does.
+    ///
+    /// # Errors
+    ///
+    /// The errors are those of [`PerfFileReader::parse_pipe`].
+    pub fn parse_pipe<R: Source + Drop>(
+        &self,
+        alloc: Global,
+        source: R,
+    ) -> Result<PerfFileReader<R>, Error>
+        ensures named_error { IfErr result IsPipeOpeningError }
+    {
+        Ok(self.apply(PerfFileReader::parse_pipe(alloc, source)?))
     }
 }

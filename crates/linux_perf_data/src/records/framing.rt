@@ -161,7 +161,11 @@ pub(crate) fn skip_body<R: Source>(source: &mut R, count: u64) -> Result<bool, E
 }
 
 // Appends `count` bytes of the source to `body`. `false` if the source has fewer.
-fn append_body<R: Source>(source: &mut R, body: &mut Vec<u8>, count: usize) -> Result<bool, Error>
+pub(crate) fn append_body<R: Source>(
+    source: &mut R,
+    body: &mut Vec<u8>,
+    count: usize,
+) -> Result<bool, Error>
     ensures appends { AppendsBody (R.state source.old) body.old.items count result body.new.items
         (R.state source.new) }
     ensures memory_only_to_grow { IfErr result

@@ -9,7 +9,9 @@ use crate::attributes::lookup::AttributeLookup;
 use crate::metadata_records::apply_metadata;
 use crate::perf_file::PerfFile;
 use crate::records::buffered::{contains_next_record, has_no_pending_header};
-use crate::records::framing::{HEADER_SIZE, read_header, read_record_body, skip_body};
+use crate::records::framing::{
+    HEADER_SIZE, append_body, is_compressed, read_header, read_record_body, skip_body,
+};
 use crate::records::input::{RecordInput, at_truncation};
 use perfdata_base::event::{PerfEventHeader, RawEventRecord, RecordType};
 use perfdata_base::place::RecordParseInfo;
@@ -17,7 +19,7 @@ use perfdata_base::raw::{Endianness, RawData};
 use perfdata_base::source::{Source, unexpected_eof};
 use perfdata_records::record::{PerfFileRecord, RawUserRecord, UserRecordType};
 use perfdata_sections::constants::PERF_RECORD_FINISHED_ROUND;
-use perfdata_sections::error::{Error, ReadError};
+use perfdata_sections::error::{Error, ReadError, unsupported};
 use std::alloc::Global;
 
 /// The offset, the round and the time of a record.
@@ -46,9 +48,9 @@ pub(crate) enum RecordOrigin {
     User(UserRecordType),
 }
 
-// A record whose attribute and time are known, without its body.
+/// A record whose attribute and time are known, without its body.
 #[derive(Clone, Copy)]
-pub(crate) struct IdentifiedRecord {
+pub struct IdentifiedRecord {
     pub(crate) place: RecordPlace,
     pub(crate) record_type: RecordType,
     pub(crate) misc: u16,
@@ -118,6 +120,20 @@ impl IdentifiedRecord {
         }
     }
 
+    /// Returns the offset, the round and the time of the record.
+    pub fn place(self) -> RecordPlace
+        ensures { result ≡ self.place }
+    {
+        self.place
+    }
+
+    /// Returns the type of the record.
+    pub fn record_type(self) -> RecordType
+        ensures { result ≡ self.record_type }
+    {
+        self.record_type
+    }
+
     // The index of its attribute, or 0 if a tool wrote the record.
     pub(crate) fn attr_index(self) -> usize
         ensures { result ≡ attr_index_by_origin self.origin }
@@ -160,6 +176,27 @@ impl IdentifiedRecord {
     }
 }
 
+/// The next part of the records of a source, without the body of a record.
+#[derive(Clone, Copy)]
+pub enum NextItem {
+    /// A record. Its body is that of [`PerfRecordIter::body`].
+    Record(IdentifiedRecord),
+    /// The end of the round with this number, which is that of its records: a round marker (FINISHED_ROUND).
+    RoundEnd(u64),
+}
+
+/// The next part of the records of a source.
+#[derive(Clone, Copy)]
+pub enum PerfItem<'a> {
+    /// A record, with its place.
+    Record(RecordPlace, PerfFileRecord<'a>),
+    /// The end of a round: a round marker (FINISHED_ROUND).
+    RoundEnd {
+        /// The number of the round, which is that of its records.
+        round: u64,
+    },
+}
+
 /// Returns the records of a source one by one, in the order of the source, and reuses one buffer for their
 /// bodies.
 ///
@@ -175,10 +212,17 @@ pub struct PerfRecordIter<R> {
     pub(crate) offset: u64,
     pub(crate) round: u64,
     pub(crate) stage: Stage,
+    // Whether compressed records are returned. If not, they are an error.
+    pub(crate) returns_compressed: bool,
+    // The header and the end of the compressed record at which the last call failed, whose body is in `body`.
+    pub(crate) compressed: Option<(PerfEventHeader, u64)>,
     ghost rounds_fit: { round ≤ offset },
 }
 
 impl<R> PerfRecordIter<R> {
+    ghost use Rattle.std.specs.Prelude.{None, false};
+    ghost use Rattle.linux_perf_data.specs.ContentRecords.{IdentifiesContent};
+
     // An iterator at the first record.
     pub(crate) fn new(
         alloc: Global,
@@ -194,6 +238,7 @@ impl<R> PerfRecordIter<R> {
         ensures attribute_lookup { result.attribute_lookup ≡ attribute_lookup }
         ensures stage { result.stage ≡ stage }
         ensures starts_at_zero { (result.offset ≡ 0) × (result.round ≡ 0) }
+        ensures no_compressed { (result.returns_compressed ≡ false) × (result.compressed ≡ None) }
     {
         PerfRecordIter {
             alloc,
@@ -205,7 +250,79 @@ impl<R> PerfRecordIter<R> {
             offset: 0,
             round: 0,
             stage,
+            returns_compressed: false,
+            compressed: None,
         }
+    }
+
+    /// Returns the body of the record that was read last, with its aux data.
+    pub fn body(&self) -> &[u8]
+        ensures { result.now ≡ self.now.body.items }
+    {
+        self.body.as_slice()
+    }
+
+    /// Returns the byte order of the records.
+    pub fn endian(&self) -> Endianness
+        ensures { result ≡ self.now.endian }
+    {
+        self.endian
+    }
+
+    /// Returns the number of round markers that were read.
+    pub fn round(&self) -> u64
+        ensures { result ≡ self.now.round }
+    {
+        self.round
+    }
+
+    /// Returns the offset in bytes from the first record up to which records were returned. After an error it
+    /// is the offset of the record with the error.
+    pub fn offset(&self) -> u64
+        ensures { result ≡ self.now.offset }
+    {
+        self.offset
+    }
+
+    /// Returns a record with its attribute and its time as the iterator would at this offset, in the current
+    /// round: the record isn't in the source, but in the content of a compressed record.
+    #[inline(always)]
+    pub fn identify(
+        &mut self,
+        offset: u64,
+        header: PerfEventHeader,
+        body: &[u8],
+    ) -> IdentifiedRecord
+        ensures { IdentifiesContent self.old offset header body.now result self.new }
+    {
+        let round = self.round;
+        IdentifiedRecord::identify(&mut self.attribute_lookup, body, offset, round, header)
+    }
+
+    /// Returns an identified record with its body.
+    #[inline(always)]
+    pub fn record<'a>(&self, identified: IdentifiedRecord, body: &'a [u8]) -> PerfFileRecord<'a> {
+        let parse_info = *self.attribute_lookup.parse_info(identified.attr_index());
+        identified.into_record(parse_info, self.endian, RawData::Single(body))
+    }
+
+    // Goes on after the compressed record at which the last call failed. Returns that record; `None` if the
+    // call failed for another reason.
+    #[inline(never)]
+    fn take_compressed(&mut self) -> Option<IdentifiedRecord> {
+        let (header, end) = self.compressed.take()?;
+        let (offset, round) = (self.offset, self.round);
+        let lookup = &mut self.attribute_lookup;
+        let identified = IdentifiedRecord::identify(
+            lookup,
+            self.body.as_slice(),
+            offset,
+            round,
+            header,
+        );
+        self.offset = end;
+        self.stage = Stage::Running;
+        Some(identified)
     }
 }
 
@@ -249,7 +366,7 @@ impl<R: Source> PerfRecordIter<R> {
     ///
     /// Otherwise it returns false, because the next call may wait, the next bytes are no valid record, or the
     /// source ends. It also returns false while the record header that the opening of a pipe read ahead is
-    /// pending.
+    /// pending, and before a compressed record.
     pub fn is_next_buffered(&self) -> bool
         ensures exact { IsTrue result ↔ IsNextBuffered R.state R.buffered self.now }
         ensures prefix_of_remaining { TestsNextBuffered R.state self.now result }
@@ -270,6 +387,22 @@ impl<R: Source> PerfRecordIter<R> {
             return false;
         }
         contains_next_record(self.endian, self.input, self.offset, buffered)
+    }
+
+    // Reads the body of a compressed record, and fails as `next_raw_record` does. The record is then in
+    // `self.compressed`, unless its body can't be read.
+    #[inline(never)]
+    fn read_compressed(
+        &mut self,
+        header: PerfEventHeader,
+        end: u64,
+    ) -> Result<Option<PerfEventHeader>, Error> {
+        let size = (header.size - HEADER_SIZE) as usize;
+        if !append_body(&mut self.source, &mut self.body, size)? {
+            return at_truncation(self.input, Error::Read(ReadError::PerfEventData));
+        }
+        self.compressed = Some((header, end));
+        Err(unsupported())
     }
 
     // Reads the next raw record: a marker, or a record whose body is then in `self.body`. `None` if a pipe
@@ -296,6 +429,9 @@ impl<R: Source> PerfRecordIter<R> {
             self.round += 1;
             self.offset = end;
             return Ok(Some(header));
+        }
+        if self.returns_compressed && is_compressed(header.type_) {
+            return self.read_compressed(header, end);
         }
         match read_record_body(&mut self.source, self.endian, header, &mut self.body, end)? {
             Some(end) => {
@@ -334,6 +470,59 @@ impl<R: Source> PerfRecordIter<R> {
         }
     }
 
+    // Reads the next raw record. The body of a record is then in `self.body`.
+    #[inline(always)]
+    fn step(&mut self, perf_file: &mut PerfFile) -> Result<Option<NextItem>, Error> {
+        if !self.may_start_record() {
+            self.stage = Stage::Ended;
+            return Ok(None);
+        }
+        let offset = self.offset;
+        let round = self.round;
+        match self.next_raw_record() {
+            Ok(Some(header)) => {
+                if header.type_ == PERF_RECORD_FINISHED_ROUND {
+                    return Ok(Some(NextItem::RoundEnd(round)));
+                }
+                match self.process_record(perf_file, offset, round, header) {
+                    Ok(identified) => Ok(Some(NextItem::Record(identified))),
+                    Err(error) => {
+                        self.offset = offset;
+                        self.stage = Stage::Failed;
+                        Err(error)
+                    }
+                }
+            }
+            Ok(None) => {
+                self.stage = Stage::Ended;
+                Ok(None)
+            }
+            Err(error) => {
+                self.stage = Stage::Failed;
+                Err(error)
+            }
+        }
+    }
+
+    /// Reads up to the end of the next record or round marker, and no byte more, or `Ok(None)` at the end of
+    /// the records. The errors are those of [`PerfRecordIter::next_record`].
+    #[inline(always)]
+    pub fn advance_item(&mut self, perf_file: &mut PerfFile) -> Result<Option<NextItem>, Error> {
+        match self.stage {
+            Stage::Running => {}
+            Stage::Failed => return Err(Error::Failed),
+            Stage::Ended => return Ok(None),
+        }
+        self.body.clear();
+        match self.step(perf_file) {
+            Ok(next) => Ok(next),
+            Err(error) => match self.take_compressed() {
+                Some(identified) => Ok(Some(NextItem::Record(identified))),
+                None => Err(error),
+            },
+        }
+    }
+
     // Reads up to the end of the next record, whose body is then in `self.body`.
     #[inline(always)]
     fn advance(&mut self, perf_file: &mut PerfFile) -> Result<Option<IdentifiedRecord>, Error>
@@ -342,42 +531,34 @@ impl<R: Source> PerfRecordIter<R> {
         ensures pauses { PausesOnlyAtEndOrError (R.state self.old.source) result (R.state self.new.source) }
         ensures same_loan { R.loan self.new.source ≡ R.loan self.old.source }
     {
-        match self.stage {
-            Stage::Running => {}
-            Stage::Failed => return Err(Error::Failed),
-            Stage::Ended => return Ok(None),
-        }
-        self.body.clear();
         // For the prover: the offset has 64 bits.
         let _offset = self.offset;
-        'raw_records: while self.may_start_record() {
-            let offset = self.offset;
-            let round = self.round;
-            match self.next_raw_record() {
-                Ok(Some(header)) => {
-                    if header.type_ != PERF_RECORD_FINISHED_ROUND {
-                        match self.process_record(perf_file, offset, round, header) {
-                            Ok(identified) => return Ok(Some(identified)),
-                            Err(error) => {
-                                self.offset = offset;
-                                self.stage = Stage::Failed;
-                                return Err(error);
-                            }
-                        }
-                    }
-                }
-                Ok(None) => {
-                    self.stage = Stage::Ended;
-                    return Ok(None);
-                }
-                Err(error) => {
-                    self.stage = Stage::Failed;
-                    return Err(error);
-                }
+        'items: loop {
+            match self.advance_item(perf_file)? {
+                Some(NextItem::Record(identified)) => return Ok(Some(identified)),
+                Some(NextItem::RoundEnd(_)) => {}
+                None => return Ok(None),
             }
         }
-        self.stage = Stage::Ended;
-        Ok(None)
+    }
+
+    /// Returns the next record, or the end of a round, or `Ok(None)` at the end of the records.
+    ///
+    /// The call consumes a record or a round marker, and no byte more: the end of a round is returned before
+    /// a byte after its marker is read. The records and the errors are those of
+    /// [`PerfRecordIter::next_record`].
+    #[inline(always)]
+    pub fn next_item(&mut self, perf_file: &mut PerfFile) -> Result<Option<PerfItem<'_>>, Error>
+        ensures named_error { IfErr result IsRecordError }
+    {
+        match self.advance_item(perf_file)? {
+            Some(NextItem::Record(identified)) => {
+                let record = self.record(identified, self.body.as_slice());
+                Ok(Some(PerfItem::Record(identified.place, record)))
+            }
+            Some(NextItem::RoundEnd(round)) => Ok(Some(PerfItem::RoundEnd { round })),
+            None => Ok(None),
+        }
     }
 
     /// Returns the next record with its [`RecordPlace`], or `Ok(None)` at the end of the records.
@@ -401,7 +582,8 @@ impl<R: Source> PerfRecordIter<R> {
     /// - `InvalidPerfEventSize` if the size in a record header is below 8, the size of the record header.
     /// - `Read(PerfEventData)` if a body or aux data are truncated or can't be read, or would end past 2^64 -
     ///   1.
-    /// - `IoError` of kind `Unsupported` for a compressed record (types 81 and 83), whose bytes are consumed.
+    /// - `IoError` of kind `Unsupported` for a compressed record (types 81 and 83), whose bytes are consumed,
+    ///   unless [`ReadOptions`](crate::file_reader::ReadOptions) let compressed records be returned.
     /// - `Memory` if memory runs out for a body. The body with its aux data is then larger than the
     ///   capacity of the buffer.
     ///
@@ -426,13 +608,8 @@ impl<R: Source> PerfRecordIter<R> {
     {
         match self.advance(perf_file) {
             Ok(Some(identified)) => {
-                let endian = self.endian;
-                let parse_info = *self.attribute_lookup.parse_info(identified.attr_index());
-                let body = RawData::Single(self.body.as_slice());
-                Ok(Some((
-                    identified.place,
-                    identified.into_record(parse_info, endian, body),
-                )))
+                let record = self.record(identified, self.body.as_slice());
+                Ok(Some((identified.place, record)))
             }
             Ok(None) => Ok(None),
             Err(error) => Err(error),
