@@ -3,7 +3,8 @@
 The static libraries are found in the folder DEWIKURA_DIR: libdewikura.a, and liblibc_c.a unless the first contains it, as an installed one
 does. Without this variable they are those of the repository (crates/dewikura/out/libdewikura.a, and liblibc_c.a of the kit whose `rt` is on
 PATH), or of the installation whose share/dewikura/python this folder is. Without the kit, cargo builds the shared library and the programs,
-from the repository or from the sources in a source distribution, and the wheel contains the programs too."""
+from the repository or from the sources in a source distribution. The wheel contains the programs too: those that cargo builds, or that are beside
+the library (DIR/bin of DIR/lib, crates/NAME/out in the repository)."""
 
 import ast
 import base64
@@ -166,12 +167,19 @@ def wheel_files():
     return files
 
 
+def program_paths():
+    """The programs by name: those that cargo builds, of the installation (`bin` beside the folder of the library), or of the repository."""
+    if cargo_folder():
+        return {path.stem: path for path in cargo_build("build", "--bins")}
+    installed = library_folder()
+    paths = {name: installed.parent / "bin" / name if installed else REPOSITORY / "crates" / name / "out" / name for name in PROGRAMS}
+    return {name: path for name, path in paths.items() if path.exists()}
+
+
 def programs(folder):
-    """The names and the bytes of the programs, if cargo builds them."""
-    if not cargo_folder():
-        return {}
-    made = {path.stem: path for path in cargo_build("build", "--bins")}
-    return {f"{folder}/scripts/{made[name].name}": made[name].read_bytes() for name in PROGRAMS}
+    """The names and the bytes of the programs that are there. `dewikura.profile` needs perffold."""
+    made = program_paths()
+    return {f"{folder}/scripts/{made[name].name}": made[name].read_bytes() for name in PROGRAMS if name in made}
 
 
 def prepare_metadata_for_build_wheel(metadata_directory, config_settings=None):

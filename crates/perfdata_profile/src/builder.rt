@@ -1,9 +1,9 @@
 //! Counts the samples of a recording.
 
-ghost use Rattle.std.specs.Prelude.{◌≡◌, [], ◌∷◌, ◌++◌, ℕ, List, Option, Some, OnErr, OnOk, IfOk};
+ghost use Rattle.std.specs.Prelude.{◌≡◌, [], ◌∷◌, ◌++◌, ℕ, List, Option, Some, OnErr, OnOk, IfOk, IfSome};
 ghost use Rattle.perfdata_profile.specs.Samples.{sample_task};
 ghost use Rattle.perfdata_profile.specs.Values.{AreLocations, IsKey, IsName};
-ghost use Rattle.perfdata_profile.specs.Building.{HasKey};
+ghost use Rattle.perfdata_profile.specs.Building.{HasKey, has_list};
 ghost use Rattle.perfdata_profile.specs.steps.Building.{HasStack, HasThread};
 ghost use Rattle.perfdata_profile.specs.Locating.{CacheHolds, located_lists};
 ghost use Rattle.perfdata_profile.specs.steps.Locating.{LocatorGrows};
@@ -18,6 +18,7 @@ use crate::locations::LocationId;
 use crate::options::{ProfileOptions, ThreadIds};
 use crate::profile::Profile;
 use crate::resolver::Resolver;
+use crate::sample_list::{ListedSample, SampleList};
 use crate::sums::{SampleKey, SampleSums, SampleWeight, Thread};
 use perfdata_events::event::EventRecord;
 use perfdata_events::sample::SampleRecord;
@@ -37,6 +38,8 @@ pub struct ProfileBuilder<R> {
     spaces: AddressSpaces,
     locator: Locator,
     sums: SampleSums,
+    /// The samples, if they are listed.
+    samples: Option<SampleList>,
     frames: Vec<SampleFrame>,
     stack: Vec<LocationId>,
 }
@@ -95,9 +98,21 @@ fn sample_thread<R: Resolver>(
     })
 }
 
+// Returns a list without samples, if samples are listed.
+fn new_list(alloc: Global, times: bool) -> Option<SampleList>
+    ensures { has_list result ≡ times }
+{
+    if times {
+        Some(SampleList::new(alloc))
+    } else {
+        None
+    }
+}
+
 impl<R: Resolver> ProfileBuilder<R> {
     ghost use Rattle.perfdata_events.specs.declared.event.EventRecord.TheVariants.{Sample};
     ghost use Rattle.perfdata_profile.specs.Building.{Builds, IsProfileOf, options_of};
+    ghost use Rattle.perfdata_profile.specs.SampleLists.{ListsSamples};
     ghost use Rattle.perfdata_profile.specs.Samples.{Given, applied_as, applied_in};
     ghost use Rattle.perfdata_profile.specs.declared.options.ProfileOptions.{ProfileOptions};
     ghost use Rattle.perfdata_profile.specs.declared.sums.SampleWeight.{SampleWeight};
@@ -112,6 +127,7 @@ impl<R: Resolver> ProfileBuilder<R> {
             spaces: AddressSpaces::new(alloc),
             locator: Locator::new(alloc, options.detail),
             sums: SampleSums::new(alloc),
+            samples: new_list(alloc, options.times),
             frames: Vec::new(alloc),
             stack: Vec::new(alloc),
         }
@@ -166,6 +182,33 @@ impl<R: Resolver> ProfileBuilder<R> {
         })
     }
 
+    // Counts a sample with a key, and lists it if samples are listed.
+    fn count_key(
+        &mut self,
+        key: SampleKey,
+        time: Option<u64>,
+        weight: u64,
+    ) -> Result<(), ProfileError>
+        ensures err { OnErr result (KeepsSums self.old.sums self.new.sums) }
+    {
+        let Some(samples) = &mut self.samples else {
+            return self.sums.add(key, weight);
+        };
+        let entry = self.sums.entry_index(&key);
+        samples.push(ListedSample {
+            time,
+            entry,
+            weight,
+        })?;
+        match self.sums.add(key, weight) {
+            Ok(()) => Ok(()),
+            Err(error) => {
+                samples.remove_last();
+                Err(error)
+            }
+        }
+    }
+
     // Counts a sample.
     fn count(
         &mut self,
@@ -182,7 +225,7 @@ impl<R: Resolver> ProfileBuilder<R> {
         ensures err { OnErr result (KeepsSums self.old.sums self.new.sums) }
     {
         match self.key(misc, sample, weight.column) {
-            Ok(key) => self.sums.add(key, weight.weight),
+            Ok(key) => self.count_key(key, sample.timestamp, weight.weight),
             Err(AllocError) => Err(ProfileError::Memory),
         }
     }
@@ -311,15 +354,24 @@ impl<R: Resolver> ProfileBuilder<R> {
     pub fn finish(self) -> (Profile, R)
         ensures profile { (options : ProfileOptions) (given : List Given) →
             Builds R.meaning options given self → IsProfileOf R.meaning options given result.0 }
+        ensures list { (options : ProfileOptions) (given : List Given) →
+            Builds R.meaning options given self →
+            IfSome result.0.samples (λ list. ListsSamples R.meaning options given result.0 list) }
         ensures resolver { result.1 ≡ self.resolver }
     {
         let ProfileBuilder {
             resolver,
             locator,
             sums,
+            samples,
             ..
         } = self;
         let tables = locator.into_tables();
-        (Profile { tables, sums }, resolver)
+        let profile = Profile {
+            tables,
+            sums,
+            samples,
+        };
+        (profile, resolver)
     }
 }

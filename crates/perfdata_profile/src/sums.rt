@@ -189,6 +189,14 @@ impl SampleSums {
         }
     }
 
+    // Returns the index of a key, or the one that it gets when it is counted first.
+    pub(crate) fn entry_index(&self, key: &SampleKey) -> usize {
+        match self.entries.get_index_of(key) {
+            Some(index) => index,
+            None => self.entries.len(),
+        }
+    }
+
     // Adds a key that wasn't counted before, with its sums.
     fn add_entry(&mut self, key: SampleKey, sums: Sums) -> Result<(), ProfileError> {
         let Some(total) = self.total.checked_sum(sums) else {

@@ -5,21 +5,22 @@ from ._structs import Counter, Frame, JitRecord, Mapping, Record, Sample, Sample
 from .constants import VERSION as _VERSION
 from .constants import (AttrFlag, BodyError, CpuMode, DsoKind, EventType, Feature, FrameContext, InputKind, JitRecordType, MappingKind,
                         ReadFormat, RecordType, SampleType, Status, SymbolFileType)
-from .errors import FormatError, PerfDataError, TruncatedError, UnsupportedError
+from .errors import DewikuraError, FormatError, PerfDataError, TruncatedError, UnsupportedError
 from .jitdump import (JitDebugEntry, JitDebugInfo, JitDump, JitHeader, JitLoad, JitMove, JitRecords, JitUnwinding, jitdump_from_buffer,
                       open_jitdump)
 from .names import demangle
+from .profiles import Comparison, Profile, profile
 from .recording import (Attribute, BuildId, Counters, Frames, Kind, Mappings, Recording, Records, Samples, StackFrames, StackMappings, Stacks,
                         Symbol, SymbolFile, Tasks, from_buffer, input_kind, open)
 
 __version__ = ".".join(map(str, _VERSION))
 
 __all__ = [
-    "AttrFlag", "Attribute", "BodyError", "BuildId", "Counter", "Counters", "CpuMode", "DsoKind", "EventType", "Feature", "FormatError",
+    "AttrFlag", "Attribute", "BodyError", "BuildId", "Comparison", "Counter", "Counters", "CpuMode", "DewikuraError", "DsoKind", "EventType", "Feature", "FormatError",
     "Frame", "FrameContext", "Frames", "InputKind", "JitDebugEntry", "JitDebugInfo", "JitDump", "JitHeader", "JitLoad", "JitMove",
-    "JitRecord", "JitRecordType", "JitRecords", "JitUnwinding", "Kind", "Mapping", "MappingKind", "Mappings", "PerfDataError",
+    "JitRecord", "JitRecordType", "JitRecords", "JitUnwinding", "Kind", "Mapping", "MappingKind", "Mappings", "PerfDataError", "Profile",
     "ReadFormat", "Record", "RecordType", "Recording", "Records", "Sample", "SampleDetails", "SampleType", "Samples", "Stack",
     "StackFrame", "StackFrames", "StackMapping", "StackMappings", "Stacks", "Status", "Symbol", "SymbolFile", "SymbolFileType", "Task",
     "Tasks", "TruncatedError", "UnsupportedError", "demangle", "from_buffer", "input_kind", "jitdump_from_buffer", "library_version",
-    "open", "open_jitdump",
+    "open", "open_jitdump", "profile",
 ]

@@ -165,7 +165,10 @@ class StackMappings(StructSequence[StackMapping]):
 
 
 class Stacks(StructSequence[Stack]):
-    """The samples of a recording in order of time, as stacks, with their `frames` and the `mappings` of these."""
+    """The samples of a recording in order of time, as stacks, with their `frames` and the `mappings` of these.
+
+    Frames are those of the call chains. Copies of stacks (`--call-graph dwarf`) aren't unwound, but by `dewikura.profile`.
+    """
 
     _struct = Stack
 
