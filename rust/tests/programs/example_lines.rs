@@ -76,7 +76,7 @@ fn mapping_of(path: &str) -> Result<Mapping, Box<dyn Error>> {
 }
 
 /// The offset in a file with these segments of an address.
-fn offset_of(segments: &[Segment], address: u64) -> Option<u64> {
+fn file_offset(segments: &[Segment], address: u64) -> Option<u64> {
     let contains = |segment: &&Segment| {
         segment.is_executable && address.wrapping_sub(segment.address) < segment.file_size
     };
@@ -119,7 +119,7 @@ impl Lines<'_> {
                 files,
                 mapping,
                 segments,
-            } => match offset_of(segments, address) {
+            } => match file_offset(segments, address) {
                 Some(offset) => Ok(files.find_source(0, mapping, offset)?),
                 None => Ok(None),
             },

@@ -160,7 +160,7 @@ impl<K, V> BTreeMap<K, V> {
     }
 
     // Inserts an entry at a place that has room for it.
-    fn insert_at(&mut self, node: usize, position: usize, entry: (K, V)) {
+    fn insert_entry(&mut self, node: usize, position: usize, entry: (K, V)) {
         match self.nodes.get_mut(node) {
             Some(found) => {
                 found.keys.insert(position, entry.0);
@@ -170,21 +170,21 @@ impl<K, V> BTreeMap<K, V> {
         }
     }
 
-    fn remove_at(&mut self, node: usize, position: usize) -> (K, V) {
+    fn remove_entry(&mut self, node: usize, position: usize) -> (K, V) {
         (self.nodes[node].keys.remove(position), self.values[node].remove(position))
     }
 
-    fn replace_at(&mut self, node: usize, position: usize, entry: (K, V)) -> (K, V) {
+    fn replace_entry(&mut self, node: usize, position: usize, entry: (K, V)) -> (K, V) {
         let key = std::mem::replace(&mut self.nodes[node].keys[position], entry.0);
         (key, std::mem::replace(&mut self.values[node][position], entry.1))
     }
 
-    fn push_at(&mut self, node: usize, entry: (K, V)) {
+    fn push_entry(&mut self, node: usize, entry: (K, V)) {
         self.nodes[node].keys.push(entry.0);
         self.values[node].push(entry.1);
     }
 
-    fn pop_at(&mut self, node: usize) -> Option<(K, V)> {
+    fn pop_entry(&mut self, node: usize) -> Option<(K, V)> {
         Some((self.nodes[node].keys.pop()?, self.values[node].pop()?))
     }
 }
@@ -243,7 +243,7 @@ impl<K: Ord, V> BTreeMap<K, V> {
         }
         match self.make_room(&key) {
             Ok((node, position)) => {
-                self.insert_at(node, position, (key, value));
+                self.insert_entry(node, position, (key, value));
                 self.len += 1;
                 Ok(None)
             }
@@ -357,8 +357,8 @@ impl<K: Ord, V> BTreeMap<K, V> {
         }
         let [old, new] = two(&mut self.values, left, right as usize);
         move_to(old, MIN + 1, new);
-        if let Some(middle) = self.pop_at(left) {
-            self.insert_at(parent, position, middle);
+        if let Some(middle) = self.pop_entry(left) {
+            self.insert_entry(parent, position, middle);
         }
         self.nodes[parent].children.insert(position + 1, right);
         Ok(())
@@ -399,10 +399,10 @@ impl<K: Ord, V> BTreeMap<K, V> {
         let mut at = node;
         loop {
             match self.nodes[at].keys.binary_search_by(|found| found.borrow().cmp(key)) {
-                Ok(position) if self.nodes[at].is_leaf() => return self.remove_at(at, position),
+                Ok(position) if self.nodes[at].is_leaf() => return self.remove_entry(at, position),
                 Ok(position) => {
                     if let Some(neighbor) = self.take_neighbor(at, position) {
-                        return self.replace_at(at, position, neighbor);
+                        return self.replace_entry(at, position, neighbor);
                     }
                     at = self.merge(at, position);
                 }
@@ -420,14 +420,14 @@ impl<K: Ord, V> BTreeMap<K, V> {
             while !self.nodes[last].is_leaf() {
                 last = self.fill(last, self.nodes[last].keys.len());
             }
-            return self.pop_at(last);
+            return self.pop_entry(last);
         }
         if self.nodes[right].keys.len() > MIN {
             let mut first = right;
             while !self.nodes[first].is_leaf() {
                 first = self.fill(first, 0);
             }
-            return Some(self.remove_at(first, 0));
+            return Some(self.remove_entry(first, 0));
         }
         None
     }
@@ -457,9 +457,9 @@ impl<K: Ord, V> BTreeMap<K, V> {
         let left = self.nodes[at].children[position] as usize;
         let right = self.nodes[at].children[position + 1] as usize;
         let child = self.nodes[left].children.pop();
-        if let Some(last) = self.pop_at(left) {
-            let middle = self.replace_at(at, position, last);
-            self.insert_at(right, 0, middle);
+        if let Some(last) = self.pop_entry(left) {
+            let middle = self.replace_entry(at, position, last);
+            self.insert_entry(right, 0, middle);
         }
         if let Some(child) = child {
             self.nodes[right].children.insert(0, child);
@@ -470,9 +470,9 @@ impl<K: Ord, V> BTreeMap<K, V> {
     fn move_left(&mut self, at: usize, position: usize) {
         let left = self.nodes[at].children[position] as usize;
         let right = self.nodes[at].children[position + 1] as usize;
-        let first = self.remove_at(right, 0);
-        let middle = self.replace_at(at, position, first);
-        self.push_at(left, middle);
+        let first = self.remove_entry(right, 0);
+        let middle = self.replace_entry(at, position, first);
+        self.push_entry(left, middle);
         if !self.nodes[right].is_leaf() {
             let child = self.nodes[right].children.remove(0);
             self.nodes[left].children.push(child);
@@ -483,8 +483,8 @@ impl<K: Ord, V> BTreeMap<K, V> {
     fn merge(&mut self, at: usize, position: usize) -> usize {
         let left = self.nodes[at].children[position] as usize;
         let right = self.nodes[at].children.remove(position + 1);
-        let middle = self.remove_at(at, position);
-        self.push_at(left, middle);
+        let middle = self.remove_entry(at, position);
+        self.push_entry(left, middle);
         let [joined, emptied] = two(&mut self.nodes, left, right as usize);
         move_to(&mut emptied.keys, 0, &mut joined.keys);
         move_to(&mut emptied.children, 0, &mut joined.children);
@@ -541,7 +541,7 @@ impl<'a, K, V> OccupiedEntry<'a, K, V> {
 impl<'a, K, V> VacantEntry<'a, K, V> {
     /// Sets the value of the key.
     pub fn insert(self, value: V) -> &'a mut V {
-        self.map.insert_at(self.node, self.position, (self.key, value));
+        self.map.insert_entry(self.node, self.position, (self.key, value));
         self.map.len += 1;
         self.map.value_mut(self.node, self.position)
     }
