@@ -36,7 +36,7 @@ aside { overflow: auto; border-left: 1px solid var(--edge); padding: 4px; }
 table { border-collapse: collapse; font: 12px monospace; white-space: pre; }
 caption, th { text-align: left; font-weight: bold; padding: 4px 6px; }
 td { padding: 1px 6px; text-align: right; }
-td:last-child { text-align: left; }
+td:nth-child(n+3) { text-align: left; }
 tr.chosen { background: var(--mark); }
 td button { all: unset; cursor: pointer; }
 td button:focus-visible { outline: 2px solid; }
