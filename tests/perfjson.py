@@ -1,6 +1,12 @@
 """The members of perfjson's lines, and damaged copies of recordings, for the scripts that compare both."""
 import struct
 
+KERNEL = "MMAP LOST COMM EXIT THROTTLE UNTHROTTLE FORK READ SAMPLE MMAP2 AUX ITRACE_START LOST_SAMPLES SWITCH SWITCH_CPU_WIDE NAMESPACES KSYMBOL BPF_EVENT CGROUP TEXT_POKE AUX_OUTPUT_HW_ID".split()
+TOOLS = "HEADER_ATTR HEADER_EVENT_TYPE HEADER_TRACING_DATA HEADER_BUILD_ID FINISHED_ROUND ID_INDEX AUXTRACE_INFO AUXTRACE AUXTRACE_ERROR THREAD_MAP CPU_MAP STAT_CONFIG STAT STAT_ROUND EVENT_UPDATE TIME_CONV HEADER_FEATURE COMPRESSED FINISHED_INIT COMPRESSED2".split()
+SIMPLEPERF = "KERNEL_SYMBOL DSO SYMBOL SPLIT SPLIT_END EVENT_ID CALLCHAIN UNWINDING_RESULT TRACING_DATA".split()
+NUMBERS = {name: number for number, name in enumerate(KERNEL, 1)}
+NUMBERS |= {name: number for number, name in enumerate(TOOLS, 64)}
+NUMBERS |= {"SIMPLEPERF_" + name: number for number, name in enumerate(SIMPLEPERF, 32769)}
 CONTEXTS = {"unknown": 0, "kernel": 1, "user": 2, "hypervisor": 3, "guest_kernel": 4, "guest_user": 5, "guest": 6}
 
 
@@ -8,6 +14,14 @@ def value(line, name):
     """The number of a member of a line; 0 without it."""
     found = line.get(name, 0)
     return int(found, 16) if isinstance(found, str) else found
+
+
+def fields(line):
+    """The fields that perflist writes too."""
+    kind = line["type"]
+    number = kind if isinstance(kind, int) else NUMBERS[kind]
+    values = [line["offset"], line["round"], line.get("time"), line.get("attr"), number, line["misc"]]
+    return ["-" if value is None else str(value) for value in values]
 
 
 def hexadecimal(text):

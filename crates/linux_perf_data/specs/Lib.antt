@@ -14,7 +14,9 @@ pub mod AttributeSources
 pub mod IdPairs
 pub mod Pauses
 pub mod RecordViews
+pub mod ContentRecords
 pub mod Iter
+pub mod Items
 pub mod BufferedRecord
 pub mod PerfFile
 pub mod FeatureNumbers

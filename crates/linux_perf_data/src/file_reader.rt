@@ -1,6 +1,7 @@
 //! Opens a file or a pipe, and returns its metadata and an iterator over its records.
 ghost use Rattle.std.specs.Prelude.{◌≡◌, ◌+◌, ◌≤◌, IfOk, IfErr};
 ghost use Rattle.linux_perf_data.specs.Attribute.{AreConsistent};
+ghost use Rattle.linux_perf_data.specs.Items.{ReturnsNoCompressed};
 ghost use Rattle.linux_perf_data.specs.NamedErrors.{IsFileOpeningError, IsPipeOpeningError};
 ghost use Rattle.linux_perf_data.specs.PerfFile.{attributes_of_file};
 
@@ -11,7 +12,7 @@ use crate::perf_file::PerfFile;
 use crate::pipe::opening::{PipeOpening, open_pipe};
 use crate::records::input::RecordInput;
 use crate::records::iter::Stage;
-pub use crate::records::iter::{PerfRecordIter, RecordPlace};
+pub use crate::records::iter::{IdentifiedRecord, NextItem, PerfItem, PerfRecordIter, RecordPlace};
 use perfdata_base::source::{PlacedSource, Source};
 use perfdata_sections::error::Error;
 use std::alloc::Global;
@@ -59,7 +60,8 @@ impl<C: PlacedSource + Drop> PerfFileReader<C> {
         opening: FileOpening,
     ) -> Result<PerfFileReader<C>, Error>
         requires { AreConsistent (attributes_of_file opening.perf_file) }
-        ensures { BuildsReader C.state source opening result }
+        ensures builds { BuildsReader C.state source opening result }
+        ensures no_compressed { IfOk result (λ r. ReturnsNoCompressed r.record_iter) }
     {
         let perf_file = opening.perf_file;
         let endian = perf_file.endian;
@@ -111,6 +113,7 @@ impl<C: PlacedSource + Drop> PerfFileReader<C> {
         ensures parses { ParsesFile C.state (C.state source) result }
         ensures pauses { IfOk result (λ r. (C.state r.record_iter.source).pauses ≡ (C.state source).pauses) }
         ensures same_loan { IfOk result (λ r. C.loan r.record_iter.source ≡ C.loan source) }
+        ensures no_compressed { IfOk result (λ r. ReturnsNoCompressed r.record_iter) }
     {
         let mut source = source;
         let opening = open_file(alloc, &mut source)?;
@@ -147,6 +150,7 @@ impl<C: PlacedSource + Drop> PerfFileReader<C> {
         ensures parses { ParsesUnfinishedFile C.state (C.state source) result }
         ensures pauses { IfOk result (λ r. (C.state r.record_iter.source).pauses ≡ (C.state source).pauses) }
         ensures same_loan { IfOk result (λ r. C.loan r.record_iter.source ≡ C.loan source) }
+        ensures no_compressed { IfOk result (λ r. ReturnsNoCompressed r.record_iter) }
     {
         let mut source = source;
         let opening = open_unfinished_file(alloc, &mut source)?;
@@ -165,7 +169,8 @@ impl<R: Source + Drop> PerfFileReader<R> {
         opening: PipeOpening,
     ) -> Result<PerfFileReader<R>, Error>
         requires { AreConsistent (attributes_of_file opening.perf_file) }
-        ensures { BuildsPipeReader R.state source opening result }
+        ensures builds { BuildsPipeReader R.state source opening result }
+        ensures no_compressed { IfOk result (λ r. ReturnsNoCompressed r.record_iter) }
     {
         let perf_file = opening.perf_file;
         let endian = perf_file.endian;
@@ -214,9 +219,73 @@ impl<R: Source + Drop> PerfFileReader<R> {
         ensures pauses { IfOk result (λ r. (R.state r.record_iter.source).pauses ≤ (R.state source).pauses
             + 1) }
         ensures same_loan { IfOk result (λ r. R.loan r.record_iter.source ≡ R.loan source) }
+        ensures no_compressed { IfOk result (λ r. ReturnsNoCompressed r.record_iter) }
     {
         let mut source = source;
         let opening = open_pipe(alloc, &mut source)?;
         PerfFileReader::from_pipe_opening(alloc, source, opening)
+    }
+}
+
+/// Which records the iterator of a reader returns.
+#[derive(Clone, Copy, Debug, Default, PartialEq, Eq)]
+pub struct ReadOptions {
+    /// Whether [`PerfRecordIter::next_item`] returns compressed records (types 81 and 83), which `perf record
+    /// -z` writes. Otherwise the first one is an error of kind `Unsupported`.
+    pub compressed_records: bool,
+}
+
+impl ReadOptions {
+    // The reader with these options.
+    fn apply<R>(self, reader: PerfFileReader<R>) -> PerfFileReader<R> {
+        let mut reader = reader;
+        reader.record_iter.returns_compressed = self.compressed_records;
+        reader
+    }
+
+    /// Opens a perf.data file, as [`PerfFileReader::parse_file`] does.
+    ///
+    /// # Errors
+    ///
+    /// The errors are those of [`PerfFileReader::parse_file`].
+    pub fn parse_file<C: PlacedSource + Drop>(
+        &self,
+        alloc: Global,
+        source: C,
+    ) -> Result<PerfFileReader<C>, Error>
+        ensures named_error { IfErr result IsFileOpeningError }
+    {
+        Ok(self.apply(PerfFileReader::parse_file(alloc, source)?))
+    }
+
+    /// Opens a perf.data file that wasn't finished, or whose end is missing, as
+    /// [`PerfFileReader::parse_unfinished_file`] does.
+    ///
+    /// # Errors
+    ///
+    /// The errors are those of [`PerfFileReader::parse_unfinished_file`].
+    pub fn parse_unfinished_file<C: PlacedSource + Drop>(
+        &self,
+        alloc: Global,
+        source: C,
+    ) -> Result<PerfFileReader<C>, Error>
+        ensures named_error { IfErr result IsFileOpeningError }
+    {
+        Ok(self.apply(PerfFileReader::parse_unfinished_file(alloc, source)?))
+    }
+
+    /// Opens a perf.data pipe, as [`PerfFileReader::parse_pipe`] does.
+    ///
+    /// # Errors
+    ///
+    /// The errors are those of [`PerfFileReader::parse_pipe`].
+    pub fn parse_pipe<R: Source + Drop>(
+        &self,
+        alloc: Global,
+        source: R,
+    ) -> Result<PerfFileReader<R>, Error>
+        ensures named_error { IfErr result IsPipeOpeningError }
+    {
+        Ok(self.apply(PerfFileReader::parse_pipe(alloc, source)?))
     }
 }

@@ -7,6 +7,7 @@ use linux_perf_data::Error;
 use linux_perf_data::jitdump::JitDumpError;
 use linux_perf_data::source::Counted;
 use linux_perf_data::truncation::{OpeningPart, find_truncated_part};
+use perfdata_compressed::ContentEnd;
 use std::fmt::{Display, Formatter, InlineText};
 use std::fs::File;
 use std::io::ErrorKind;
@@ -249,4 +250,20 @@ pub fn print_error(rt: &HostRuntime, program: &str, input: &str, error: &Program
         }
         ProgramError::Output(cause) => print_output_error(rt, program, cause),
     }
+}
+
+/// Prints that the recording ends in compressed data, if it does: perf drops the end of what it compressed
+/// last. This is no error.
+pub fn print_content_end(rt: &HostRuntime, program: &str, input: &str, end: ContentEnd) {
+    let _ = match end {
+        ContentEnd::Whole => Ok(()),
+        ContentEnd::InBlock => {
+            eprintln!(rt; "{program}: {input}: the compressed data end in a block")
+        }
+        ContentEnd::InRecord(size) => {
+            eprintln!(rt;
+                "{program}: {input}: the compressed data end in a record, after {size} bytes of it"
+            )
+        }
+    };
 }

@@ -1,6 +1,7 @@
 //! How far an input was read.
 use linux_perf_data::event::PerfEventHeader;
 use linux_perf_data::{PerfFileRecord, RecordPlace};
+use perfdata_compressed::SourceRecord;
 
 /// What was read of an input's records.
 #[derive(Clone, Copy)]
@@ -19,12 +20,27 @@ impl Position {
         offset: Some(0),
     };
 
-    /// Counts a record, and moves the position to its end. Records may come in another order than that of the
-    /// input: the position stays where it is, if it is behind the record.
-    pub fn add(&mut self, place: &RecordPlace, record: &PerfFileRecord<'_>) {
+    /// Counts a record, and moves the position to its end, or to the start of its compressed record. Records
+    /// may come in another order than that of the input: the position stays where it is, if it is behind the
+    /// record.
+    pub fn add(&mut self, next: &SourceRecord<'_>) {
         self.records = self.records.saturating_add(1);
-        let end = record_end(place, record);
+        let end = match next.index {
+            Some(_) => next.place.offset,
+            None => record_end(&next.place, &next.record),
+        };
         self.offset = Some(self.offset.unwrap_or(0).max(end));
+    }
+
+    /// The position, or that of the compressed record at this offset, if its content can't be read.
+    pub fn at_error(self, is_in_content: bool, offset: u64) -> Position {
+        if !is_in_content {
+            return self;
+        }
+        Position {
+            records: self.records,
+            offset: Some(offset),
+        }
     }
 }
 

@@ -1,19 +1,19 @@
 //! The opening of a recording: a pipe, or a file, also one that isn't finished or whose end is missing.
 
 use crate::error::InputError;
-use crate::input::{OpenInput, with_buffer};
-use crate::input_bytes::{InputBytes, Source};
-use linux_perf_data::in_memory::InMemoryReader;
+use crate::input::OpenInput;
+use crate::input_bytes::Source;
 use linux_perf_data::truncation::{Completeness, find_whole_parts};
 use linux_perf_data::{
-    Error, PerfFile, PerfFileReader, PerfFileRecord, PerfRecordIter, RecordPlace, UserRecordType,
+    Error, PerfFile, PerfFileReader, PerfFileRecord, PerfRecordIter, ReadOptions, UserRecordType,
 };
 use perfdata_base::header::PerfHeader;
 use perfdata_base::source::PlacedSource;
+use perfdata_compressed::{ContentEnd, SourceRecord};
 use perfdata_order::records::Records;
 use std::alloc::Global;
 use std::io;
-use std::io::{Cursor, SeekFrom};
+use std::io::SeekFrom;
 
 // Why the records after tracing data in a pipe aren't read.
 const TRACING_DATA: &str = "tracing data in a pipe isn't supported: record to a file";
@@ -61,6 +61,20 @@ impl RecordingKind {
         }
     }
 
+    /// Returns the records in order of time. Those of an unfinished file are in the order of the input if
+    /// only samples have times.
+    pub fn records_by_time(
+        self,
+        alloc: Global,
+        perf_file: &PerfFile,
+        records: PerfRecordIter<Source>,
+    ) -> Records<Source> {
+        match self.completeness {
+            Completeness::Complete => Records::by_time(alloc, records),
+            _ => Records::new(alloc, perf_file, records),
+        }
+    }
+
     /// Fails at the record of a pipe after which tracing data follow, whose size isn't in its record header.
     pub fn check_record(self, record: &PerfFileRecord<'_>) -> Result<(), Error> {
         let is_tracing_data = matches!(
@@ -84,9 +98,14 @@ pub struct Recording {
     pub kind: RecordingKind,
 }
 
+// How recordings are read.
+const READ_OPTIONS: ReadOptions = ReadOptions {
+    compressed_records: true,
+};
+
 // Opens a pipe.
 fn open_pipe(alloc: Global, source: Source) -> Result<Recording, Error> {
-    let reader = PerfFileReader::parse_pipe(alloc, source)?;
+    let reader = READ_OPTIONS.parse_pipe(alloc, source)?;
     Ok(Recording {
         reader,
         kind: RecordingKind::PIPE,
@@ -98,8 +117,8 @@ fn open_file(alloc: Global, mut source: Source) -> Result<Recording, Error> {
     let kind = RecordingKind::of_file(alloc, &mut source)?;
     source.seek_to(SeekFrom::Start(0))?;
     let reader = match kind.completeness {
-        Completeness::Complete => PerfFileReader::parse_file(alloc, source)?,
-        _ => PerfFileReader::parse_unfinished_file(alloc, source)?,
+        Completeness::Complete => READ_OPTIONS.parse_file(alloc, source)?,
+        _ => READ_OPTIONS.parse_unfinished_file(alloc, source)?,
     };
     Ok(Recording { reader, kind })
 }
@@ -115,13 +134,6 @@ impl Recording {
             open_file(alloc, source)
         };
         opened.map_err(InputError::Metadata)
-    }
-
-    /// Opens a file with these bytes. Fails with `Metadata` if its metadata can't be read.
-    pub fn open_bytes(alloc: Global, bytes: Vec<u8>) -> Result<Recording, InputError> {
-        let bytes = InputBytes::Memory(Cursor::new(bytes));
-        let source = with_buffer(alloc, bytes).map_err(InputError::Io)?;
-        open_file(alloc, source).map_err(InputError::Metadata)
     }
 }
 
@@ -146,62 +158,20 @@ impl RecordingRecords {
         }
     }
 
+    /// Returns where the content of the compressed records that were read ends.
+    pub fn content_end(&self) -> ContentEnd {
+        self.records.content_end()
+    }
+
     /// Returns the next record, or `None` at the end. Fails at tracing data in a pipe.
     pub fn next_record(
         &mut self,
         perf_file: &mut PerfFile,
-    ) -> Result<Option<(RecordPlace, PerfFileRecord<'_>)>, Error> {
-        let Some((place, record)) = self.records.next_record(perf_file)? else {
+    ) -> Result<Option<SourceRecord<'_>>, Error> {
+        let Some(next) = self.records.next_record(perf_file)? else {
             return Ok(None);
         };
-        self.kind.check_record(&record)?;
-        Ok(Some((place, record)))
+        self.kind.check_record(&next.record)?;
+        Ok(Some(next))
     }
-}
-
-/// An opened recording in memory.
-#[derive(Drop)]
-pub struct RecordingInMemory<'a> {
-    /// The metadata, and the records.
-    pub reader: InMemoryReader<'a>,
-    /// What is known of the records before they are read.
-    pub kind: RecordingKind,
-}
-
-// Opens a complete file in memory.
-fn open_file_in_memory(alloc: Global, bytes: &[u8]) -> Result<RecordingInMemory<'_>, Error> {
-    let kind = RecordingKind::of_file(alloc, &mut Cursor::new(bytes))?;
-    let reader = InMemoryReader::parse_file(alloc, bytes)?;
-    Ok(RecordingInMemory { reader, kind })
-}
-
-// Opens a pipe in memory.
-fn open_pipe_in_memory(alloc: Global, bytes: &[u8]) -> Result<RecordingInMemory<'_>, Error> {
-    let reader = InMemoryReader::parse_pipe(alloc, bytes)?;
-    Ok(RecordingInMemory {
-        reader,
-        kind: RecordingKind::PIPE,
-    })
-}
-
-/// Returns whether a file in memory is complete. Fails with `Metadata` if its header can't be read.
-pub fn is_complete_file(alloc: Global, bytes: &[u8]) -> Result<bool, InputError> {
-    match RecordingKind::of_file(alloc, &mut Cursor::new(bytes)) {
-        Ok(kind) => Ok(kind.completeness == Completeness::Complete),
-        Err(error) => Err(InputError::Metadata(error)),
-    }
-}
-
-/// Opens a pipe or a complete file in memory. Fails with `Metadata` if its metadata can't be read.
-pub fn open_recording_in_memory(
-    alloc: Global,
-    bytes: &[u8],
-    is_pipe: bool,
-) -> Result<RecordingInMemory<'_>, InputError> {
-    let opened = if is_pipe {
-        open_pipe_in_memory(alloc, bytes)
-    } else {
-        open_file_in_memory(alloc, bytes)
-    };
-    opened.map_err(InputError::Metadata)
 }

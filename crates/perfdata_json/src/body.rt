@@ -31,6 +31,8 @@ pub(crate) struct BodyWriter {
     pub(crate) alloc: Global,
     /// Number of bytes that are written of bytes that are no text.
     pub(crate) byte_limit: usize,
+    /// The index of the record in its compressed record.
+    pub(crate) index: Option<u32>,
 }
 
 // A body that isn't parsed.
@@ -216,9 +218,13 @@ impl BodyWriter {
             PerfFileRecord::EventRecord { attr_index, event } => {
                 let endian = event.parse_info.endian;
                 let Some(attribute) = EventAttribute::find(perf_file, *attr_index, endian) else {
-                    return self.unparsed(out, &Envelope::new(place, record, None), event.body);
+                    return self.unparsed(
+                        out,
+                        &Envelope::new(place, self.index, record, None),
+                        event.body,
+                    );
                 };
-                let line = Envelope::new(place, record, attribute.name);
+                let line = Envelope::new(place, self.index, record, attribute.name);
                 let format = &attribute.format;
                 if event.record_type == RecordType::SAMPLE && format.has_known_fields() {
                     return self.sample(out, &line, format, event);
@@ -226,7 +232,7 @@ impl BodyWriter {
                 self.other_record(out, &line, format, event)
             }
             PerfFileRecord::UserRecord(user) => {
-                self.user_record(out, &Envelope::new(place, record, None), user)
+                self.user_record(out, &Envelope::new(place, self.index, record, None), user)
             }
         }
     }

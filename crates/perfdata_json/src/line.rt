@@ -32,6 +32,8 @@ impl TypeMember {
 #[derive(Drop, Serialize)]
 struct TaggedLine<'a, T> {
     offset: u64,
+    #[serde(skip_serializing_if = "Option::is_none")]
+    index: Option<u32>,
     round: u64,
     #[serde(skip_serializing_if = "Option::is_none")]
     time: Option<u64>,
@@ -52,6 +54,8 @@ struct TaggedLine<'a, T> {
 #[derive(Clone, Copy)]
 pub(crate) struct Envelope<'a> {
     pub(crate) place: RecordPlace,
+    // The index in its compressed record.
+    pub(crate) index: Option<u32>,
     pub(crate) attr_index: Option<u64>,
     pub(crate) event: Option<&'a str>,
     pub(crate) record_type: u32,
@@ -67,6 +71,7 @@ impl<'a> Envelope<'a> {
     /// absent.
     pub(crate) fn new(
         place: RecordPlace,
+        index: Option<u32>,
         record: &PerfFileRecord<'_>,
         event: Option<&'a str>,
     ) -> Envelope<'a>
@@ -79,6 +84,7 @@ impl<'a> Envelope<'a> {
                 event: raw,
             } => Envelope {
                 place,
+                index,
                 attr_index: Some(*attr_index as u64),
                 event,
                 record_type: raw.record_type.0,
@@ -87,6 +93,7 @@ impl<'a> Envelope<'a> {
             },
             PerfFileRecord::UserRecord(user) => Envelope {
                 place,
+                index,
                 attr_index: None,
                 event,
                 record_type: user.record_type.record_type().0,
@@ -105,6 +112,7 @@ impl<'a> Envelope<'a> {
     ) -> Result<(), AllocError> {
         let line = TaggedLine {
             offset: self.place.offset,
+            index: self.index,
             round: self.place.round,
             time: self.place.timestamp,
             attr: self.attr_index,
@@ -132,6 +140,8 @@ pub struct JsonLine {
     printed: String,
     byte_limit: usize,
     alloc: Global,
+    // The index of the next line's record in its compressed record.
+    index: Option<u32>,
 }
 
 impl JsonLine {
@@ -147,7 +157,16 @@ impl JsonLine {
             printed: String::new(alloc),
             byte_limit,
             alloc,
+            index: None,
         }
+    }
+
+    /// Sets the index that the records of the next lines have in their compressed record, as a member
+    /// `index`; `None` for records that aren't in one.
+    pub fn set_index(&mut self, index: Option<u32>)
+        ensures { json_text self.new ≡ json_text self.old }
+    {
+        self.index = index;
     }
 }
 
@@ -171,6 +190,7 @@ impl LineFormat for JsonLine {
         let writer = BodyWriter {
             alloc: self.alloc,
             byte_limit: self.byte_limit,
+            index: self.index,
         };
         let mut json = mem::replace(&mut self.bytes, Vec::new(self.alloc));
         if json.resize(MARGIN, 0).is_err() {

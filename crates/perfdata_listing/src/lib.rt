@@ -5,6 +5,7 @@ pub mod by_time;
 pub mod jit;
 pub mod laws;
 pub mod list;
+pub mod source_records;
 
 pub use by_time::list_by_time;
 pub use jit::{list_jit, list_live_jit};
@@ -15,3 +16,4 @@ pub use list::{
 pub use perfdata_listing_lines::line_format::LineFormat;
 pub use perfdata_listing_lines::output::{CountingBufWriter, FlushPending, finish, write_line};
 pub use perfdata_listing_lines::{line, line_format, output};
+pub use source_records::{ListedRecords, SourceLineFormat, list_source_records};

@@ -48,7 +48,7 @@ format_of (held_format.User kind order) = User kind order
 
 -- The held record without its body.
 abbrev pub envelope_of : HeldRecord → RecordEnvelope
-envelope_of held = record { place = held.place; misc = held.misc; format = format_of held.format }
+envelope_of held = record { place = held.place; index = held.index; misc = held.misc; format = format_of held.format }
 
 abbrev pub held_view : HeldRecord → RecordView
 held_view held = view_with (envelope_of held) (body_in held.body)

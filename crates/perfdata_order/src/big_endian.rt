@@ -8,6 +8,7 @@ use linux_perf_data::{
     Error, PerfFile, PerfFileRecord, PerfRecordIter, RawUserRecord, RecordPlace, UserRecordType,
 };
 use perfdata_base::source::Source;
+use perfdata_compressed::{ContentEnd, DecompressedRecords, SourceRecord};
 use perfdata_events::format::EventFormat;
 use perfdata_events::formats::EventFormats;
 use std::alloc::{AllocError, Global};
@@ -30,6 +31,7 @@ pub fn find_format<'a>(
 #[derive(Drop)]
 struct TimedRecord {
     place: RecordPlace,
+    index: Option<u32>,
     record: PerfFileRecord<'static>,
     body: Vec<u8>,
 }
@@ -38,7 +40,7 @@ struct TimedRecord {
 #[derive(Drop)]
 pub struct BigEndianRecords<R> {
     alloc: Global,
-    records: PerfRecordIter<R>,
+    records: DecompressedRecords<R>,
     formats: EventFormats,
     sorter: Sorter<u64, TimedRecord>,
     /// The record that was returned last.
@@ -100,16 +102,13 @@ fn record_time(
 
 impl TimedRecord {
     // Copies a record.
-    fn from_record(
-        alloc: Global,
-        place: RecordPlace,
-        record: &PerfFileRecord<'_>,
-    ) -> Result<TimedRecord, AllocError> {
+    fn from_record(alloc: Global, next: &SourceRecord<'_>) -> Result<TimedRecord, AllocError> {
         let mut body = Vec::new(alloc);
-        record.body().append_to(&mut body)?;
+        next.record.body().append_to(&mut body)?;
         Ok(TimedRecord {
-            place,
-            record: with_body(record, &[]),
+            place: next.place,
+            index: next.index,
+            record: with_body(&next.record, &[]),
             body,
         })
     }
@@ -119,13 +118,17 @@ impl<R> BigEndianRecords<R> {
     pub(crate) fn new(alloc: Global, records: PerfRecordIter<R>) -> BigEndianRecords<R> {
         BigEndianRecords {
             alloc,
-            records,
+            records: DecompressedRecords::new(alloc, records),
             formats: EventFormats::new(alloc),
             sorter: Sorter::new(alloc),
             returned: None,
             has_ended: false,
             failure: None,
         }
+    }
+
+    pub(crate) fn content_end(&self) -> ContentEnd {
+        self.records.content_end()
     }
 
     // Ends all rounds.
@@ -160,9 +163,9 @@ impl<R: Source> BigEndianRecords<R> {
     // Reads the next record. Returns it if it has no time.
     fn read_next(&mut self, perf_file: &mut PerfFile) -> Result<Option<TimedRecord>, Error> {
         match self.records.next_record(perf_file) {
-            Ok(Some((place, record))) => {
-                let time = record_time(&mut self.formats, perf_file, &record)?;
-                let held = TimedRecord::from_record(self.alloc, place, &record)?;
+            Ok(Some(next)) => {
+                let time = record_time(&mut self.formats, perf_file, &next.record)?;
+                let held = TimedRecord::from_record(self.alloc, &next)?;
                 Ok(self.hold(held, time)?)
             }
             Ok(None) => {
@@ -200,10 +203,14 @@ impl<R: Source> BigEndianRecords<R> {
     pub(crate) fn next_record(
         &mut self,
         perf_file: &mut PerfFile,
-    ) -> Result<Option<(RecordPlace, PerfFileRecord<'_>)>, Error> {
+    ) -> Result<Option<SourceRecord<'_>>, Error> {
         self.returned = self.take_next(perf_file)?;
         match &self.returned {
-            Some(held) => Ok(Some((held.place, with_body(&held.record, held.body.as_slice())))),
+            Some(held) => Ok(Some(SourceRecord {
+                place: held.place,
+                index: held.index,
+                record: with_body(&held.record, held.body.as_slice()),
+            })),
             None => Ok(None),
         }
     }

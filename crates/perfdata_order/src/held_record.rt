@@ -24,6 +24,8 @@ pub(crate) enum BodyFormat {
 #[derive(Clone, Copy)]
 pub(crate) struct RecordEnvelope {
     pub(crate) place: RecordPlace,
+    // Its index in its compressed record.
+    pub(crate) index: Option<u32>,
     pub(crate) misc: u16,
     pub(crate) format: BodyFormat,
 }
@@ -31,18 +33,24 @@ pub(crate) struct RecordEnvelope {
 impl RecordEnvelope {
     ghost use Rattle.perfdata_order.specs.HeldRecord.{view_with};
 
-    pub(crate) fn from_record(place: RecordPlace, record: &PerfFileRecord<'_>) -> RecordEnvelope
+    pub(crate) fn from_record(
+        place: RecordPlace,
+        index: Option<u32>,
+        record: &PerfFileRecord<'_>,
+    ) -> RecordEnvelope
         ensures { view_with result (bytes_of (file_record_body «record».now))
             ≡ record_view_of place «record».now }
     {
         match record {
             PerfFileRecord::EventRecord { attr_index, event } => RecordEnvelope {
                 place,
+                index,
                 misc: event.misc,
                 format: BodyFormat::Kernel(*attr_index, event.record_type, event.parse_info),
             },
             PerfFileRecord::UserRecord(user) => RecordEnvelope {
                 place,
+                index,
                 misc: user.misc,
                 format: BodyFormat::User(user.record_type, user.endian),
             },
@@ -104,6 +112,7 @@ impl HeldFormat {
 #[derive(Drop)]
 pub(crate) struct HeldRecord {
     pub(crate) place: RecordPlace,
+    pub(crate) index: Option<u32>,
     pub(crate) misc: u16,
     pub(crate) format: HeldFormat,
     pub(crate) body: HeldBody,
@@ -126,6 +135,7 @@ impl HeldRecord {
         };
         RecordEnvelope {
             place: self.place,
+            index: self.index,
             misc: self.misc,
             format,
         }

@@ -17,7 +17,7 @@ use std::alloc::{AllocError, Global};
 // Held records in rounds, with their bodies and their parse infos.
 #[derive(Drop)]
 pub(crate) struct HeldRecords {
-    pub(crate) sorter: Sorter<u64, HeldRecord>,
+    pub(crate) sorter: Sorter<u128, HeldRecord>,
     bodies: Bodies,
     parse_infos: ParseInfos,
     ghost stored: { All (λ e. IsStored bodies parse_infos e.1) (held_of sorter) } by { Prim.hlevel props },
@@ -75,7 +75,7 @@ impl HeldRecords {
     #[inline(always)]
     pub(crate) fn insert(
         &mut self,
-        key: u64,
+        key: u128,
         envelope: RecordEnvelope,
         body: RawData<'_>,
     ) -> Result<(), AllocError>
@@ -92,6 +92,7 @@ impl HeldRecords {
         let block = body.range.block;
         let held = HeldRecord {
             place: envelope.place,
+            index: envelope.index,
             misc: envelope.misc,
             format,
             body,

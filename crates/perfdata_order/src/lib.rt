@@ -12,6 +12,7 @@ mod held_record;
 mod held_records;
 pub mod in_memory;
 pub mod laws;
+pub mod options;
 mod parse_infos;
 mod reading;
 pub mod records;

@@ -5,10 +5,11 @@ ghost use Rattle.perfdata_order.specs.steps.Reading.{MayHold, HoldsOrCopies, Rea
 
 use crate::held_record::{RecordEnvelope, copy_body};
 use crate::held_records::HeldRecords;
-use crate::in_memory::time_key;
+use crate::options::OrderKey;
 use linux_perf_data::raw::RawData;
 use linux_perf_data::source::Source;
-use linux_perf_data::{Error, PerfFile, PerfRecordIter, RecordPlace};
+use linux_perf_data::{Error, PerfFile};
+use perfdata_compressed::{DecompressedRecords, SourceItem};
 use std::alloc::AllocError;
 
 // The capacity of the buffer for the body of a record that isn't held at once. The size field of a record
@@ -26,42 +27,51 @@ pub(crate) fn held_size(body_len: usize) -> u64
     body_len as u64 + HELD_RECORD_BYTES
 }
 
-// A record that was read.
+// What was read: a record, or the end of a round.
 pub(crate) enum NextRecord {
     // It is held, and counts for these bytes.
     Held(u64),
     // Its body was copied.
     Copied(RecordEnvelope),
+    RoundEnd,
+}
+
+// Which records are held at once.
+#[derive(Clone, Copy)]
+pub(crate) struct HoldRule {
+    pub(crate) key: OrderKey,
+    // The last round of them. There is none if records have to be returned before more are held.
+    pub(crate) last_round: Option<u64>,
 }
 
 // The key of a record that is held at once: it is timed, of the last round or an earlier one, and its body is
 // not large. A copy of a large one may need memory, so it is made before the order changes.
-fn key_to_hold(last_round: Option<u64>, place: RecordPlace, len: usize) -> Option<u64>
-    ensures { IfSome result (MayHold last_round place len) }
+fn key_to_hold(rule: HoldRule, envelope: RecordEnvelope, len: usize) -> Option<u128>
+    ensures { IfSome result (MayHold rule envelope.place len) }
 {
-    let round = last_round?;
-    if place.round > round || len > BODY_CAPACITY {
+    let round = rule.last_round?;
+    if envelope.place.round > round || len > BODY_CAPACITY {
         return None;
     }
-    time_key(place)
+    rule.key.of(envelope.place, envelope.index)
 }
 
 // Holds a record that was read, or copies its body if it isn't held at once or if memory runs out.
 #[inline(always)]
 fn hold_or_copy(
     held: &mut HeldRecords,
-    last_round: Option<u64>,
+    rule: HoldRule,
     envelope: RecordEnvelope,
     body: RawData<'_>,
     copy: &mut Vec<u8>,
 ) -> Result<NextRecord, AllocError>
     requires empty { copy.old.items ≡ [] }
     requires capacity { 65536 ≤ vec_capacity copy.old }
-    ensures { HoldsOrCopies held.old last_round envelope (bytes_of body.entry) result copy.new.items
+    ensures { HoldsOrCopies held.old rule envelope (bytes_of body.entry) result copy.new.items
         held.new }
 {
     let len = body.len();
-    let Some(key) = key_to_hold(last_round, envelope.place, len) else {
+    let Some(key) = key_to_hold(rule, envelope, len) else {
         copy_body(copy, body)?;
         return Ok(NextRecord::Copied(envelope));
     };
@@ -74,23 +84,27 @@ fn hold_or_copy(
     }
 }
 
-// Reads the next record. Holds it or copies its body.
+// Reads the next record or the end of a round. Holds a record or copies its body.
 #[inline(always)]
 pub(crate) fn read_record<R: Source>(
-    records: &mut PerfRecordIter<R>,
+    records: &mut DecompressedRecords<R>,
     perf_file: &mut PerfFile,
     held: &mut HeldRecords,
-    last_round: Option<u64>,
+    rule: HoldRule,
     copy: &mut Vec<u8>,
 ) -> Result<Option<NextRecord>, Error>
     requires empty { copy.old.items ≡ [] }
     requires capacity { 65536 ≤ vec_capacity copy.old }
-    ensures { ReadsRecord R.state records.old perf_file.old held.old last_round result copy.new.items held.new
-        records.new perf_file.new }
+    ensures { ReadsRecord R.state records.old perf_file.old held.old rule result copy.new.items
+        held.new records.new perf_file.new }
 {
-    let Some((place, record)) = records.next_record(perf_file)? else {
-        return Ok(None);
-    };
-    let envelope = RecordEnvelope::from_record(place, &record);
-    Ok(Some(hold_or_copy(held, last_round, envelope, record.body(), copy)?))
+    match records.next_item(perf_file)? {
+        Some(SourceItem::Record(next)) => {
+            let envelope = RecordEnvelope::from_record(next.place, next.index, &next.record);
+            let body = next.record.body();
+            Ok(Some(hold_or_copy(held, rule, envelope, body, copy)?))
+        }
+        Some(SourceItem::RoundEnd { .. }) => Ok(Some(NextRecord::RoundEnd)),
+        None => Ok(None),
+    }
 }

@@ -5,8 +5,9 @@ pub use crate::big_endian::find_format;
 use crate::streaming::OrderedRecords;
 use bitflags::Flags;
 use linux_perf_data::raw::Endianness;
-use linux_perf_data::{Error, PerfFile, PerfFileRecord, PerfRecordIter, RecordPlace};
+use linux_perf_data::{Error, PerfFile, PerfRecordIter};
 use perfdata_base::source::Source;
+use perfdata_compressed::{ContentEnd, DecompressedRecords, SourceRecord};
 use perfdata_events::sample_bits::EventFlags;
 use std::alloc::Global;
 
@@ -18,7 +19,7 @@ pub enum Records<R> {
     /// Those of a big-endian machine, in order of time.
     BigEndian(BigEndianRecords<R>),
     /// In the order of the input.
-    InInputOrder(PerfRecordIter<R>),
+    InInputOrder(DecompressedRecords<R>),
 }
 
 // Returns whether the records that aren't samples have times.
@@ -42,7 +43,30 @@ impl<R: Source> Records<R> {
             (true, Endianness::BigEndian) => {
                 Records::BigEndian(BigEndianRecords::new(alloc, records))
             }
-            (false, _) => Records::InInputOrder(records),
+            (false, _) => Records::InInputOrder(DecompressedRecords::new(alloc, records)),
+        }
+    }
+
+    /// Returns the records in order of time.
+    pub fn by_time(alloc: Global, records: PerfRecordIter<R>) -> Records<R> {
+        Records::Ordered(OrderedRecords::new(alloc, records))
+    }
+
+    /// Returns whether the next call returns without waiting; `false` if that isn't known.
+    pub fn is_next_buffered(&mut self, perf_file: &mut PerfFile) -> Result<bool, Error> {
+        match self {
+            Records::Ordered(records) => records.is_next_buffered(perf_file),
+            Records::BigEndian(_) => Ok(false),
+            Records::InInputOrder(records) => Ok(records.is_next_buffered()),
+        }
+    }
+
+    /// Returns where the content of the compressed records that were read ends.
+    pub fn content_end(&self) -> ContentEnd {
+        match self {
+            Records::Ordered(records) => records.content_end(),
+            Records::BigEndian(records) => records.content_end(),
+            Records::InInputOrder(records) => records.content_end(),
         }
     }
 
@@ -50,9 +74,9 @@ impl<R: Source> Records<R> {
     pub fn next_record(
         &mut self,
         perf_file: &mut PerfFile,
-    ) -> Result<Option<(RecordPlace, PerfFileRecord<'_>)>, Error> {
+    ) -> Result<Option<SourceRecord<'_>>, Error> {
         match self {
-            Records::Ordered(records) => records.next_record(perf_file),
+            Records::Ordered(records) => records.next_indexed_record(perf_file),
             Records::BigEndian(records) => records.next_record(perf_file),
             Records::InInputOrder(records) => records.next_record(perf_file),
         }

@@ -4,20 +4,22 @@ ghost use Rattle.std.specs.Prelude.{◌≡◌, ℕ, ◌+◌, ◌<◌, ◌≤◌,
 use crate::bodies::BodyRange;
 use crate::held_record::RecordEnvelope;
 use crate::held_records::HeldRecords;
-use crate::in_memory::time_key;
-use crate::reading::{BODY_CAPACITY, NextRecord, held_size, read_record};
+use crate::options::{OrderKey, OrderOptions};
+use crate::reading::{BODY_CAPACITY, HoldRule, NextRecord, held_size, read_record};
 use linux_perf_data::raw::RawData;
 use linux_perf_data::source::Source;
 use linux_perf_data::{Error, PerfFile, PerfFileRecord, PerfRecordIter, RecordPlace};
+use perfdata_compressed::{CompressedError, ContentEnd, DecompressedRecords, SourceRecord};
 use std::alloc::{AllocError, Global};
 use std::mem::replace;
 
-// What was read from the source, and isn't in the sorter. A record has the time that it is sorted by, if it
-// is timed. Its body is in `OrderedRecords::body`.
+// What was read from the source, and isn't in the sorter. A record has the key that it is sorted by, if it
+// is sorted. Its body is in `OrderedRecords::body`.
 #[derive(Drop)]
 pub(crate) enum PendingStep {
     Nothing,
-    Record(Option<u64>, RecordEnvelope),
+    Record(Option<u128>, RecordEnvelope),
+    RoundEnd,
     End,
     Failure(Error),
     Failed,
@@ -42,6 +44,10 @@ pub(crate) enum BodyBuffer {
 /// the recording has no rounds, all timed records are held, unless there is a budget
 /// ([`OrderedRecords::with_budget`]). Equal timestamps keep the order of the source. The memory of returned
 /// bodies is used again.
+///
+/// The records that the end of a round releases are returned before a byte after its marker is read. Other
+/// rules than perf's are among [`OrderOptions`]. If the source returns compressed records, the records of
+/// their content are returned in their place.
 ///
 /// ```
 /// use linux_perf_data::source::Source;
@@ -73,7 +79,8 @@ pub(crate) enum BodyBuffer {
 /// ```
 #[derive(Drop)]
 pub struct OrderedRecords<R> {
-    records: PerfRecordIter<R>,
+    records: DecompressedRecords<R>,
+    key: OrderKey,
     held: HeldRecords,
     round: u64,
     pending: PendingStep,
@@ -110,17 +117,43 @@ impl<R> OrderedRecords<R> {
     pub fn with_budget(alloc: Global, records: PerfRecordIter<R>, budget: u64) -> OrderedRecords<R>
         ensures { IsNewOrder records budget result }
     {
+        let options = OrderOptions {
+            budget,
+            ..OrderOptions::PERF
+        };
+        OrderedRecords::with_options(alloc, records, options)
+    }
+
+    /// Returns the records of `records` in the order that the options describe. The order allocates with
+    /// `alloc`.
+    pub fn with_options(
+        alloc: Global,
+        records: PerfRecordIter<R>,
+        options: OrderOptions,
+    ) -> OrderedRecords<R> {
+        let records = DecompressedRecords::new(alloc, records);
         OrderedRecords {
-            records,
+            records: records.with_round_size(options.round_size),
+            key: options.key,
             held: HeldRecords::new(alloc),
             round: 0,
             pending: PendingStep::Nothing,
             body: Vec::new(alloc),
             returned: BodyRange::EMPTY,
-            budget,
+            budget: options.budget,
             held_bytes: 0,
             early: 0,
         }
+    }
+
+    /// Returns where the content of the compressed records that were read ends.
+    pub fn content_end(&self) -> ContentEnd {
+        self.records.content_end()
+    }
+
+    /// Returns why the content of a compressed record can't be read, if this was an error of the source.
+    pub fn failure(&self) -> Option<CompressedError> {
+        self.records.failure()
     }
 
     /// Returns how often a half of the held records was returned early, because the next record would exceed
@@ -211,6 +244,7 @@ impl<R> OrderedRecords<R> {
     {
         match self.pending {
             PendingStep::Nothing => None,
+            PendingStep::RoundEnd => None,
             PendingStep::Record(Some(_), _) => None,
             PendingStep::Record(None, envelope) => {
                 self.pending = PendingStep::Nothing;
@@ -228,6 +262,7 @@ impl<R> OrderedRecords<R> {
     {
         match self.pending {
             PendingStep::Nothing => None,
+            PendingStep::RoundEnd => None,
             PendingStep::Record(_, _) => None,
             PendingStep::End => Some(Ok(())),
             PendingStep::Failure(_) => match replace(&mut self.pending, PendingStep::Failed) {
@@ -271,12 +306,15 @@ impl<R: Source> OrderedRecords<R> {
         }
         self.body.clear();
         self.body.try_reserve(BODY_CAPACITY)?;
-        let last_round = self.insertable_round();
+        let rule = HoldRule {
+            key: self.key,
+            last_round: self.insertable_round(),
+        };
         match read_record(
             &mut self.records,
             perf_file,
             &mut self.held,
-            last_round,
+            rule,
             &mut self.body,
         ) {
             // Most records aren't pending: `PendingStep` is large, and dear to write.
@@ -285,7 +323,12 @@ impl<R: Source> OrderedRecords<R> {
                 Ok(())
             }
             Ok(Some(NextRecord::Copied(envelope))) => {
-                self.pending = PendingStep::Record(time_key(envelope.place), envelope);
+                let key = self.key.of(envelope.place, envelope.index);
+                self.pending = PendingStep::Record(key, envelope);
+                Ok(())
+            }
+            Ok(Some(NextRecord::RoundEnd)) => {
+                self.pending = PendingStep::RoundEnd;
                 Ok(())
             }
             Ok(None) => {
@@ -323,7 +366,7 @@ impl<R: Source> OrderedRecords<R> {
     }
 
     // Inserts the pending timed record into the sorter, if it may be inserted.
-    fn insert_record(&mut self, key: u64, envelope: RecordEnvelope) -> Result<(), AllocError>
+    fn insert_record(&mut self, key: u128, envelope: RecordEnvelope) -> Result<(), AllocError>
         requires { self.old.pending ≡ Record (Some key) envelope }
         ensures { PlacesPending R.state self.old result self.new }
     {
@@ -346,6 +389,14 @@ impl<R: Source> OrderedRecords<R> {
         }
     }
 
+    // Ends the current round, if its end is pending.
+    fn end_round(&mut self) -> Result<(), AllocError> {
+        self.held.finish_round()?;
+        self.round = self.round.saturating_add(1);
+        self.pending = PendingStep::Nothing;
+        Ok(())
+    }
+
     // Puts a pending timed record into the sorter. Before one without a time, the rounds before its own end.
     // At the end of the source, all rounds end.
     fn insert_pending(&mut self) -> Result<(), AllocError>
@@ -357,10 +408,47 @@ impl<R: Source> OrderedRecords<R> {
                 Some(time) => self.insert_record(time, envelope),
                 None => self.end_rounds(envelope.place.round),
             },
+            PendingStep::RoundEnd => self.end_round(),
             PendingStep::End => self.held.finish(),
             PendingStep::Failure(_) => self.held.finish(),
             PendingStep::Failed => self.held.finish(),
         }
+    }
+
+    // Whether the next call returns without reading.
+    fn is_next_known(&self) -> bool {
+        if self.held.has_more() {
+            return true;
+        }
+        match self.pending {
+            PendingStep::Nothing => false,
+            PendingStep::RoundEnd => false,
+            PendingStep::Record(Some(_), _) => false,
+            PendingStep::Record(None, _) => true,
+            PendingStep::End => true,
+            PendingStep::Failure(_) => true,
+            PendingStep::Failed => true,
+        }
+    }
+
+    /// Returns whether the next call returns without waiting. Reads what is buffered by the source, up to a
+    /// record that is available. Call it before a wait, to flush what was written of the records before.
+    ///
+    /// # Errors
+    ///
+    /// [`Error::Memory`] is returned if memory runs out for the order. Then nothing is lost.
+    pub fn is_next_buffered(&mut self, perf_file: &mut PerfFile) -> Result<bool, Error> {
+        for _ in 0..u64::MAX {
+            if self.is_next_known() {
+                break;
+            }
+            if !self.records.is_next_buffered() {
+                return Ok(false);
+            }
+            self.read(perf_file)?;
+            self.insert_pending()?;
+        }
+        Ok(true)
     }
 
     // Takes the next record in order of time. Its body is then in a buffer.
@@ -426,5 +514,22 @@ impl<R: Source> OrderedRecords<R> {
         };
         let body = self.held_body(buffer);
         Ok(Some((envelope.place, envelope.with_body(body))))
+    }
+
+    /// Returns the next record as [`OrderedRecords::next_record`] does, with its index in its compressed
+    /// record.
+    pub fn next_indexed_record(
+        &mut self,
+        perf_file: &mut PerfFile,
+    ) -> Result<Option<SourceRecord<'_>>, Error> {
+        let Some((envelope, buffer)) = self.advance(perf_file)? else {
+            return Ok(None);
+        };
+        let body = self.held_body(buffer);
+        Ok(Some(SourceRecord {
+            place: envelope.place,
+            index: envelope.index,
+            record: envelope.with_body(body),
+        }))
     }
 }

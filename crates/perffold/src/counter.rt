@@ -273,11 +273,12 @@ impl<'a> SampleCounter<'a> {
         progress: &mut Progress<'_>,
     ) -> Result<bool, InputError> {
         match records.next_record(perf_file) {
-            Ok(Some((place, record))) => {
-                self.read = self.read.max(place.offset);
+            Ok(Some(next)) => {
+                let offset = next.place.offset;
+                self.read = self.read.max(offset);
                 progress.add_record(self.read);
-                if let Err(cause) = self.add_record(perf_file, &record) {
-                    let position = self.position(Some(place.offset));
+                if let Err(cause) = self.add_record(perf_file, &next.record) {
+                    let position = self.position(Some(offset));
                     return Err(InputError::Record { position, cause });
                 }
                 self.records = self.records.saturating_add(1);

@@ -18,7 +18,7 @@ use options::{
 use output::{FoldError, no_output_reason, profile_bytes};
 use perfdata_cli::arguments::{parse_filter, recording_filter};
 use perfdata_cli::command_line::{FAILURE, Program, SUCCESS, USAGE_ERROR, run_program};
-use perfdata_cli::error::{InputError, ProgramError, print_error};
+use perfdata_cli::error::{InputError, ProgramError, print_content_end, print_error};
 use perfdata_cli::input::{OpenInput, display_name, input_path};
 use perfdata_cli::progress::Progress;
 use perfdata_cli::recording::{Recording, RecordingRecords};
@@ -160,6 +160,9 @@ fn fold<'a>(
         &mut progress,
     );
     progress.finish();
+    if !arguments.is_quiet {
+        print_content_end(rt, NAME, display_name(path), records.content_end());
+    }
     let read = match read {
         Ok(read) => Ok(read.and_then(|records| kind.check_end(records))),
         Err(error) => Err(output_error(arguments, error)),

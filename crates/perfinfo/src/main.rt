@@ -27,7 +27,7 @@ use perfdata_cli::arguments::{
 use perfdata_cli::command_line::{
     Program, RECORDING_OR_JITDUMP_HELP, SUCCESS, command, run_program,
 };
-use perfdata_cli::error::{InputError, ProgramError, print_error};
+use perfdata_cli::error::{InputError, ProgramError, print_content_end, print_error};
 use perfdata_cli::input::{InputKind, OpenInput, display_name, input_path};
 use perfdata_cli::input_bytes::Source;
 use perfdata_cli::progress::Progress;
@@ -61,6 +61,7 @@ fn report_records(
     arguments: Arguments<'_>,
     recording: Recording,
     size: Option<u64>,
+    path: &str,
 ) -> Result<(), ProgramError> {
     let Recording { reader, kind } = recording;
     let mut perf_file = reader.perf_file;
@@ -70,6 +71,9 @@ fn report_records(
     let mut counts = RecordCounts::new(rt.alloc(), filter);
     let read = counts.read(rt.alloc(), &mut perf_file, &mut records, &mut progress);
     progress.finish();
+    if !arguments.is_quiet {
+        print_content_end(rt, NAME, display_name(path), records.content_end());
+    }
     if counts.samples.lacks_cpu {
         return Err(InputError::Io(missing_cpu_error()).into());
     }
@@ -151,7 +155,13 @@ fn report_input(
         return report_jitdump(rt, JitDumpReader::new(rt.alloc(), source));
     }
     let size = input.size;
-    report_records(rt, arguments, Recording::open(rt.alloc(), input)?, size)
+    report_records(
+        rt,
+        arguments,
+        Recording::open(rt.alloc(), input)?,
+        size,
+        path,
+    )
 }
 
 // The program.

@@ -13,6 +13,7 @@ use perfdata_cli::error::InputError;
 use perfdata_cli::position::Position;
 use perfdata_cli::progress::Progress;
 use perfdata_cli::recording::RecordingRecords;
+use perfdata_compressed::SourceRecord;
 use perfdata_events::event::EventRecord;
 use perfdata_events::formats::EventFormats;
 use perfdata_order::records::find_format;
@@ -188,14 +189,13 @@ impl<'a> RecordCounts<'a> {
         &mut self,
         alloc: Global,
         perf_file: &PerfFile,
-        place: &RecordPlace,
-        record: &PerfFileRecord<'_>,
+        next: &SourceRecord<'_>,
     ) -> Result<(), Error> {
-        let aux_size = self.add_body(alloc, perf_file, place, record)?;
-        count_one(&mut self.per_type, record.record_type().0)?;
-        self.rounds = self.rounds.max(place.round);
+        let aux_size = self.add_body(alloc, perf_file, &next.place, &next.record)?;
+        count_one(&mut self.per_type, next.record.record_type().0)?;
+        self.rounds = self.rounds.max(next.place.round);
         self.aux_bytes = self.aux_bytes.saturating_add(aux_size);
-        self.position.add(place, record);
+        self.position.add(next);
         Ok(())
     }
 
@@ -208,10 +208,10 @@ impl<'a> RecordCounts<'a> {
         progress: &mut Progress<'_>,
     ) -> Result<(), Error> {
         for _ in 0..u64::MAX {
-            let Some((place, record)) = records.next_record(perf_file)? else {
+            let Some(next) = records.next_record(perf_file)? else {
                 break;
             };
-            self.add(alloc, perf_file, &place, &record)?;
+            self.add(alloc, perf_file, &next)?;
             progress.add_record(self.end());
         }
         Ok(())

@@ -3,20 +3,15 @@ use crate::options::Options;
 use crate::record_line::RecordLine;
 use crate::selected::list_selected;
 use crate::tracked_line::TrackedLine;
-use linux_perf_data::{Error, PerfFile, PerfFileReader, PerfRecordIter};
+use linux_perf_data::Error;
 use perfdata_cli::error::{InputError, ProgramError};
 use perfdata_cli::input::OpenInput;
-use perfdata_cli::input_bytes::Source;
 use perfdata_cli::position::Position;
 use perfdata_cli::progress::Progress;
-use perfdata_cli::recording::{
-    Recording, RecordingInMemory, RecordingKind, RecordingRecords, is_complete_file,
-    open_recording_in_memory,
-};
+use perfdata_cli::recording::Recording;
+use perfdata_compressed::{ContentEnd, DecompressedRecords};
 use perfdata_json::JsonLine;
-use perfdata_listing::{
-    CountingBufWriter, ListCause, ListFault, list_by_time, list_live_pipe_lines, write_record,
-};
+use perfdata_listing::{CountingBufWriter, ListCause, ListFault, list_source_records};
 use perfdata_selection::options::FilterOptions;
 use std::io::Write;
 use std::rt::Stdout;
@@ -24,23 +19,20 @@ use std::rt::Stdout;
 /// Standard output in a buffer.
 pub(crate) type Output = CountingBufWriter<Stdout>;
 
-/// Lists the input at a path.
+/// Lists the input at a path. Returns where the content of its compressed records ends.
 pub(crate) fn list_input(
     rt: &HostRuntime,
     options: &Options<'_>,
     filter: FilterOptions<'_>,
     path: &str,
-) -> Result<(), ProgramError> {
+) -> Result<ContentEnd, ProgramError> {
     let input = OpenInput::open_recording(rt, path)?;
-    let is_pipe = input.is_pipe()?;
     if options.is_filtered {
         list_selected(rt, options, filter, input)
     } else if options.is_by_time {
-        list_input_by_time(rt, options.byte_limit, input, is_pipe)
-    } else if is_pipe {
-        list_pipe(rt, options, input)
+        list_by_time(rt, options, input)
     } else {
-        list_file(rt, options, input)
+        list_in_order(rt, options, input)
     }
 }
 
@@ -49,141 +41,63 @@ pub(crate) fn output(rt: &HostRuntime) -> Result<Output, InputError> {
     CountingBufWriter::new(rt.alloc(), rt.stdout()).map_err(|_| InputError::OutOfMemory)
 }
 
-// Writes the line of the next record. Returns whether there is one.
-fn list_next(
-    records: &mut PerfRecordIter<Source>,
-    perf_file: &mut PerfFile,
-    line: &mut TrackedLine<'_>,
-    out: &mut Output,
-) -> Result<bool, ListCause> {
-    match records.next_record(perf_file) {
-        Ok(Some((place, record))) => {
-            write_record(place, &record, perf_file, line, out)?;
-            Ok(true)
-        }
-        Ok(None) => Ok(false),
-        Err(error) => Err(ListCause::Perf(error)),
-    }
-}
-
-// Writes a line for each record of a file. Returns the number of lines.
-fn list_file_records(
-    reader: PerfFileReader<Source>,
-    line: &mut TrackedLine<'_>,
-    out: &mut Output,
-) -> Result<u64, ListFault> {
-    let mut perf_file = reader.perf_file;
-    let mut records = reader.record_iter;
-    let mut lines = 0u64;
-    for _ in 0..u64::MAX {
-        match list_next(&mut records, &mut perf_file, line, out) {
-            Ok(true) => lines = lines.saturating_add(1),
-            Ok(false) => break,
-            Err(cause) => return Err(ListFault { lines, cause }),
-        }
-    }
-    Ok(lines)
-}
-
-// Lists a file in its own order.
-fn list_file(
+// Lists an input in its own order.
+fn list_in_order(
     rt: &HostRuntime,
     options: &Options<'_>,
     input: OpenInput,
-) -> Result<(), ProgramError> {
+) -> Result<ContentEnd, ProgramError> {
     let progress = Progress::beside_output(rt, input.size).unless_quiet(options.is_quiet);
     let Recording { reader, kind } = Recording::open(rt.alloc(), input)?;
     let line = RecordLine::new(JsonLine::new(rt.alloc(), options.byte_limit), kind);
     let mut line = TrackedLine::new(line, progress);
     let mut out = output(rt)?;
-    let listed = list_file_records(reader, &mut line, &mut out);
+    let mut perf_file = reader.perf_file;
+    let mut records = DecompressedRecords::new(rt.alloc(), reader.record_iter);
+    let listed = list_source_records(
+        &mut records,
+        &mut perf_file,
+        &mut line,
+        kind.is_pipe,
+        &mut out,
+    );
     let (position, unlisted) = line.finish();
+    let position = position.at_error(records.failure().is_some(), records.offset());
     let lines = line_count(&listed);
     finish(listed, position, unlisted, &mut out)?;
-    Ok(kind.check_end(lines)?)
+    kind.check_end(lines)?;
+    Ok(records.content_end())
 }
 
-// Lists a pipe in its own order.
-fn list_pipe(
+// Lists an input in order of time.
+fn list_by_time(
     rt: &HostRuntime,
     options: &Options<'_>,
     input: OpenInput,
-) -> Result<(), ProgramError> {
+) -> Result<ContentEnd, ProgramError> {
     let progress = Progress::beside_output(rt, input.size).unless_quiet(options.is_quiet);
-    let line = JsonLine::new(rt.alloc(), options.byte_limit);
-    let mut line = TrackedLine::new(RecordLine::new(line, RecordingKind::PIPE), progress);
+    let Recording { reader, kind } = Recording::open(rt.alloc(), input)?;
+    let line = RecordLine::new(JsonLine::new(rt.alloc(), options.byte_limit), kind);
+    let mut line = TrackedLine::new(line, progress);
     let mut out = output(rt)?;
-    let source = input.into_source(rt.alloc()).map_err(InputError::Io)?;
-    let listed = list_live_pipe_lines(rt.alloc(), source, &mut line, &mut out);
-    let (position, unlisted) = line.finish();
-    finish(listed, position, unlisted, &mut out)
-}
-
-// Writes a line for each record of an unfinished file. Returns the number of lines.
-fn list_unfinished_records(
-    records: &mut RecordingRecords,
-    perf_file: &mut PerfFile,
-    line: &mut JsonLine,
-    out: &mut Output,
-) -> Result<u64, ListFault> {
-    let mut lines = 0u64;
-    for _ in 0..u64::MAX {
-        let written = match records.next_record(perf_file) {
-            Ok(Some((place, record))) => write_record(place, &record, perf_file, line, out),
-            Ok(None) => break,
-            Err(error) => Err(ListCause::Perf(error)),
-        };
-        if let Err(cause) = written {
-            return Err(ListFault { lines, cause });
-        }
-        lines = lines.saturating_add(1);
-    }
-    Ok(lines)
-}
-
-// Lists an unfinished file in order of time.
-fn list_unfinished_by_time(
-    rt: &HostRuntime,
-    byte_limit: usize,
-    bytes: Vec<u8>,
-) -> Result<(), ProgramError> {
-    let Recording { reader, kind } = Recording::open_bytes(rt.alloc(), bytes)?;
     let mut perf_file = reader.perf_file;
-    let mut records = RecordingRecords::new(rt.alloc(), kind, &perf_file, reader.record_iter);
-    let mut line = JsonLine::new(rt.alloc(), byte_limit);
-    let mut out = output(rt)?;
-    let listed = list_unfinished_records(&mut records, &mut perf_file, &mut line, &mut out);
+    let mut records = kind.records_by_time(rt.alloc(), &perf_file, reader.record_iter);
+    let listed = list_source_records(
+        &mut records,
+        &mut perf_file,
+        &mut line,
+        kind.is_pipe,
+        &mut out,
+    );
+    let (_, unlisted) = line.finish();
     let lines = line_count(&listed);
     let position = Position {
         records: lines,
         offset: None,
     };
-    finish(listed, position, None, &mut out)?;
-    Ok(kind.check_end(lines)?)
-}
-
-// Lists an input in order of time. The input is read into memory.
-fn list_input_by_time(
-    rt: &HostRuntime,
-    byte_limit: usize,
-    input: OpenInput,
-    is_pipe: bool,
-) -> Result<(), ProgramError> {
-    let bytes = input.into_bytes().map_err(InputError::Io)?;
-    if !is_pipe && !is_complete_file(rt.alloc(), &bytes)? {
-        return list_unfinished_by_time(rt, byte_limit, bytes);
-    }
-    let RecordingInMemory { reader, kind } = open_recording_in_memory(rt.alloc(), &bytes, is_pipe)?;
-    let mut out = output(rt)?;
-    let mut line = RecordLine::new(JsonLine::new(rt.alloc(), byte_limit), kind);
-    let listed = list_by_time(rt.alloc(), reader, &mut line, &mut out);
-    let lines = line_count(&listed);
-    let position = Position {
-        records: lines,
-        offset: None,
-    };
-    finish(listed, position, line.into_error(), &mut out)?;
-    Ok(kind.check_end(lines)?)
+    finish(listed, position, unlisted, &mut out)?;
+    kind.check_end(lines)?;
+    Ok(records.content_end())
 }
 
 // Returns the number of lines of a listing.

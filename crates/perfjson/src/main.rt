@@ -12,7 +12,7 @@ use listing::list_input;
 use options::{Options, command_with_options};
 use perfdata_cli::arguments::{parse_filter, print_selection_error};
 use perfdata_cli::command_line::{Program, SUCCESS, run_program};
-use perfdata_cli::error::print_error;
+use perfdata_cli::error::{print_content_end, print_error};
 use perfdata_cli::input::{display_name, input_path};
 use std::alloc::{AllocError, Global};
 use std::process::ExitCode;
@@ -39,7 +39,12 @@ impl Program for Perfjson {
         };
         let path = input_path(rt, options.file);
         match list_input(rt, &options, filter, path) {
-            Ok(()) => SUCCESS,
+            Ok(end) => {
+                if !options.is_quiet {
+                    print_content_end(rt, NAME, display_name(path), end);
+                }
+                SUCCESS
+            }
             Err(error) => print_error(rt, NAME, display_name(path), &error),
         }
     }

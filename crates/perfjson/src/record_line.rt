@@ -25,6 +25,11 @@ impl RecordLine {
         }
     }
 
+    /// Sets the index of the next lines' records in their compressed record.
+    pub(crate) fn set_index(&mut self, index: Option<u32>) {
+        self.line.set_index(index);
+    }
+
     /// Returns the error of the record that ended the listing, if one did.
     pub(crate) fn into_error(self) -> Option<Error> {
         self.unlisted

@@ -10,6 +10,7 @@ use perfdata_cli::position::Position;
 use perfdata_cli::progress::Progress;
 use perfdata_cli::recording::{Recording, RecordingRecords};
 use perfdata_cli::selected::{is_selected, is_undecoded_selected};
+use perfdata_compressed::ContentEnd;
 use perfdata_events::event::EventRecord;
 use perfdata_events::formats::EventFormats;
 use perfdata_json::JsonLine;
@@ -111,14 +112,15 @@ impl SelectedLines<'_> {
         out: &mut Output,
     ) -> Result<bool, ListCause> {
         let next = records.next_record(perf_file).map_err(ListCause::Perf)?;
-        let Some((place, record)) = next else {
+        let Some(next) = next else {
             return Ok(false);
         };
-        let is_selected = self.selection.selects(perf_file, &record)?;
-        self.position.add(&place, &record);
+        let is_selected = self.selection.selects(perf_file, &next.record)?;
+        self.position.add(&next);
         self.progress.add_record(self.position.offset.unwrap_or(0));
         if is_selected {
-            write_record(place, &record, perf_file, &mut self.line, out)?;
+            self.line.set_index(next.index);
+            write_record(next.place, &next.record, perf_file, &mut self.line, out)?;
             self.lines = self.lines.saturating_add(1);
         }
         Ok(true)
@@ -151,7 +153,7 @@ pub(crate) fn list_selected(
     options: &Options<'_>,
     filter: FilterOptions<'_>,
     input: OpenInput,
-) -> Result<(), ProgramError> {
+) -> Result<ContentEnd, ProgramError> {
     let progress = Progress::beside_output(rt, input.size).unless_quiet(options.is_quiet);
     let Recording { reader, kind } = Recording::open(rt.alloc(), input)?;
     let mut perf_file = reader.perf_file;
@@ -168,5 +170,6 @@ pub(crate) fn list_selected(
     let listed = lines.list(&mut records, &mut perf_file, &mut out);
     lines.progress.finish();
     finish(listed, lines.position, None, &mut out)?;
-    Ok(kind.check_end(lines.position.records)?)
+    kind.check_end(lines.position.records)?;
+    Ok(records.content_end())
 }

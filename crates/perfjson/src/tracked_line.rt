@@ -6,14 +6,24 @@ use crate::record_line::RecordLine;
 use linux_perf_data::{Error, PerfFile, PerfFileRecord, RecordPlace};
 use perfdata_cli::position::Position;
 use perfdata_cli::progress::Progress;
-use perfdata_listing::LineFormat;
+use perfdata_compressed::SourceRecord;
+use perfdata_listing::{LineFormat, SourceLineFormat};
 
 /// The line of a record as JSON, which remembers where the record ends.
 #[derive(Drop)]
 pub struct TrackedLine<'a> {
     line: RecordLine,
     position: Position,
+    // The position after the next line's record.
+    next: Position,
     progress: Progress<'a>,
+}
+
+// The position after a record.
+fn next_position(position: Position, next: &SourceRecord<'_>) -> Position {
+    let mut position = position;
+    position.add(next);
+    position
 }
 
 impl<'a> TrackedLine<'a> {
@@ -22,6 +32,7 @@ impl<'a> TrackedLine<'a> {
         TrackedLine {
             line,
             position: Position::START,
+            next: Position::START,
             progress,
         }
     }
@@ -48,12 +59,19 @@ impl LineFormat for TrackedLine<'_> {
         perf_file: &PerfFile,
     ) -> Result<(), Error> {
         self.line.set(place, record, perf_file)?;
-        self.position.add(&place, record);
+        self.position = self.next;
         self.progress.add_record(self.position.offset.unwrap_or(0));
         Ok(())
     }
 
     fn as_bytes(&self) -> &[u8] {
         self.line.as_bytes()
+    }
+}
+
+impl SourceLineFormat for TrackedLine<'_> {
+    fn set_next(&mut self, next: &SourceRecord<'_>) {
+        self.line.set_index(next.index);
+        self.next = next_position(self.position, next);
     }
 }

@@ -14,6 +14,11 @@ use std::io::{self, Read, Seek};
 // The number of records in a round of a recording of simpleperf, which writes no markers.
 const SIMPLEPERF_ROUND: usize = 1024;
 
+// The records in compressed records are returned by feature `zstd`.
+const READ_OPTIONS: inner::ReadOptions = inner::ReadOptions {
+    compressed_records: cfg!(feature = "zstd"),
+};
+
 /// An opened file or pipe: its metadata, and an iterator over its records.
 ///
 /// ```no_run
@@ -61,7 +66,7 @@ impl<C: Read + Seek> PerfFileReader<C> {
     /// - [`Error::OutOfMemory`] if memory runs out.
     pub fn parse_file(cursor: C) -> Result<Self, Error> {
         let source = Buffered::with_position(cursor)?;
-        let reader = inner::PerfFileReader::parse_file(inner::Global, source)?;
+        let reader = READ_OPTIONS.parse_file(inner::Global, source)?;
         let perf_file = PerfFile::new(reader.perf_file, Error::Read(ReadError::PerfEventAttr))?;
         let record_iter = PerfRecordIter::new(reader.record_iter, &perf_file, Input::File)?;
         Ok(Self {
@@ -86,7 +91,7 @@ impl<R: Read> PerfFileReader<R> {
     ///   don't tell to which of them a record belongs.
     /// - [`Error::OutOfMemory`] if memory runs out.
     pub fn parse_pipe(reader: R) -> Result<Self, Error> {
-        let reader = inner::PerfFileReader::parse_pipe(inner::Global, Buffered::new(reader)?)?;
+        let reader = READ_OPTIONS.parse_pipe(inner::Global, Buffered::new(reader)?)?;
         let unknown = Error::IoError(io::Error::from(io::ErrorKind::InvalidInput));
         let perf_file = PerfFile::new(reader.perf_file, unknown)?;
         let record_iter = PerfRecordIter::new(reader.record_iter, &perf_file, Input::Pipe)?;
@@ -111,18 +116,19 @@ enum Stage {
     Ended,
 }
 
-// The key by which records are sorted: the time, with records without a time first, and then the offset. It is one
-// number, which is compared at once: the time plus 1, or 0 without a time, and 63 bits for the offset. Records at
-// larger offsets keep their order, since the sorter is stable.
+// The key by which records are sorted: the time, with records without a time first, and then the offset, with those in
+// compressed records first, which have none. It is one number, which is compared at once: the time plus 1, or 0 without
+// a time, and 63 bits for the same of the offset. Records at larger offsets keep their order, since the sorter is stable.
 type SortKey = u128;
 
 const OFFSET_BITS: u32 = 63;
 
 #[inline]
-fn sort_key(time: Option<u64>, offset: u64) -> SortKey {
+fn sort_key(time: Option<u64>, offset: Option<u64>) -> SortKey {
     let time = time.map_or(0, |time| u128::from(time) + 1);
     let last_offset = (1 << OFFSET_BITS) - 1;
-    time << OFFSET_BITS | u128::from(offset.min(last_offset))
+    let offset = offset.map_or(0, |offset| offset.saturating_add(1).min(last_offset));
+    time << OFFSET_BITS | u128::from(offset)
 }
 
 // Who wrote a record.
@@ -149,18 +155,16 @@ struct HeldRecord {
 /// simpleperf. The records of a round are held until the next one ends: those that are older than all of the
 /// next round are returned in the order of their times.
 pub struct PerfRecordIter<R: Read> {
-    records: inner::PerfRecordIter<Buffered<R>>,
+    records: inner::DecompressedRecords<Buffered<R>>,
     sorter: inner::Sorter<SortKey, HeldRecord>,
     bodies: Bodies,
-    // The record that was read after the end of a round, with its round.
-    next_round: Option<(u64, SortKey, HeldRecord)>,
+    // The record that was read after the end of a round, with its index in its compressed record.
+    pending: Option<(SortKey, HeldRecord, Option<u32>)>,
     // The record that the caller has.
     returned: Option<Body>,
     parse_infos: Vec<RecordParseInfo>,
     endian: inner::Endianness,
     input: Input,
-    // The number of markers before the current round.
-    round: u64,
     // The records of the current round that are counted, and how many end it.
     count: usize,
     round_size: usize,
@@ -198,6 +202,23 @@ impl<'a> RecordParts<'a> {
     }
 }
 
+impl HeldRecord {
+    // Copies the body of a record to the others.
+    #[inline]
+    fn new(bodies: &mut Bodies, parts: RecordParts<'_>) -> Result<Self, Error> {
+        let inner::RawData::Single(bytes) = parts.body else {
+            unreachable!("the library returns the body of a record in one slice");
+        };
+        Ok(HeldRecord {
+            record_type: parts.record_type,
+            attr_index: u32::try_from(parts.attr_index).map_err(|_| Error::OutOfMemory)?,
+            misc: parts.misc,
+            origin: parts.origin,
+            body: bodies.append(bytes)?,
+        })
+    }
+}
+
 impl<R: Read> PerfRecordIter<R> {
     fn new(
         records: inner::PerfRecordIter<Buffered<R>>,
@@ -208,15 +229,14 @@ impl<R: Read> PerfRecordIter<R> {
             .feature_section_data(Feature::SIMPLEPERF_META_INFO)
             .is_some();
         let mut iter = Self {
-            records,
+            records: inner::DecompressedRecords::new(inner::Global, records),
             sorter: inner::Sorter::new(inner::Global),
             bodies: Bodies::new(),
-            next_round: None,
+            pending: None,
             returned: None,
             parse_infos: Vec::new(),
             endian: perf_file.inner.endian(),
             input,
-            round: 0,
             count: 0,
             round_size: if is_simpleperf {
                 SIMPLEPERF_ROUND
@@ -260,7 +280,7 @@ impl<R: Read> PerfRecordIter<R> {
     /// returns [`Error::Failed`].
     ///
     /// - [`Error::IoError`] if a record header is truncated or the reader fails; of kind `Unsupported` for a
-    ///   compressed record.
+    ///   compressed record without feature `zstd`, and of kind `InvalidData` if compressed data can't be read.
     /// - [`Error::InvalidPerfEventSize`] if the size of a record is below 8.
     /// - [`ReadError::PerfEventData`] if a body is truncated or can't be read.
     /// - In a pipe, where a truncated record is the end and no error: the errors of
@@ -332,82 +352,73 @@ impl<R: Read> PerfRecordIter<R> {
 
     // Reads until records are available in the sorter. `false` at the end of the records.
     fn read_records(&mut self, perf_file: &mut PerfFile) -> Result<bool, Error> {
-        if let Some((round, key, held)) = self.next_round.take() {
-            if self.end_rounds(round)? {
-                self.next_round = Some((round, key, held));
-                return Ok(true);
-            }
-            if self.insert(key, held)? {
-                return Ok(true);
-            }
+        if let Some((key, held, index)) = self.pending.take()
+            && self.insert(key, held, index)?
+        {
+            return Ok(true);
         }
-        while let Some((place, record)) = self.records.next_record(&mut perf_file.inner)? {
-            let parts = RecordParts::new(record);
-            let inner::RawData::Single(bytes) = parts.body else {
-                unreachable!("the library returns the body of a record in one slice");
+        while let Some(item) = self.records.next_item(&mut perf_file.inner)? {
+            let next = match item {
+                inner::SourceItem::Record(next) => next,
+                inner::SourceItem::RoundEnd { .. } => {
+                    if self.end_round()? {
+                        return Ok(true);
+                    }
+                    continue;
+                }
             };
-            let key = sort_key(place.timestamp, place.offset);
-            let held = HeldRecord {
-                record_type: parts.record_type,
-                attr_index: u32::try_from(parts.attr_index).map_err(|_| Error::OutOfMemory)?,
-                misc: parts.misc,
-                origin: parts.origin,
-                body: self.bodies.append(bytes)?,
-            };
+            let (place, index) = (next.place, next.index);
+            let held = HeldRecord::new(&mut self.bodies, RecordParts::new(next.record))?;
+            let offset = index.is_none().then_some(place.offset);
+            let key = sort_key(place.timestamp, offset);
             if self.input == Input::Pipe && is_metadata(held.record_type) {
                 self.add_parse_infos(perf_file)?;
                 perf_file.update(held.record_type)?;
             }
-            if place.round != self.round && self.end_rounds(place.round)? {
-                self.next_round = Some((place.round, key, held));
+            // After the records of a compressed one.
+            let is_next = index.is_none_or(|index| index == 0);
+            if is_next && self.count >= self.round_size && self.end_round()? {
+                self.pending = Some((key, held, index));
                 return Ok(true);
             }
-            if self.insert(key, held)? {
-                return Ok(true);
-            }
-        }
-        Ok(false)
-    }
-
-    // Ends rounds until `round` is the current one or records are available. Returns whether they are.
-    fn end_rounds(&mut self, round: u64) -> Result<bool, Error> {
-        while self.round < round {
-            self.end_round()?;
-            if self.sorter.is_empty() {
-                // More ends of rounds change nothing.
-                self.round = round;
-            } else {
-                self.round += 1;
-            }
-            if self.sorter.has_more() {
+            if self.insert(key, held, index)? {
                 return Ok(true);
             }
         }
         Ok(false)
     }
 
-    fn end_round(&mut self) -> Result<(), Error> {
+    // Ends a round. Returns whether records are available.
+    fn end_round(&mut self) -> Result<bool, Error> {
         self.count = 0;
         if self.input == Input::Pipe && self.round_size != usize::MAX {
             self.round_size = SIMPLEPERF_ROUND;
         }
         self.sorter.finish_round()?;
-        Ok(())
+        Ok(self.sorter.has_more())
     }
 
     // Inserts a record into the current round, and ends the round if it has as many records as a round of
-    // simpleperf. Returns whether records are available.
+    // simpleperf. Those of a compressed record count as one, and the round ends after them. Returns whether
+    // records are available.
     #[inline]
-    fn insert(&mut self, key: SortKey, held: HeldRecord) -> Result<bool, Error> {
+    fn insert(
+        &mut self,
+        key: SortKey,
+        held: HeldRecord,
+        index: Option<u32>,
+    ) -> Result<bool, Error> {
         if self.sorter.insert_unordered(key, held).is_err() {
             return Err(Error::OutOfMemory);
         }
-        self.count += 1;
-        if self.count < self.round_size {
+        if index.is_some_and(|index| index > 0) {
             return Ok(false);
         }
-        self.end_round()?;
-        Ok(self.sorter.has_more())
+        self.count += 1;
+        if index.is_some() || self.count < self.round_size {
+            return Ok(false);
+        }
+        self.end_round()
     }
 }
 

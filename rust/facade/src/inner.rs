@@ -9,7 +9,7 @@ mod events;
 pub(crate) use events::*;
 
 pub(crate) use dewikura::linux_perf_data::{
-    Error, PerfFile, PerfFileReader, PerfFileRecord, PerfRecordIter, ReadError,
+    Error, PerfFile, PerfFileRecord, PerfRecordIter, ReadError, ReadOptions,
 };
 pub(crate) use dewikura::perfdata_base::attr::PerfEventAttr;
 pub(crate) use dewikura::perfdata_base::event::{CpuMode, RecordType, user_types};
@@ -17,6 +17,7 @@ pub use dewikura::perfdata_base::features::Feature;
 pub(crate) use dewikura::perfdata_base::features::{FeatureSet, FeatureSetIter};
 pub(crate) use dewikura::perfdata_base::raw::{Endianness, RawData};
 pub(crate) use dewikura::perfdata_base::source::{Counted, PlacedSource, Source};
+pub(crate) use dewikura::perfdata_compressed::{DecompressedRecords, SourceItem};
 pub(crate) use dewikura::perfdata_jit as jit;
 pub(crate) use dewikura::perfdata_order::sorter::Sorter;
 pub(crate) use dewikura::perfdata_records::auxtrace::Auxtrace;

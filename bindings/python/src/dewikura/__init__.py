@@ -10,7 +10,7 @@ from .jitdump import (JitDebugEntry, JitDebugInfo, JitDump, JitHeader, JitLoad, 
                       open_jitdump)
 from .names import demangle
 from .recording import (Attribute, BuildId, Counters, Frames, Kind, Mappings, Recording, Records, Samples, StackFrames, StackMappings, Stacks,
-                        Symbol, SymbolFile, Tasks, from_buffer, input_kind, open)
+                        Symbol, SymbolFile, Tasks, decompress, from_buffer, input_kind, open)
 
 __version__ = ".".join(map(str, _VERSION))
 
@@ -20,6 +20,6 @@ __all__ = [
     "JitRecord", "JitRecordType", "JitRecords", "JitUnwinding", "Kind", "Mapping", "MappingKind", "Mappings", "PerfDataError",
     "ReadFormat", "Record", "RecordType", "Recording", "Records", "Sample", "SampleDetails", "SampleType", "Samples", "Stack",
     "StackFrame", "StackFrames", "StackMapping", "StackMappings", "Stacks", "Status", "Symbol", "SymbolFile", "SymbolFileType", "Task",
-    "Tasks", "TruncatedError", "UnsupportedError", "demangle", "from_buffer", "input_kind", "jitdump_from_buffer", "library_version",
+    "Tasks", "TruncatedError", "UnsupportedError", "decompress", "demangle", "from_buffer", "input_kind", "jitdump_from_buffer", "library_version",
     "open", "open_jitdump",
 ]

@@ -219,7 +219,8 @@ fn read_aux_data<R: Source>(
 }
 
 // Reads the body and the aux data of a record that is no marker into an empty `body`. Returns the end offset
-// of the record, or `None` if the source has fewer bytes than the size in the record header.
+// of the record, or `None` if the source has fewer bytes than the size in the record header. A compressed
+// record is an error, and its header is then in `compressed`.
 #[inline(always)]
 pub(crate) fn read_record_body<R: Source>(
     source: &mut R,
@@ -227,6 +228,7 @@ pub(crate) fn read_record_body<R: Source>(
     header: PerfEventHeader,
     body: &mut Vec<u8>,
     end: u64,
+    compressed: &mut Option<PerfEventHeader>,
 ) -> Result<Option<u64>, Error>
     requires size { 8 ≤ header.size }
     requires empty { body.old.items ≡ [] }
@@ -243,6 +245,7 @@ pub(crate) fn read_record_body<R: Source>(
         return Ok(None);
     }
     if is_compressed(header.type_) {
+        *compressed = Some(header);
         return Err(unsupported());
     }
     if header.type_ != PERF_RECORD_AUXTRACE {

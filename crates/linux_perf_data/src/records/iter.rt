@@ -46,9 +46,9 @@ pub(crate) enum RecordOrigin {
     User(UserRecordType),
 }
 
-// A record whose attribute and time are known, without its body.
+/// A record whose attribute and time are known, without its body.
 #[derive(Clone, Copy)]
-pub(crate) struct IdentifiedRecord {
+pub struct IdentifiedRecord {
     pub(crate) place: RecordPlace,
     pub(crate) record_type: RecordType,
     pub(crate) misc: u16,
@@ -118,6 +118,20 @@ impl IdentifiedRecord {
         }
     }
 
+    /// Returns the offset, the round and the time of the record.
+    pub fn place(self) -> RecordPlace
+        ensures { result ≡ self.place }
+    {
+        self.place
+    }
+
+    /// Returns the type of the record.
+    pub fn record_type(self) -> RecordType
+        ensures { result ≡ self.record_type }
+    {
+        self.record_type
+    }
+
     // The index of its attribute, or 0 if a tool wrote the record.
     pub(crate) fn attr_index(self) -> usize
         ensures { result ≡ attr_index_by_origin self.origin }
@@ -160,6 +174,27 @@ impl IdentifiedRecord {
     }
 }
 
+/// The next part of the records of a source, without the body of a record.
+#[derive(Clone, Copy)]
+pub enum NextItem {
+    /// A record. Its body is that of [`PerfRecordIter::body`].
+    Record(IdentifiedRecord),
+    /// The end of the round with this number, which is that of its records: a round marker (FINISHED_ROUND).
+    RoundEnd(u64),
+}
+
+/// The next part of the records of a source.
+#[derive(Clone, Copy)]
+pub enum PerfItem<'a> {
+    /// A record, with its place.
+    Record(RecordPlace, PerfFileRecord<'a>),
+    /// The end of a round: a round marker (FINISHED_ROUND).
+    RoundEnd {
+        /// The number of the round, which is that of its records.
+        round: u64,
+    },
+}
+
 /// Returns the records of a source one by one, in the order of the source, and reuses one buffer for their
 /// bodies.
 ///
@@ -175,10 +210,18 @@ pub struct PerfRecordIter<R> {
     pub(crate) offset: u64,
     pub(crate) round: u64,
     pub(crate) stage: Stage,
+    // Whether `next_item` returns compressed records. If not, they are an error.
+    pub(crate) returns_compressed: bool,
+    // The header of the compressed record at which a call failed. Its body is then in `body`.
+    pub(crate) compressed: Option<PerfEventHeader>,
     ghost rounds_fit: { round ≤ offset },
 }
 
 impl<R> PerfRecordIter<R> {
+    ghost use Rattle.std.specs.Prelude.{None, false};
+    ghost use Rattle.linux_perf_data.specs.ContentRecords.{IdentifiesContent};
+    ghost use Rattle.linux_perf_data.specs.RecordViews.{record_view_of, record_view_with};
+
     // An iterator at the first record.
     pub(crate) fn new(
         alloc: Global,
@@ -194,6 +237,7 @@ impl<R> PerfRecordIter<R> {
         ensures attribute_lookup { result.attribute_lookup ≡ attribute_lookup }
         ensures stage { result.stage ≡ stage }
         ensures starts_at_zero { (result.offset ≡ 0) × (result.round ≡ 0) }
+        ensures no_compressed { (result.returns_compressed ≡ false) × (result.compressed ≡ None) }
     {
         PerfRecordIter {
             alloc,
@@ -205,7 +249,88 @@ impl<R> PerfRecordIter<R> {
             offset: 0,
             round: 0,
             stage,
+            returns_compressed: false,
+            compressed: None,
         }
+    }
+
+    /// Returns the body of the record that was read last, with its aux data.
+    pub fn body(&self) -> &[u8]
+        ensures { result.now ≡ self.now.body.items }
+    {
+        self.body.as_slice()
+    }
+
+    /// Returns the byte order of the records.
+    pub fn endian(&self) -> Endianness
+        ensures { result ≡ self.now.endian }
+    {
+        self.endian
+    }
+
+    /// Returns the number of round markers that were read.
+    pub fn round(&self) -> u64
+        ensures { result ≡ self.now.round }
+    {
+        self.round
+    }
+
+    /// Returns the offset in bytes from the first record up to which records were returned. After an error it
+    /// is the offset of the record with the error.
+    pub fn offset(&self) -> u64
+        ensures { result ≡ self.now.offset }
+    {
+        self.offset
+    }
+
+    /// Returns a record with its attribute and its time as the iterator would at this offset, in the current
+    /// round: the record isn't in the source, but in the content of a compressed record.
+    #[inline(always)]
+    pub fn identify(
+        &mut self,
+        offset: u64,
+        header: PerfEventHeader,
+        body: &[u8],
+    ) -> IdentifiedRecord
+        ensures { IdentifiesContent self.old offset header body.now result self.new }
+    {
+        let round = self.round;
+        IdentifiedRecord::identify(&mut self.attribute_lookup, body, offset, round, header)
+    }
+
+    /// Returns an identified record with its body.
+    #[inline(always)]
+    pub fn record<'a>(&self, identified: IdentifiedRecord, body: &'a [u8]) -> PerfFileRecord<'a>
+        ensures { record_view_of identified.place result
+            ≡ record_view_with self.now.attribute_lookup identified self.now.endian body.entry }
+    {
+        let parse_info = *self.attribute_lookup.parse_info(identified.attr_index());
+        identified.into_record(parse_info, self.endian, RawData::Single(body))
+    }
+
+    // Goes on after the compressed record at which the last call failed, if compressed records are returned.
+    // Returns that record; `None` if the call failed for another reason.
+    #[inline(never)]
+    fn take_compressed(&mut self) -> Option<IdentifiedRecord>
+        ensures only_if_returned { self.old.returns_compressed ≡ false
+            → (result ≡ None) × (self.new ≡ self.old) }
+        ensures same_source { self.new.source ≡ self.old.source }
+    {
+        if !self.returns_compressed {
+            return None;
+        }
+        let header = self.compressed.take()?;
+        let (offset, round) = (self.offset, self.round);
+        let identified = IdentifiedRecord::identify(
+            &mut self.attribute_lookup,
+            self.body.as_slice(),
+            offset,
+            round,
+            header,
+        );
+        self.offset = offset.saturating_add(header.size as u64);
+        self.stage = Stage::Running;
+        Some(identified)
     }
 }
 
@@ -219,6 +344,8 @@ impl<R: Source> PerfRecordIter<R> {
     ghost use Rattle.linux_perf_data.specs.Iter.{section_size_of, iter_source_state};
     ghost use Rattle.linux_perf_data.specs.steps.IterSteps.{RawRecordExceedsBuffer, ReadsRawRecord};
     ghost use Rattle.linux_perf_data.specs.steps.IterSteps.{ProcessesRecord};
+    ghost use Rattle.linux_perf_data.specs.steps.ItemSteps.{Steps};
+    ghost use Rattle.linux_perf_data.specs.Items.{ReturnsNoCompressed, AdvancesItem, NextItemOf};
     ghost use Rattle.std.specs.Io.BufRead.{Rests};
     ghost use Rattle.std.specs.Borrow.{sem};
     ghost use Rattle.linux_perf_data.specs.contracts.records.iter.PerfRecordIter.{the_row};
@@ -249,7 +376,7 @@ impl<R: Source> PerfRecordIter<R> {
     ///
     /// Otherwise it returns false, because the next call may wait, the next bytes are no valid record, or the
     /// source ends. It also returns false while the record header that the opening of a pipe read ahead is
-    /// pending.
+    /// pending, and before a compressed record.
     pub fn is_next_buffered(&self) -> bool
         ensures exact { IsTrue result ↔ IsNextBuffered R.state R.buffered self.now }
         ensures prefix_of_remaining { TestsNextBuffered R.state self.now result }
@@ -282,6 +409,7 @@ impl<R: Source> PerfRecordIter<R> {
             (λ e. e ≡ Memory → RawRecordExceedsBuffer R.state self.old self.new) }
         ensures capacity { vec_capacity self.old.body ≤ vec_capacity self.new.body }
         ensures pauses { PausesOnlyAtEndOrError (R.state self.old.source) result (R.state self.new.source) }
+        ensures same_options { self.new.returns_compressed ≡ self.old.returns_compressed }
         ensures same_loan { R.loan self.new.source ≡ R.loan self.old.source }
     {
         let (input, offset) = (&mut self.input, self.offset);
@@ -297,7 +425,8 @@ impl<R: Source> PerfRecordIter<R> {
             self.offset = end;
             return Ok(Some(header));
         }
-        match read_record_body(&mut self.source, self.endian, header, &mut self.body, end)? {
+        let (body, compressed) = (&mut self.body, &mut self.compressed);
+        match read_record_body(&mut self.source, self.endian, header, body, end, compressed)? {
             Some(end) => {
                 self.offset = end;
                 Ok(Some(header))
@@ -319,6 +448,7 @@ impl<R: Source> PerfRecordIter<R> {
         ensures processes { ProcessesRecord R.state self.old perf_file.old offset round header result self.new
             perf_file.new }
         ensures pauses { R.state self.new.source ≡ R.state self.old.source }
+        ensures same_options { self.new.returns_compressed ≡ self.old.returns_compressed }
         ensures same_loan { R.loan self.new.source ≡ R.loan self.old.source }
     {
         let body = self.body.as_slice();
@@ -330,6 +460,46 @@ impl<R: Source> PerfRecordIter<R> {
                 let (alloc, endian) = (self.alloc, self.endian);
                 apply_metadata(alloc, endian, lookup, perf_file, header.type_, body)?;
                 Ok(identified)
+            }
+        }
+    }
+
+    // Reads and processes the next raw record. The body of a record is then in `self.body`.
+    #[inline(always)]
+    fn step(&mut self, perf_file: &mut PerfFile) -> Result<Option<NextItem>, Error>
+        requires empty { self.old.body.items ≡ [] }
+        ensures steps { Steps R.state self.old perf_file.old result self.new perf_file.new }
+        ensures pauses { PausesOnlyAtEndOrError (R.state self.old.source) result (R.state self.new.source) }
+        ensures same_options { self.new.returns_compressed ≡ self.old.returns_compressed }
+        ensures same_loan { R.loan self.new.source ≡ R.loan self.old.source }
+    {
+        if !self.may_start_record() {
+            self.stage = Stage::Ended;
+            return Ok(None);
+        }
+        let offset = self.offset;
+        let round = self.round;
+        match self.next_raw_record() {
+            Ok(Some(header)) => {
+                if header.type_ == PERF_RECORD_FINISHED_ROUND {
+                    return Ok(Some(NextItem::RoundEnd(round)));
+                }
+                match self.process_record(perf_file, offset, round, header) {
+                    Ok(identified) => Ok(Some(NextItem::Record(identified))),
+                    Err(error) => {
+                        self.offset = offset;
+                        self.stage = Stage::Failed;
+                        Err(error)
+                    }
+                }
+            }
+            Ok(None) => {
+                self.stage = Stage::Ended;
+                Ok(None)
+            }
+            Err(error) => {
+                self.stage = Stage::Failed;
+                Err(error)
             }
         }
     }
@@ -350,34 +520,70 @@ impl<R: Source> PerfRecordIter<R> {
         self.body.clear();
         // For the prover: the offset has 64 bits.
         let _offset = self.offset;
-        'raw_records: while self.may_start_record() {
-            let offset = self.offset;
-            let round = self.round;
-            match self.next_raw_record() {
-                Ok(Some(header)) => {
-                    if header.type_ != PERF_RECORD_FINISHED_ROUND {
-                        match self.process_record(perf_file, offset, round, header) {
-                            Ok(identified) => return Ok(Some(identified)),
-                            Err(error) => {
-                                self.offset = offset;
-                                self.stage = Stage::Failed;
-                                return Err(error);
-                            }
-                        }
-                    }
-                }
-                Ok(None) => {
-                    self.stage = Stage::Ended;
-                    return Ok(None);
-                }
-                Err(error) => {
-                    self.stage = Stage::Failed;
-                    return Err(error);
-                }
+        'raw_records: loop {
+            match self.step(perf_file) {
+                Ok(Some(NextItem::Record(identified))) => return Ok(Some(identified)),
+                Ok(Some(NextItem::RoundEnd(_))) => {}
+                Ok(None) => return Ok(None),
+                Err(error) => return Err(error),
             }
         }
-        self.stage = Stage::Ended;
-        Ok(None)
+    }
+
+    /// Reads up to the end of the next record or round marker, and no byte more, or returns `Ok(None)` at the
+    /// end of the records. The errors are those of [`PerfRecordIter::next_item`].
+    #[inline(always)]
+    pub fn advance_item(&mut self, perf_file: &mut PerfFile) -> Result<Option<NextItem>, Error>
+        ensures named_error { IfErr result IsRecordError }
+        ensures advances { ReturnsNoCompressed self.old
+            → AdvancesItem R.state self.old perf_file.old result self.new perf_file.new }
+        ensures same_options { ReturnsNoCompressed self.old → ReturnsNoCompressed self.new }
+        ensures pauses { ReturnsNoCompressed self.old
+            → PausesOnlyAtEndOrError (R.state self.old.source) result (R.state self.new.source) }
+        ensures memory_only_to_grow { ReturnsNoCompressed self.old
+            → MemoryOnlyToGrow R.state self.old result self.new }
+        ensures same_loan { R.loan self.new.source ≡ R.loan self.old.source }
+    {
+        match self.stage {
+            Stage::Running => {}
+            Stage::Failed => return Err(Error::Failed),
+            Stage::Ended => return Ok(None),
+        }
+        // For the prover: the offset has 64 bits.
+        let _offset = self.offset;
+        self.body.clear();
+        match self.step(perf_file) {
+            Ok(next) => Ok(next),
+            Err(error) => match self.take_compressed() {
+                Some(identified) => Ok(Some(NextItem::Record(identified))),
+                None => Err(error),
+            },
+        }
+    }
+
+    /// Returns the next record, or the end of a round, or `Ok(None)` at the end of the records.
+    ///
+    /// The call consumes a record or a round marker, and no byte more: the end of a round is returned before
+    /// a byte after its marker is read. The records and the errors are those of
+    /// [`PerfRecordIter::next_record`]. If [`ReadOptions`](crate::file_reader::ReadOptions) let compressed
+    /// records be returned, they are records, and no error.
+    #[inline(always)]
+    pub fn next_item(&mut self, perf_file: &mut PerfFile) -> Result<Option<PerfItem<'_>>, Error>
+        ensures named_error { IfErr result IsRecordError }
+        ensures* after_borrow { sem 𝓛 (Rests (the_row R.row) self.entry
+            (λ new. NextItemOf R.state R.loan self.old perf_file.old result new perf_file.new)) }
+    {
+        match self.advance_item(perf_file)? {
+            Some(NextItem::Record(identified)) => {
+                let endian = self.endian;
+                let parse_info = *self.attribute_lookup.parse_info(identified.attr_index());
+                let buffered = RawData::Single(self.body.as_slice());
+                let record = identified.into_record(parse_info, endian, buffered);
+                Ok(Some(PerfItem::Record(identified.place, record)))
+            }
+            Some(NextItem::RoundEnd(round)) => Ok(Some(PerfItem::RoundEnd { round })),
+            None => Ok(None),
+        }
     }
 
     /// Returns the next record with its [`RecordPlace`], or `Ok(None)` at the end of the records.
@@ -402,6 +608,7 @@ impl<R: Source> PerfRecordIter<R> {
     /// - `Read(PerfEventData)` if a body or aux data are truncated or can't be read, or would end past 2^64 -
     ///   1.
     /// - `IoError` of kind `Unsupported` for a compressed record (types 81 and 83), whose bytes are consumed.
+    ///   [`PerfRecordIter::next_item`] can return them.
     /// - `Memory` if memory runs out for a body. The body with its aux data is then larger than the
     ///   capacity of the buffer.
     ///

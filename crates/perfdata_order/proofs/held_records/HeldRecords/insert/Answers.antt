@@ -30,7 +30,7 @@ invariant_of-self-in-Ok-insert_unordered c =
     let bodies = c.append.new.self in
     let infos = c.from_body_format.new.parse_infos in
     let body = bytes_of c.args.body in
-    let held : HeldRecord = record { place = c.args.envelope.place; misc = c.args.envelope.misc; format = c.in-Ok.format; body = c.in-Ok-append.body } in
+    let held : HeldRecord = record { place = c.args.envelope.place; index = c.args.envelope.index; misc = c.args.envelope.misc; format = c.in-Ok.format; body = c.in-Ok-append.body } in
     let appended = c.in-Ok-append.ensures.appends in
     let few = few_blocks_after old.bodies bodies (length body) (held_of old.sorter) (slots_in old.sorter) old.counted (held_in_slots old.sorter) c.in-Ok-append.ensures.blocks old.few_blocks in
     let slots = c.in-Ok-insert_unordered.ensures.slots.kept in
@@ -68,7 +68,7 @@ pub returns : goal.returns
 returns c =
     let old = c.args.self.now in
     let new = c.match-insert_unordered.self in
-    let held : HeldRecord = record { place = c.args.envelope.place; misc = c.args.envelope.misc; format = c.in-Ok.format; body = c.in-Ok-append.body } in
+    let held : HeldRecord = record { place = c.args.envelope.place; index = c.args.envelope.index; misc = c.args.envelope.misc; format = c.in-Ok.format; body = c.in-Ok-append.body } in
     elim c.match-insert_unordered.branch [
       | in-Ok-insert_unordered w ↦
           let done = subst (λ s. Inserted nat_cmp old.sorter c.args.key held s) (sym (ap (λ s. s.sorter) w.self-is)) w.in-Ok-insert_unordered.ensures in

@@ -1,0 +1,55 @@
+//! Why the content of a compressed record can't be read.
+
+use linux_perf_data::Error;
+use std::alloc::AllocError;
+use std::fmt::InlineText;
+use std::io;
+use std::io::ErrorKind;
+use thiserror::Error;
+use zstd::ZstdError;
+
+// The maximum size in bytes of the text of an error.
+const TEXT_SIZE: usize = 128;
+
+/// Why the content of a compressed record can't be read.
+#[derive(Clone, Copy, Debug, PartialEq, Eq, Error)]
+pub enum CompressedError {
+    /// The algorithm in the feature COMPRESSED isn't zstd (1).
+    #[error("compressed by an unknown algorithm ({0})")]
+    Algorithm(u32),
+    /// The size of the compressed data in a record of type 83 is larger than its body, or truncated.
+    #[error("compressed data larger than their record")]
+    DataSize,
+    /// The compressed data can't be decompressed.
+    #[error("compressed data: {0}")]
+    Stream(ZstdError),
+    /// The size of a record in the content is below 8, the size of its header.
+    #[error("size of a record in compressed data below 8")]
+    RecordSize,
+    /// A record in the content has the type of a tool's record, 64 or above, which perf doesn't compress.
+    #[error("record of type {0} in compressed data")]
+    RecordType(u32),
+}
+
+impl From<ZstdError> for CompressedError {
+    fn from(error: ZstdError) -> CompressedError {
+        CompressedError::Stream(error)
+    }
+}
+
+impl From<AllocError> for CompressedError {
+    fn from(_: AllocError) -> CompressedError {
+        CompressedError::Stream(ZstdError::Memory)
+    }
+}
+
+impl From<CompressedError> for Error {
+    // `Memory` if memory ran out, else an `IoError` of kind `InvalidData` with the text of the error.
+    fn from(error: CompressedError) -> Error {
+        if error == CompressedError::Stream(ZstdError::Memory) {
+            return Error::Memory;
+        }
+        let text = InlineText::<TEXT_SIZE>::of(&error);
+        Error::IoError(io::Error::new(ErrorKind::InvalidData, text.as_str()))
+    }
+}
