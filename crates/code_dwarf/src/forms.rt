@@ -1,6 +1,7 @@
 //! Forms: how the values of attributes are in the bytes (DWARF 5, sections 7.5.5 and 7.5.6).
 ghost use Rattle.std.specs.Prelude.{◌≡◌, ◌<◌, ◌≤◌, ◌+◌, length, IfOk, OnErr, if◌then◌else◌};
 ghost use Rattle.code_dwarf.specs.steps.Numbers.{NumberAt, OffsetAt, BlockAfter};
+ghost use Rattle.code_dwarf.specs.steps.LineMachine.{wrapped};
 ghost use Rattle.code_dwarf.specs.steps.Forms.{IndexAt, DirectAt, OtherAt, ValueAt};
 
 use crate::abbreviations::{AttributeSpec, IMPLICIT_CONST};
@@ -71,7 +72,9 @@ impl Encoding {
     }
 
     // An address with its highest bits dropped where addresses have 4 bytes.
-    pub(crate) fn wrap(&self, address: u64) -> u64 {
+    pub(crate) fn wrap(&self, address: u64) -> u64
+        ensures { result ≡ wrapped self.now address }
+    {
         if self.has_64_bit_addresses {
             address
         } else {
@@ -92,6 +95,7 @@ impl Encoding {
     pub(crate) fn read_address<'a>(&self, bytes: &'a [u8]) -> Result<(u64, &'a [u8]), DwarfError>
         ensures found { IfOk result (λ x.
             OffsetAt self.now.endian self.now.has_64_bit_addresses bytes.now x.0 x.1.now) }
+        ensures none { OnErr result (length bytes.now < (if self.now.has_64_bit_addresses then 8 else 4)) }
         ensures shorter { IfOk result (λ x. length x.1.now < length bytes.now) }
     {
         read_offset(bytes, self.has_64_bit_addresses, self.endian)

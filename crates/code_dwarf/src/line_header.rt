@@ -1,4 +1,7 @@
 //! Headers of line programs (DWARF 5, section 6.2.4; DWARF 4, section 6.2.4).
+ghost use Rattle.std.specs.Prelude.{◌≡◌, ◌≤◌, length, IfOk};
+ghost use Rattle.code_dwarf.specs.steps.LineHeaders.{AddressSizeAt, MaximumAt, ParametersAt, signed};
+ghost use Rattle.code_dwarf.specs.steps.LineHeaders.{LineHeaderAt};
 
 use crate::error::DwarfError;
 use crate::fixed::{Endianness, read_byte, read_fixed, read_length, read_offset, skip, split};
@@ -40,7 +43,11 @@ fn read_address_size(
     version: u64,
     bytes: &[u8],
     has_64_bit_addresses: bool,
-) -> Result<(bool, &[u8]), DwarfError> {
+) -> Result<(bool, &[u8]), DwarfError>
+    ensures found { IfOk result (λ x.
+        AddressSizeAt version has_64_bit_addresses bytes.now x.0 x.1.now) }
+    ensures shorter { IfOk result (λ x. length x.1.now ≤ length bytes.now) }
+{
     if version < 5 {
         return Ok((has_64_bit_addresses, bytes));
     }
@@ -54,7 +61,10 @@ fn read_address_size(
 }
 
 // Reads the largest number of operations, which versions from 4 on have, and returns it with the rest.
-fn read_maximum_operations(version: u64, bytes: &[u8]) -> Result<(u8, &[u8]), DwarfError> {
+fn read_maximum_operations(version: u64, bytes: &[u8]) -> Result<(u8, &[u8]), DwarfError>
+    ensures found { IfOk result (λ x. MaximumAt version bytes.now x.0 x.1.now) }
+    ensures shorter { IfOk result (λ x. length x.1.now ≤ length bytes.now) }
+{
     if version < 4 {
         Ok((1, bytes))
     } else {
@@ -63,13 +73,16 @@ fn read_maximum_operations(version: u64, bytes: &[u8]) -> Result<(u8, &[u8]), Dw
 }
 
 // Reads the parameters of a program, and returns them with the rest.
-fn read_parameters(version: u64, bytes: &[u8]) -> Result<(Parameters, &[u8]), DwarfError> {
-    let (minimum_size, after) = read_byte(bytes)?;
-    let (maximum_operations, after) = read_maximum_operations(version, after)?;
-    let after = skip(after, 1)?;
-    let (line_base, after) = read_byte(after)?;
-    let (line_range, after) = read_byte(after)?;
-    let (opcode_base, rest) = read_byte(after)?;
+fn read_parameters(version: u64, bytes: &[u8]) -> Result<(Parameters, &[u8]), DwarfError>
+    ensures found { IfOk result (λ x. ParametersAt version bytes.now x.0 x.1.now) }
+    ensures shorter { IfOk result (λ x. length x.1.now ≤ length bytes.now) }
+{
+    let (minimum_size, mid) = read_byte(bytes)?;
+    let (maximum_operations, flag) = read_maximum_operations(version, mid)?;
+    let left = skip(flag, 1)?;
+    let (line_base, after_base) = read_byte(left)?;
+    let (line_range, after_range) = read_byte(after_base)?;
+    let (opcode_base, rest) = read_byte(after_range)?;
     if maximum_operations == 0 || line_range == 0 || opcode_base == 0 {
         return Err(DwarfError::BadLineHeader);
     }
@@ -84,7 +97,9 @@ fn read_parameters(version: u64, bytes: &[u8]) -> Result<(Parameters, &[u8]), Dw
 }
 
 // The signed number that a byte is.
-fn signed_byte(byte: u8) -> i64 {
+fn signed_byte(byte: u8) -> i64
+    ensures { result ≡ signed byte }
+{
     if byte < 128 {
         byte as i64
     } else {
@@ -110,37 +125,42 @@ pub(crate) fn read_header(
     offset: u64,
     endian: Endianness,
     has_64_bit_addresses: bool,
-) -> Result<LineHeader, DwarfError> {
+) -> Result<LineHeader, DwarfError>
+    ensures { IfOk result (λ h. LineHeaderAt section.now offset endian has_64_bit_addresses h) }
+{
     let bytes = skip(section, offset)?;
     let (length, after) = read_length(bytes, endian)?;
     let (contents, rest) = split(after, length.size)?;
     let end = section.len().saturating_sub(rest.len());
-    let (version, after) = read_fixed(contents, 2, endian)?;
+    let (version, after_version) = read_fixed(contents, 2, endian)?;
     if version < 2 || version > 5 {
         return Err(DwarfError::UnknownVersion((version % 0x1_0000) as u16));
     }
-    let (has_64_bit_addresses, after) = read_address_size(version, after, has_64_bit_addresses)?;
-    let (size, after) = read_offset(after, length.is_64_bit, endian)?;
-    let (header, instructions) = split(after, size)?;
+    let (is_wide, after_size) = read_address_size(version, after_version, has_64_bit_addresses)?;
+    let (size, after_length) = read_offset(after_size, length.is_64_bit, endian)?;
+    let (header, instructions) = split(after_length, size)?;
     let tables_end = end.saturating_sub(instructions.len());
-    let (parameters, after) = read_parameters(version, header)?;
-    let tables = skip(after, (parameters.opcode_base as u64).saturating_sub(1))?;
+    let (parameters, counts) = read_parameters(version, header)?;
+    let counts_start = tables_end.saturating_sub(counts.len());
+    let count = (parameters.opcode_base as u64).saturating_sub(1);
+    let tables = skip(counts, count)?;
     let tables_start = tables_end.saturating_sub(tables.len());
+    let line_base = signed_byte(parameters.line_base);
     Ok(LineHeader {
         encoding: Encoding {
             endian,
             is_64_bit: length.is_64_bit,
-            has_64_bit_addresses,
+            has_64_bit_addresses: is_wide,
             version: (version % 0x1_0000) as u16,
             end: tables_end,
         },
         minimum_size: parameters.minimum_size as u64,
         maximum_operations: parameters.maximum_operations as u64,
-        line_base: signed_byte(parameters.line_base),
+        line_base,
         line_range: parameters.line_range,
         opcode_base: parameters.opcode_base,
         operand_counts: ByteRange {
-            start: tables_end.saturating_sub(after.len()),
+            start: counts_start,
             end: tables_start,
         },
         tables: ByteRange {

@@ -1,5 +1,12 @@
 //! Instructions of line programs (DWARF 5, section 6.2.5).
-ghost use Rattle.std.specs.Prelude.{◌<◌, ◌≤◌, length, IfOk};
+ghost use Rattle.std.specs.Prelude.{◌≡◌, ◌+◌, ◌-◌, ◌%◌, ◌^◌, ◌<◌, ◌≤◌, length, IfOk, OnErr};
+ghost use Rattle.std.specs.Int.{cast_unsigned, w64};
+ghost use Rattle.code_dwarf.specs.steps.LineInstructions.{OperandsAt, StandardAt, ExtendedIs, ExtendedAt};
+ghost use Rattle.code_dwarf.specs.steps.LineInstructions.{InstructionAt, NoOperands, NoStandard};
+ghost use Rattle.code_dwarf.specs.steps.LineInstructions.{NotExtended, NoExtended, NoInstruction};
+ghost use Rattle.code_dwarf.specs.steps.LineInstructions.{operand_count as count_of_operands};
+ghost use Rattle.code_dwarf.specs.steps.LineMachine.{advanced, with_line, with_address, after_special};
+ghost use Rattle.code_dwarf.specs.steps.LineMachine.{after as registers_after, effect_of};
 
 use crate::error::DwarfError;
 use crate::fixed::{read_byte, read_fixed, read_sleb128, read_uleb128, split};
@@ -66,10 +73,12 @@ pub(crate) enum RowEffect {
 
 // Skips operands of a standard instruction: `count` unsigned LEB128 numbers.
 fn skip_operands(bytes: &[u8], count: u8) -> Result<&[u8], DwarfError>
+    ensures found { IfOk result (λ rest. OperandsAt count bytes.now rest.now) }
+    ensures none { OnErr result (NoOperands count bytes.now) }
     ensures shorter { IfOk result (λ rest. length rest.now ≤ length bytes.now) }
 {
     let mut rest = bytes;
-    'operands: for _ in 0..count {
+    'operands: for _index in 0..count {
         let (_, after) = read_uleb128(rest)?;
         rest = after;
     }
@@ -82,16 +91,24 @@ fn read_operands(
     bytes: &[u8],
     end: usize,
     header: &LineHeader,
-) -> Result<LineInstruction, DwarfError> {
+) -> Result<LineInstruction, DwarfError>
+    ensures found { IfOk result (λ i. ExtendedIs header.now end opcode bytes.now i) }
+    ensures none { OnErr result (NotExtended header.now end opcode bytes.now) }
+{
     match opcode {
         1 => Ok(LineInstruction::EndSequence),
         2 => {
             let (address, _) = header.encoding.read_address(bytes)?;
             Ok(LineInstruction::SetAddress(address))
         }
-        3 if header.encoding.version < 5 => Ok(LineInstruction::DefineFile(end.saturating_sub(
-            bytes.len(),
-        ))),
+        3 => {
+            if header.encoding.version < 5 {
+                let offset = end.saturating_sub(bytes.len());
+                Ok(LineInstruction::DefineFile(offset))
+            } else {
+                Ok(LineInstruction::Other)
+            }
+        }
         _ => Ok(LineInstruction::Other),
     }
 }
@@ -101,6 +118,8 @@ fn read_extended<'a>(
     bytes: &'a [u8],
     header: &LineHeader,
 ) -> Result<(LineInstruction, &'a [u8]), DwarfError>
+    ensures found { IfOk result (λ x. ExtendedAt header.now bytes.now x.0 x.1.now) }
+    ensures none { OnErr result (NoExtended header.now bytes.now) }
     ensures shorter { IfOk result (λ x. length x.1.now < length bytes.now) }
 {
     let (size, after_size) = read_uleb128(bytes)?;
@@ -111,12 +130,14 @@ fn read_extended<'a>(
     Ok((instruction, rest))
 }
 
-// Reads the operand of a standard instruction that has an effect here, and returns it with the rest.
+// Reads the operand of a standard instruction that is known, and returns it with the rest.
 fn read_standard<'a>(
     opcode: u8,
     bytes: &'a [u8],
     header: &LineHeader,
 ) -> Result<(LineInstruction, &'a [u8]), DwarfError>
+    ensures found { IfOk result (λ x. StandardAt header.now opcode bytes.now x.0 x.1.now) }
+    ensures none { OnErr result (1 ≤ opcode → opcode ≤ 12 → NoStandard header.now opcode bytes.now) }
     ensures shorter { IfOk result (λ x. length x.1.now ≤ length bytes.now) }
 {
     match opcode {
@@ -143,29 +164,23 @@ fn read_standard<'a>(
             Ok((LineInstruction::AdvanceFixed(advance), rest))
         }
         6 | 7 | 10 | 11 => Ok((LineInstruction::Other, bytes)),
-        _ => {
-            let rest = skip_operands(bytes, 1)?;
+        12 => {
+            let (_, rest) = read_uleb128(bytes)?;
             Ok((LineInstruction::Other, rest))
         }
+        _ => Err(DwarfError::BadLineProgram),
     }
 }
 
-// Skips a standard instruction that is unknown, by its number of operands.
-fn skip_unknown<'a>(
-    opcode: u8,
-    section: &[u8],
-    bytes: &'a [u8],
-    header: &LineHeader,
-) -> Result<&'a [u8], DwarfError>
-    ensures shorter { IfOk result (λ rest. length rest.now ≤ length bytes.now) }
+// The number of operands of a standard instruction, which the header says.
+fn operand_count(opcode: u8, section: &[u8], header: &LineHeader) -> u8
+    ensures { result ≡ count_of_operands section.now header.now opcode }
 {
-    let index = header
-        .operand_counts
-        .start
-        .saturating_add(opcode as usize)
-        .saturating_sub(1);
-    let count = section.get(index).copied().unwrap_or(0);
-    skip_operands(bytes, count)
+    let index = (opcode as usize).saturating_sub(1);
+    section
+        .get(header.operand_counts.start.saturating_add(index))
+        .copied()
+        .unwrap_or(0)
 }
 
 // Reads the instruction at the start of the bytes, and returns it with the rest.
@@ -174,6 +189,8 @@ pub(crate) fn read_instruction<'a>(
     bytes: &'a [u8],
     header: &LineHeader,
 ) -> Result<(LineInstruction, &'a [u8]), DwarfError>
+    ensures found { IfOk result (λ x. InstructionAt section.now header.now bytes.now x.0 x.1.now) }
+    ensures none { OnErr result (NoInstruction section.now header.now bytes.now) }
     ensures shorter { IfOk result (λ x. length x.1.now < length bytes.now) }
 {
     let (opcode, rest) = read_byte(bytes)?;
@@ -185,7 +202,8 @@ pub(crate) fn read_instruction<'a>(
         0 => read_extended(rest, header),
         1..=12 => read_standard(opcode, rest, header),
         _ => {
-            let after = skip_unknown(opcode, section, rest, header)?;
+            let count = operand_count(opcode, section, header);
+            let after = skip_operands(rest, count)?;
             Ok((LineInstruction::Other, after))
         }
     }
@@ -193,7 +211,9 @@ pub(crate) fn read_instruction<'a>(
 
 impl Registers {
     // Advances by a number of operations.
-    fn advance(&mut self, header: &LineHeader, operations: u64) {
+    fn advance(&mut self, header: &LineHeader, operations: u64)
+        ensures { self.new ≡ advanced header.now self.old operations }
+    {
         let total = self.operation.wrapping_add(operations);
         let most = header.maximum_operations.max(1);
         let size = header.minimum_size.wrapping_mul(total / most);
@@ -201,21 +221,37 @@ impl Registers {
         self.operation = total % most;
     }
 
-    // Advances the line.
-    fn advance_line(&mut self, advance: i64) {
-        let low = (advance.cast_unsigned() % 0x1_0000_0000) as u32;
+    // Advances the line by the number that 64 bits are.
+    fn advance_line(&mut self, advance: u64)
+        ensures { self.new ≡ with_line self.old advance }
+    {
+        let low = (advance % 0x1_0000_0000) as u32;
         self.line = self.line.wrapping_add(low);
     }
 
+    // Goes to the first operation at an address.
+    fn set_address(&mut self, address: u64)
+        ensures { self.new ≡ with_address self.old address }
+    {
+        self.address = address;
+        self.operation = 0;
+    }
+
     // Does what a special opcode does.
-    fn special(&mut self, header: &LineHeader, opcode: u8) {
+    fn special(&mut self, header: &LineHeader, opcode: u8)
+        ensures { self.new ≡ after_special header.now self.old opcode }
+    {
         let range = header.line_range.max(1);
         self.advance(header, (opcode / range) as u64);
-        self.advance_line(header.line_base.wrapping_add((opcode % range) as i64));
+        let line_base = header.line_base.cast_unsigned();
+        self.advance_line(line_base.wrapping_add((opcode % range) as u64));
     }
 
     // Does what an instruction does to the registers, and returns what else it does.
-    pub(crate) fn step(&mut self, header: &LineHeader, instruction: &LineInstruction) -> RowEffect {
+    pub(crate) fn step(&mut self, header: &LineHeader, instruction: &LineInstruction) -> RowEffect
+        ensures registers { self.new ≡ registers_after header.now instruction.now self.old }
+        ensures effect { result ≡ effect_of instruction.now }
+    {
         match instruction {
             LineInstruction::Other | LineInstruction::DefineFile(_) => {}
             LineInstruction::Special(opcode) => {
@@ -224,7 +260,7 @@ impl Registers {
             }
             LineInstruction::Copy => return RowEffect::Row,
             LineInstruction::AdvanceAddress(operations) => self.advance(header, *operations),
-            LineInstruction::AdvanceLine(advance) => self.advance_line(*advance),
+            LineInstruction::AdvanceLine(advance) => self.advance_line(advance.cast_unsigned()),
             LineInstruction::SetFile(file) => self.file = *file,
             LineInstruction::SetColumn(column) => self.column = *column,
             LineInstruction::AdvanceByLast => {
@@ -233,14 +269,11 @@ impl Registers {
                 self.advance(header, (last / range) as u64);
             }
             LineInstruction::AdvanceFixed(size) => {
-                self.address = header.encoding.wrap(self.address.wrapping_add(*size));
-                self.operation = 0;
+                let address = self.address.wrapping_add(*size);
+                self.set_address(header.encoding.wrap(address));
             }
             LineInstruction::EndSequence => return RowEffect::End,
-            LineInstruction::SetAddress(address) => {
-                self.address = *address;
-                self.operation = 0;
-            }
+            LineInstruction::SetAddress(address) => self.set_address(*address),
         }
         RowEffect::None
     }

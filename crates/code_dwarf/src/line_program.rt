@@ -1,4 +1,16 @@
 //! Line programs: their sequences, and the row at an address (DWARF 5, section 6.2).
+ghost use Rattle.std.specs.Prelude.{◌≡◌, ◌≤◌, ◌<◌, ◌-◌, ℕ, List, length, drop, slice_range};
+ghost use Rattle.std.specs.Prelude.{IfOk, OnOk, IfSome, is_some, slice_index_or, ◌⊎◌, true, false};
+ghost use Rattle.code_dwarf.specs.declared.line_program.Checkpoint.{Checkpoint};
+ghost use Rattle.code_dwarf.specs.declared.ranges.AddressRange.{AddressRange};
+ghost use Rattle.code_dwarf.specs.declared.line_header.LineHeader.{LineHeader};
+ghost use Rattle.std.specs.List.{Contains};
+ghost use Rattle.code_dwarf.specs.steps.LineInstructions.{InstructionAt};
+ghost use Rattle.code_dwarf.specs.steps.LineRows.{Sequence, Progress, at_start, stepped, program_bytes};
+ghost use Rattle.code_dwarf.specs.steps.LineHeaders.{LineHeaderAt, index_in_table};
+ghost use Rattle.code_dwarf.specs.steps.LineRows.{Runs, LastRow, RowIn, counts};
+ghost use Rattle.code_dwarf.specs.steps.LineReaders.{IsProgram, IsOf, Follows, NotesRow, NotesState};
+ghost use Rattle.code_dwarf.specs.steps.LineReaders.{EndsSequence, notes_count};
 
 use crate::error::DwarfError;
 use crate::fixed::Endianness;
@@ -64,7 +76,10 @@ struct ProgramReader {
 
 impl ProgramReader {
     // A reader at the start of a program.
-    fn new(alloc: Global) -> ProgramReader {
+    fn new(alloc: Global) -> ProgramReader
+        ensures { (section rest : List ℕ) (h : LineHeader) (code : List AddressRange)
+            → Follows section h code result at_start rest }
+    {
         ProgramReader {
             sequences: Vec::new(alloc),
             checkpoints: Vec::new(alloc),
@@ -78,7 +93,9 @@ impl ProgramReader {
     }
 
     // Notes a row.
-    fn add_row(&mut self) {
+    fn add_row(&mut self)
+        ensures { NotesRow self.old self.new }
+    {
         if self.first.is_none() {
             self.first = Some(self.registers);
         } else if self.registers.address < self.row.address {
@@ -89,7 +106,11 @@ impl ProgramReader {
     }
 
     // Whether a checkpoint is to be added, with `left` bytes left.
-    fn needs_checkpoint(&self, left: usize) -> bool {
+    fn needs_checkpoint(&self, left: usize) -> bool
+        ensures some { result ≡ true → is_some self.now.first ≡ true }
+        ensures none { result ≡ false → is_some self.now.first ≡ true
+            → self.now.start < length self.now.checkpoints.items }
+    {
         if self.first.is_none() {
             return false;
         }
@@ -102,7 +123,9 @@ impl ProgramReader {
     }
 
     // Adds a checkpoint if one is due.
-    fn add_checkpoint(&mut self, left: usize) -> Result<(), AllocError> {
+    fn add_checkpoint(&mut self, left: usize) -> Result<(), AllocError>
+        ensures { OnOk result (NotesState left self.old self.new) }
+    {
         if self.needs_checkpoint(left) {
             self.rows = 0;
             self.checkpoints.push(Checkpoint {
@@ -114,23 +137,34 @@ impl ProgramReader {
         Ok(())
     }
 
-    // Ends the sequence, and adds it if it counts.
-    fn end_sequence(&mut self, code: &[AddressRange]) -> Result<(), AllocError> {
+    // The first address of the sequence, if the sequence counts.
+    fn counted_start(&self, code: &[AddressRange]) -> Option<u64>
+        ensures { result ≡ notes_count code.now self.now.first self.now.row self.now.descends
+            self.now.registers.address }
+    {
+        let first = self.first?;
         let end = self.registers.address;
-        let last = self.checkpoints.len();
-        match self.first {
-            Some(first)
-                if !self.descends
-                    && self.row.address <= end
-                    && is_counted(code, first.address, end) => {
+        if !self.descends && self.row.address <= end && is_code(code, first.address, end) {
+            Some(first.address)
+        } else {
+            None
+        }
+    }
+
+    // Ends the sequence, and adds it if it counts.
+    fn end_sequence(&mut self, code: &[AddressRange]) -> Result<(), AllocError>
+        ensures { OnOk result (EndsSequence code.now self.old self.new) }
+    {
+        match self.counted_start(code) {
+            Some(start) => {
                 self.sequences.push(LineSequence {
-                    start: first.address,
-                    end,
+                    start,
+                    end: self.registers.address,
                     first: self.start,
-                    last,
+                    last: self.checkpoints.len(),
                 })?;
             }
-            _ => self.checkpoints.truncate(self.start),
+            None => self.checkpoints.truncate(self.start),
         }
         self.start = self.checkpoints.len();
         self.registers = INITIAL;
@@ -147,7 +181,15 @@ impl ProgramReader {
         code: &[AddressRange],
         instruction: &LineInstruction,
         left: usize,
-    ) -> Result<(), AllocError> {
+    ) -> Result<(), AllocError>
+        ensures { (section bytes rest : List ℕ) (p : Progress)
+            → InstructionAt section header.now bytes instruction.now rest
+            → bytes ≡ drop (length (program_bytes section header.now) - length bytes)
+            (program_bytes section header.now)
+            → length rest ≡ left → Follows section header.now code.now self.old p bytes
+            → OnOk result (Follows section header.now code.now self.new
+            (stepped header.now instruction.now p) rest) }
+    {
         match self.registers.step(header, instruction) {
             RowEffect::None => {}
             RowEffect::Row => self.add_row(),
@@ -156,18 +198,23 @@ impl ProgramReader {
         self.add_checkpoint(left)
     }
 
-    // Runs the instructions up to their end or to one that can't be read.
+    // Runs the instructions up to their end or to one that can't be read, and returns whether there was none.
     fn run(
         &mut self,
         section: &[u8],
         header: &LineHeader,
         code: &[AddressRange],
         tables: &mut LineTables,
-    ) -> Result<(), DwarfError> {
+    ) -> Result<bool, AllocError>
+        ensures { Follows section.now header.now code.now self.old at_start
+            (program_bytes section.now header.now)
+            → OnOk result ((p : Progress) × (rest : List ℕ) × Runs section.now header.now p
+            × Follows section.now header.now code.now self.new p rest) }
+    {
         let mut rest = instruction_bytes(section, header);
         'instructions: while !rest.is_empty() {
             let Ok((instruction, after)) = read_instruction(section, rest, header) else {
-                return Err(DwarfError::BadLineProgram)
+                return Ok(false);
             };
             self.step(header, code, &instruction, after.len())?;
             if let LineInstruction::DefineFile(offset) = instruction {
@@ -175,20 +222,17 @@ impl ProgramReader {
             }
             rest = after;
         }
-        Ok(())
+        Ok(true)
     }
 }
 
 // The instructions of a program.
-fn instruction_bytes<'a>(section: &'a [u8], header: &LineHeader) -> &'a [u8] {
+fn instruction_bytes<'a>(section: &'a [u8], header: &LineHeader) -> &'a [u8]
+    ensures { result.now ≡ program_bytes section.now header.now }
+{
     section
         .get(header.instructions.start..header.instructions.end)
         .unwrap_or(&[])
-}
-
-// Whether a sequence between two addresses counts.
-fn is_counted(code: &[AddressRange], start: u64, end: u64) -> bool {
-    is_code(code, &AddressRange { start, end })
 }
 
 // The intervals of sequences: of those with an address the ones with the greatest start count, and of these
@@ -217,14 +261,19 @@ impl LineProgram {
         endian: Endianness,
         has_64_bit_addresses: bool,
         code: &[AddressRange],
-    ) -> Result<(LineProgram, Option<DwarfError>), DwarfError> {
+    ) -> Result<(LineProgram, Option<DwarfError>), DwarfError>
+        ensures rows { IfOk result (λ x. (p : Progress) × IsProgram section.now code.now x.0 p) }
+        ensures header { IfOk result (λ x. (at : LineHeaderAt section.now offset endian has_64_bit_addresses
+            x.0.header) × (program_bytes section.now x.0.header ≡ at.instructions)) }
+    {
         let header = read_header(section, offset, endian, has_64_bit_addresses)?;
         let mut tables = LineTables::read(alloc, section, &header)?;
         let mut reader = ProgramReader::new(alloc);
-        let error = match reader.run(section, &header, code, &mut tables) {
-            Ok(()) => None,
-            Err(DwarfError::Memory) => return Err(DwarfError::Memory),
-            Err(error) => Some(error),
+        let is_whole = reader.run(section, &header, code, &mut tables)?;
+        let error = if is_whole {
+            None
+        } else {
+            Some(DwarfError::BadLineProgram)
         };
         reader.checkpoints.truncate(reader.start);
         let program = LineProgram {
@@ -237,18 +286,30 @@ impl LineProgram {
         Ok((program, error))
     }
 
-    // The last checkpoint of a sequence whose row isn't after an address.
-    fn checkpoint(&self, sequence: &LineSequence, address: u64) -> Option<Checkpoint> {
+    // The last checkpoint of a sequence whose row isn't after an address, else the first one.
+    fn checkpoint(&self, sequence: &LineSequence, address: u64) -> Option<Checkpoint>
+        ensures { IfSome result (λ c. Contains (slice_range self.now.checkpoints.items sequence.now.first
+            sequence.now.last) c × (c.row.address ≤ address ⊎ ((d : Checkpoint) → c
+            ≡ slice_index_or (slice_range self.now.checkpoints.items sequence.now.first sequence.now.last)
+            0 d))) }
+    {
         let checkpoints = self.checkpoints.get(sequence.first..sequence.last)?;
         let after = checkpoints.partition_point(|checkpoint| checkpoint.row.address <= address);
-        checkpoints.get(after.checked_sub(1)?).copied()
+        match checkpoints.get(after.saturating_sub(1)) {
+            Some(checkpoint) if checkpoint.row.address <= address => Some(*checkpoint),
+            _ => checkpoints.first().copied(),
+        }
     }
 
     // The last row after a checkpoint whose address isn't after an address.
-    fn last_row(&self, section: &[u8], checkpoint: &Checkpoint, address: u64) -> Registers {
+    fn last_row(&self, section: &[u8], checkpoint: &Checkpoint, address: u64) -> Registers
+        ensures { (code : List AddressRange) (s : Sequence) → counts code s ≡ true
+            → IsOf section.now self.now.header s checkpoint.now → checkpoint.now.row.address ≤ address
+            → LastRow s.rows address result }
+    {
         let bytes = instruction_bytes(section, &self.header);
         let start = bytes.len().saturating_sub(checkpoint.left);
-        let mut rest = bytes.get(start..).unwrap_or(&[]);
+        let (_, mut rest) = bytes.split_at(start);
         let mut registers = checkpoint.registers;
         let mut row = checkpoint.row;
         'instructions: while !rest.is_empty() {
@@ -257,8 +318,13 @@ impl LineProgram {
             };
             match registers.step(&self.header, &instruction) {
                 RowEffect::None => {}
-                RowEffect::Row if registers.address <= address => row = registers,
-                _ => return row,
+                RowEffect::Row => {
+                    if registers.address > address {
+                        return row;
+                    }
+                    row = registers;
+                }
+                RowEffect::End => return row,
             }
             rest = after;
         }
@@ -266,31 +332,38 @@ impl LineProgram {
     }
 
     // The row at an address.
-    pub(crate) fn row(&self, section: &[u8], address: u64) -> Option<Registers> {
+    pub(crate) fn row(&self, section: &[u8], address: u64) -> Option<Registers>
+        ensures { (code : List AddressRange) (p : Progress) → IsProgram section.now code self.now p
+            → IfSome result (λ row. RowIn code p.ended address row) }
+    {
         let sequence = self.sequences.get(self.intervals.find(0, address)?)?;
+        if address < sequence.start || sequence.end <= address {
+            return None;
+        }
         let checkpoint = self.checkpoint(sequence, address)?;
         Some(self.last_row(section, &checkpoint, address))
     }
 
-    // The file with an index: from 1 on before version 5, from 0 on in it.
-    pub(crate) fn file(&self, section: &[u8], index: u64) -> Option<TableEntry> {
-        let index = if self.header.encoding.version < 5 {
-            index.checked_sub(1)?
+    // Where a table contains the entry with an index: from 1 on before version 5, from 0 on in it.
+    fn table_index(&self, index: u64) -> Option<u64>
+        ensures { result ≡ index_in_table self.now.header.encoding.version index }
+    {
+        if self.header.encoding.version < 5 {
+            index.checked_sub(1)
         } else {
-            index
-        };
-        let offset = self.tables.files.entry(index)?;
+            Some(index)
+        }
+    }
+
+    // The file with an index.
+    pub(crate) fn file(&self, section: &[u8], index: u64) -> Option<TableEntry> {
+        let offset = self.tables.files.entry(self.table_index(index)?)?;
         read_table_entry(section, &self.header, &self.tables.files, offset)
     }
 
     // The directory with an index, or `None` for the compilation directory.
     pub(crate) fn directory(&self, section: &[u8], index: u64) -> Option<TableEntry> {
-        let index = if self.header.encoding.version < 5 {
-            index.checked_sub(1)?
-        } else {
-            index
-        };
-        let offset = self.tables.directories.entry(index)?;
+        let offset = self.tables.directories.entry(self.table_index(index)?)?;
         read_directory(section, &self.header, &self.tables, offset)
     }
 

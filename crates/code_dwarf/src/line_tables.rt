@@ -1,5 +1,5 @@
 //! The directories and files of line programs (DWARF 5, section 6.2.4; DWARF 4, section 6.2.4).
-ghost use Rattle.std.specs.Prelude.{◌<◌, ◌≤◌, length, IfOk};
+ghost use Rattle.std.specs.Prelude.{◌≡◌, ◌<◌, ◌≤◌, length, IfOk, slice_get};
 
 use crate::abbreviations::AttributeSpec;
 use crate::error::DwarfError;
@@ -48,7 +48,9 @@ impl EntryList {
     }
 
     // The offset of the entry with an index.
-    pub(crate) fn entry(&self, index: u64) -> Option<usize> {
+    pub(crate) fn entry(&self, index: u64) -> Option<usize>
+        ensures { result ≡ slice_get self.now.entries.items index }
+    {
         self.entries.get(index as usize).copied()
     }
 

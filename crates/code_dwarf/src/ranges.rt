@@ -1,5 +1,7 @@
 //! Ranges of addresses: those of entries, and range lists (DWARF 5, section 2.17.3; DWARF 4, section 2.17.3).
-ghost use Rattle.std.specs.Prelude.{◌<◌, length, IfOk};
+ghost use Rattle.std.specs.Prelude.{◌≡◌, ◌<◌, length, IfOk};
+ghost use Rattle.std.specs.List.{list_any};
+ghost use Rattle.code_dwarf.specs.steps.LineRows.{contains, is_code_range};
 
 use crate::error::DwarfError;
 use crate::file::{Bases, DwarfFile};
@@ -39,13 +41,23 @@ pub(crate) struct RangeContext<'a> {
     pub(crate) extra_ranges: usize,
 }
 
+// Whether an address is in one of some ranges.
+fn is_in_any(ranges: &[AddressRange], address: u64) -> bool
+    ensures { result ≡ list_any (λ part. contains part address) ranges.now }
+{
+    'parts: for part in ranges {
+        if part.start <= address && address < part.end {
+            return true;
+        }
+    }
+    false
+}
+
 // Whether a range is one of code: it isn't empty, doesn't start at 0, and starts where code is.
-pub(crate) fn is_code(code: &[AddressRange], range: &AddressRange) -> bool {
-    0 < range.start
-        && range.start < range.end
-        && code
-            .iter()
-            .any(|part| part.start <= range.start && range.start < part.end)
+pub(crate) fn is_code(code: &[AddressRange], start: u64, end: u64) -> bool
+    ensures { result ≡ is_code_range code.now start end }
+{
+    0 < start && start < end && is_in_any(code, start)
 }
 
 impl RangeContext<'_> {
@@ -164,7 +176,7 @@ impl RangeContext<'_> {
 
     // Adds a range if it is one of code.
     fn add(&self, ranges: &mut Vec<AddressRange>, range: AddressRange) -> Result<(), AllocError> {
-        if is_code(self.code, &range) {
+        if is_code(self.code, range.start, range.end) {
             ranges.push(range)?;
         }
         Ok(())

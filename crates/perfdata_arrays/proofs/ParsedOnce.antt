@@ -9,7 +9,7 @@ use Rattle.perfdata_events.proofs.OneParsed.{one_parsed, parsed_or_failed}
 use Rattle.perfdata_events.specs.Event.{IsParsed, ParseFails}
 use Rattle.perfdata_events.specs.EventView.{event_view}
 use Rattle.perfdata_events.specs.declared.event.EventRecord.{EventRecord}
-use Rattle.perfdata_events.specs.declared.event.EventRecord.TheVariants.{Mmap, Lost, Comm, Exit, Throttle, Unthrottle, Fork, Read, Mmap2, Aux, ItraceStart, LostSamples, ContextSwitch, Namespaces, Ksymbol, BpfEvent, Cgroup, TextPoke, AuxOutputHwId, Sample, Raw}
+use Rattle.perfdata_events.specs.declared.event.EventRecord.TheVariants.{Read, Sample, Raw}
 use Rattle.perfdata_events.specs.declared.format.EventFormat.{EventFormat}
 
 -- a raw record with these fields, in one slice
@@ -27,26 +27,9 @@ module _ (format : EventFormat) (raw : RawEventRecord) (places : RecordParseInfo
 
   parsed_moved : (e : EventRecord) → IsParsed format raw e → IsParsed format moved (with_raw moved e)
   parsed_moved (Raw v) q = (refl, q.1)
-  parsed_moved (Mmap v) q = record { enough = q.enough; padding = q.padding; event_is = q.event_is }
-  parsed_moved (Lost v) q = record { enough = q.enough; padding = q.padding; event_is = q.event_is }
-  parsed_moved (Comm v) q = record { enough = q.enough; padding = q.padding; event_is = q.event_is }
-  parsed_moved (Exit v) q = record { enough = q.enough; padding = q.padding; event_is = q.event_is }
-  parsed_moved (Throttle v) q = record { enough = q.enough; padding = q.padding; event_is = q.event_is }
-  parsed_moved (Unthrottle v) q = record { enough = q.enough; padding = q.padding; event_is = q.event_is }
-  parsed_moved (Fork v) q = record { enough = q.enough; padding = q.padding; event_is = q.event_is }
-  parsed_moved (Read v) q = (q.0, record { enough = q.1.enough; padding = q.1.padding; event_is = q.1.event_is })
-  parsed_moved (Mmap2 v) q = record { enough = q.enough; padding = q.padding; event_is = q.event_is }
-  parsed_moved (Aux v) q = record { enough = q.enough; padding = q.padding; event_is = q.event_is }
-  parsed_moved (ItraceStart v) q = record { enough = q.enough; padding = q.padding; event_is = q.event_is }
-  parsed_moved (LostSamples v) q = record { enough = q.enough; padding = q.padding; event_is = q.event_is }
-  parsed_moved (ContextSwitch v) q = record { enough = q.enough; padding = q.padding; event_is = q.event_is }
-  parsed_moved (Namespaces v) q = record { enough = q.enough; padding = q.padding; event_is = q.event_is }
-  parsed_moved (Ksymbol v) q = record { enough = q.enough; padding = q.padding; event_is = q.event_is }
-  parsed_moved (BpfEvent v) q = record { enough = q.enough; padding = q.padding; event_is = q.event_is }
-  parsed_moved (Cgroup v) q = record { enough = q.enough; padding = q.padding; event_is = q.event_is }
-  parsed_moved (TextPoke v) q = record { enough = q.enough; padding = q.padding; event_is = q.event_is }
-  parsed_moved (AuxOutputHwId v) q = record { enough = q.enough; padding = q.padding; event_is = q.event_is }
   parsed_moved (Sample v) q = record { is_type = q.is_type; known = q.known; padding = q.padding; event_is = q.event_is }
+  parsed_moved (Read v) q = (q.0, record { enough = q.1.enough; padding = q.1.padding; event_is = q.1.event_is })
+  parsed_moved e q = record { enough = q.enough; padding = q.padding; event_is = q.event_is }
 
   fails_moved : (kind : ErrorKind) → ParseFails format raw kind → ParseFails format moved kind
   fails_moved kind q = q

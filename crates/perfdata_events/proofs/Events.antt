@@ -16,7 +16,7 @@ use Rattle.perfdata_events.specs.Sample.{sample, sample_of}
 use Rattle.perfdata_events.specs.declared.format.EventFormat.{EventFormat}
 use Rattle.perfdata_events.specs.declared.sample.SampleRecord.{SampleRecord}
 use Rattle.perfdata_events.specs.declared.event.EventRecord.{EventRecord}
-use Rattle.perfdata_events.specs.declared.event.EventRecord.TheVariants.{Mmap, Lost, Comm, Exit, Throttle, Unthrottle, Fork, Read, Mmap2, Aux, ItraceStart, LostSamples, ContextSwitch, Namespaces, Ksymbol, BpfEvent, Cgroup, TextPoke, AuxOutputHwId, Sample, Raw}
+use Rattle.perfdata_events.specs.declared.event.EventRecord.TheVariants.{Read, Sample, Raw}
 
 not_false : (b : Bool) → not b ≡ false → b ≡ true
 not_false true h = refl
@@ -34,25 +34,8 @@ pub parsed_split : (format : EventFormat) (raw : RawEventRecord) (event : EventR
     → (fields : List ℕ) → fields ≡ before_trailing format (bytes_of raw.body) → (padding : List ℕ) → IsEvent format raw fields event padding → IsParsed format raw event
 parsed_split format raw (Sample v) enough known fields same padding is = absurd is
 parsed_split format raw (Raw v) enough known fields same padding is = absurd is
-parsed_split format raw (Mmap v) enough known fields same padding is = record { enough = enough; padding = padding; event_is = subst (λ (l : List ℕ). IsEvent format raw l (Mmap v) padding) same is }
-parsed_split format raw (Lost v) enough known fields same padding is = record { enough = enough; padding = padding; event_is = subst (λ (l : List ℕ). IsEvent format raw l (Lost v) padding) same is }
-parsed_split format raw (Comm v) enough known fields same padding is = record { enough = enough; padding = padding; event_is = subst (λ (l : List ℕ). IsEvent format raw l (Comm v) padding) same is }
-parsed_split format raw (Exit v) enough known fields same padding is = record { enough = enough; padding = padding; event_is = subst (λ (l : List ℕ). IsEvent format raw l (Exit v) padding) same is }
-parsed_split format raw (Throttle v) enough known fields same padding is = record { enough = enough; padding = padding; event_is = subst (λ (l : List ℕ). IsEvent format raw l (Throttle v) padding) same is }
-parsed_split format raw (Unthrottle v) enough known fields same padding is = record { enough = enough; padding = padding; event_is = subst (λ (l : List ℕ). IsEvent format raw l (Unthrottle v) padding) same is }
-parsed_split format raw (Fork v) enough known fields same padding is = record { enough = enough; padding = padding; event_is = subst (λ (l : List ℕ). IsEvent format raw l (Fork v) padding) same is }
 parsed_split format raw (Read v) enough known fields same padding is = (known is.0, record { enough = enough; padding = padding; event_is = subst (λ (l : List ℕ). IsEvent format raw l (Read v) padding) same is })
-parsed_split format raw (Mmap2 v) enough known fields same padding is = record { enough = enough; padding = padding; event_is = subst (λ (l : List ℕ). IsEvent format raw l (Mmap2 v) padding) same is }
-parsed_split format raw (Aux v) enough known fields same padding is = record { enough = enough; padding = padding; event_is = subst (λ (l : List ℕ). IsEvent format raw l (Aux v) padding) same is }
-parsed_split format raw (ItraceStart v) enough known fields same padding is = record { enough = enough; padding = padding; event_is = subst (λ (l : List ℕ). IsEvent format raw l (ItraceStart v) padding) same is }
-parsed_split format raw (LostSamples v) enough known fields same padding is = record { enough = enough; padding = padding; event_is = subst (λ (l : List ℕ). IsEvent format raw l (LostSamples v) padding) same is }
-parsed_split format raw (ContextSwitch v) enough known fields same padding is = record { enough = enough; padding = padding; event_is = subst (λ (l : List ℕ). IsEvent format raw l (ContextSwitch v) padding) same is }
-parsed_split format raw (Namespaces v) enough known fields same padding is = record { enough = enough; padding = padding; event_is = subst (λ (l : List ℕ). IsEvent format raw l (Namespaces v) padding) same is }
-parsed_split format raw (Ksymbol v) enough known fields same padding is = record { enough = enough; padding = padding; event_is = subst (λ (l : List ℕ). IsEvent format raw l (Ksymbol v) padding) same is }
-parsed_split format raw (BpfEvent v) enough known fields same padding is = record { enough = enough; padding = padding; event_is = subst (λ (l : List ℕ). IsEvent format raw l (BpfEvent v) padding) same is }
-parsed_split format raw (Cgroup v) enough known fields same padding is = record { enough = enough; padding = padding; event_is = subst (λ (l : List ℕ). IsEvent format raw l (Cgroup v) padding) same is }
-parsed_split format raw (TextPoke v) enough known fields same padding is = record { enough = enough; padding = padding; event_is = subst (λ (l : List ℕ). IsEvent format raw l (TextPoke v) padding) same is }
-parsed_split format raw (AuxOutputHwId v) enough known fields same padding is = record { enough = enough; padding = padding; event_is = subst (λ (l : List ℕ). IsEvent format raw l (AuxOutputHwId v) padding) same is }
+parsed_split format raw event enough known fields same padding is = record { enough = enough; padding = padding; event_is = subst (λ (l : List ℕ). IsEvent format raw l event padding) same is }
 
 -- What the fields before the sample_id fields decode to is the parsed form of the record, or its first error.
 module _ (format : EventFormat) (raw : RawEventRecord) (enough : trailing_size format ≤ length (bytes_of raw.body)) (known : kind_of format raw ≡ 8 → has_known_values format ≡ true) (fields padding : List ℕ) (same : fields ≡ before_trailing format (bytes_of raw.body)) where

@@ -9,5 +9,6 @@ pub mod Offsets
 pub mod Optional
 pub mod Prefixes
 pub mod SampleIdOffsets
+pub mod RowLaws
 pub mod Single
 pub mod WholeBodies

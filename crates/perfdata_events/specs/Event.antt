@@ -1,5 +1,5 @@
 -- The parsed form of a kernel record, by its type (`enum perf_event_type` of Linux's `perf_event.h`).
-use Rattle.std.specs.Prelude.{◌≡◌, ◌≢◌, ℕ, ◌^◌, ◌<◌, ◌≤◌, ◌⊎◌, ◌&&◌, ◌||◌, not, nat_lt, Bool, true, false, List, length, Result, Ok, Err}
+use Rattle.std.specs.Prelude.{◌≡◌, ◌≢◌, ℕ, ◌^◌, ◌<◌, ◌≤◌, ◌⊎◌, ◌&&◌, ◌||◌, not, nat_lt, Bool, true, false, List, [], ◌∷◌, length, Result, Ok, Err}
 use Rattle.std.specs.IoError.{error_kind}
 use Rattle.std.specs.declared.io.Error.{Error}
 use Rattle.std.specs.declared.io.ErrorKind.{ErrorKind}
@@ -8,6 +8,7 @@ use Rattle.perfdata_sources.specs.Endian.{number_in}
 use Rattle.perfdata_identifiers.specs.ParseInfo.{is_set}
 use Rattle.perfdata_base.specs.declared.event.raw_event_record.RawEventRecord.{RawEventRecord}
 use Rattle.perfdata_events.specs.Format.{encodes, fails, IsTruncated}
+use Rattle.perfdata_events.specs.TypeRow.{TypeRow, row, empty_row, row_in, FailsIn}
 use Rattle.perfdata_events.specs.SampleFormat.{READ, BRANCH_STACK}
 use Rattle.perfdata_events.specs.EventFormat.{trailing_size, before_trailing}
 use Rattle.perfdata_events.specs.Mmap.{mmap, mapping_of}
@@ -50,65 +51,76 @@ module _ (format : EventFormat) (raw : RawEventRecord) where
   abbrev pub kind_of : ℕ
   kind_of = raw.record_type.0
 
+  -- The types 1 to 7.
+  abbrev pub types_to_7 : List TypeRow
+  types_to_7 =
+      row 1 (mmap number raw.misc)
+      ∷ row 2 (lost number)
+      ∷ row 3 (comm number raw.misc)
+      ∷ row 4 (fork_or_exit number)
+      ∷ row 5 (throttle number)
+      ∷ row 6 (throttle number)
+      ∷ row 7 (fork_or_exit number)
+      ∷ []
+
+  -- The types 8 and 10 to 15.
+  abbrev pub types_to_15 : List TypeRow
+  types_to_15 =
+      row 8 (read number format.read_format.0)
+      ∷ row 10 (mmap2 number raw.misc)
+      ∷ row 11 (aux number)
+      ∷ row 12 (itrace_start number)
+      ∷ row 13 (lost_samples number)
+      ∷ row 14 (switch raw.misc)
+      ∷ row 15 (switch_cpu_wide raw.misc number)
+      ∷ []
+
+  -- The types 16 to 21.
+  abbrev pub types_to_21 : List TypeRow
+  types_to_21 =
+      row 16 (namespaces number)
+      ∷ row 17 (ksymbol number)
+      ∷ row 18 (bpf_event number)
+      ∷ row 19 (cgroup number)
+      ∷ row 20 (text_poke number)
+      ∷ row 21 (aux_output_hw_id number)
+      ∷ []
+
+  -- The row of a type from 1 to 21 that isn't that of samples.
+  abbrev pub row_of : ℕ → TypeRow
+  row_of type_number = row_in types_to_7 (row_in types_to_15 (row_in types_to_21 empty_row type_number) type_number) type_number
+
+  -- The record has this type. The bytes start with the fields of this value, and the rest follows.
+  abbrev pub HasFields : (type_number : ℕ) → List ℕ → (row_of type_number).Value → List ℕ → Type 0
+  HasFields type_number xs value rest = (kind_of ≡ type_number) × (row_of type_number).fields xs (encodes value rest)
+
   -- The bytes before the sample_id fields start with the fields of an event that isn't a sample, and these bytes follow.
   abbrev pub IsEvent : List ℕ → EventRecord → List ℕ → Type 0
-  IsEvent xs (Mmap v) rest = (kind_of ≡ 1) × mmap number raw.misc xs (encodes (mapping_of v) rest)
-  IsEvent xs (Lost v) rest = (kind_of ≡ 2) × lost number xs (encodes v rest)
-  IsEvent xs (Comm v) rest = (kind_of ≡ 3) × comm number raw.misc xs (encodes (named_task_of v) rest)
-  IsEvent xs (Exit v) rest = (kind_of ≡ 4) × fork_or_exit number xs (encodes v rest)
-  IsEvent xs (Throttle v) rest = (kind_of ≡ 5) × throttle number xs (encodes v rest)
-  IsEvent xs (Unthrottle v) rest = (kind_of ≡ 6) × throttle number xs (encodes v rest)
-  IsEvent xs (Fork v) rest = (kind_of ≡ 7) × fork_or_exit number xs (encodes v rest)
-  IsEvent xs (Read v) rest = (kind_of ≡ 8) × read number format.read_format.0 xs (encodes (task_values_of v) rest)
-  IsEvent xs (Mmap2 v) rest = (kind_of ≡ 10) × mmap2 number raw.misc xs (encodes (mapping2_of v) rest)
-  IsEvent xs (Aux v) rest = (kind_of ≡ 11) × aux number xs (encodes v rest)
-  IsEvent xs (ItraceStart v) rest = (kind_of ≡ 12) × itrace_start number xs (encodes v rest)
-  IsEvent xs (LostSamples v) rest = (kind_of ≡ 13) × lost_samples number xs (encodes v rest)
-  IsEvent xs (ContextSwitch v) rest =
-      ((kind_of ≡ 14) × switch raw.misc xs (encodes v rest)) ⊎ ((kind_of ≡ 15) × switch_cpu_wide raw.misc number xs (encodes v rest))
-  IsEvent xs (Namespaces v) rest = (kind_of ≡ 16) × namespaces number xs (encodes (namespaces_of v) rest)
-  IsEvent xs (Ksymbol v) rest = (kind_of ≡ 17) × ksymbol number xs (encodes (symbol_of v) rest)
-  IsEvent xs (BpfEvent v) rest = (kind_of ≡ 18) × bpf_event number xs (encodes (bpf_event_of v) rest)
-  IsEvent xs (Cgroup v) rest = (kind_of ≡ 19) × cgroup number xs (encodes (cgroup_of v) rest)
-  IsEvent xs (TextPoke v) rest = (kind_of ≡ 20) × text_poke number xs (encodes (poke_of v) rest)
-  IsEvent xs (AuxOutputHwId v) rest = (kind_of ≡ 21) × aux_output_hw_id number xs (encodes v rest)
+  IsEvent xs (Mmap v) rest = HasFields 1 xs (mapping_of v) rest
+  IsEvent xs (Lost v) rest = HasFields 2 xs v rest
+  IsEvent xs (Comm v) rest = HasFields 3 xs (named_task_of v) rest
+  IsEvent xs (Exit v) rest = HasFields 4 xs v rest
+  IsEvent xs (Throttle v) rest = HasFields 5 xs v rest
+  IsEvent xs (Unthrottle v) rest = HasFields 6 xs v rest
+  IsEvent xs (Fork v) rest = HasFields 7 xs v rest
+  IsEvent xs (Read v) rest = HasFields 8 xs (task_values_of v) rest
+  IsEvent xs (Mmap2 v) rest = HasFields 10 xs (mapping2_of v) rest
+  IsEvent xs (Aux v) rest = HasFields 11 xs v rest
+  IsEvent xs (ItraceStart v) rest = HasFields 12 xs v rest
+  IsEvent xs (LostSamples v) rest = HasFields 13 xs v rest
+  IsEvent xs (ContextSwitch v) rest = HasFields 14 xs v rest ⊎ HasFields 15 xs v rest
+  IsEvent xs (Namespaces v) rest = HasFields 16 xs (namespaces_of v) rest
+  IsEvent xs (Ksymbol v) rest = HasFields 17 xs (symbol_of v) rest
+  IsEvent xs (BpfEvent v) rest = HasFields 18 xs (bpf_event_of v) rest
+  IsEvent xs (Cgroup v) rest = HasFields 19 xs (cgroup_of v) rest
+  IsEvent xs (TextPoke v) rest = HasFields 20 xs (poke_of v) rest
+  IsEvent xs (AuxOutputHwId v) rest = HasFields 21 xs v rest
   IsEvent xs (Sample v) rest = ⊥
   IsEvent xs (Raw v) rest = ⊥
 
-  -- The first error of the fields of a record of type 1 to 7.
-  abbrev pub FailsTo7 : List ℕ → ErrorKind → Type 0
-  FailsTo7 xs kind =
-      ((kind_of ≡ 1) × mmap number raw.misc xs (fails kind))
-      ⊎ (((kind_of ≡ 2) × lost number xs (fails kind))
-      ⊎ (((kind_of ≡ 3) × comm number raw.misc xs (fails kind))
-      ⊎ (((kind_of ≡ 4) × fork_or_exit number xs (fails kind))
-      ⊎ (((kind_of ≡ 5) × throttle number xs (fails kind))
-      ⊎ (((kind_of ≡ 6) × throttle number xs (fails kind))
-      ⊎ (((kind_of ≡ 7) × fork_or_exit number xs (fails kind))))))))
-
-  -- The first error of the fields of a record of type 8 or 10 to 15.
-  abbrev pub FailsTo15 : List ℕ → ErrorKind → Type 0
-  FailsTo15 xs kind =
-      ((kind_of ≡ 8) × read number format.read_format.0 xs (fails kind))
-      ⊎ (((kind_of ≡ 10) × mmap2 number raw.misc xs (fails kind))
-      ⊎ (((kind_of ≡ 11) × aux number xs (fails kind))
-      ⊎ (((kind_of ≡ 12) × itrace_start number xs (fails kind))
-      ⊎ (((kind_of ≡ 13) × lost_samples number xs (fails kind))
-      ⊎ (((kind_of ≡ 14) × switch raw.misc xs (fails kind))
-      ⊎ (((kind_of ≡ 15) × switch_cpu_wide raw.misc number xs (fails kind))))))))
-
-  -- The first error of the fields of a record of type 16 to 21.
-  abbrev pub FailsTo21 : List ℕ → ErrorKind → Type 0
-  FailsTo21 xs kind =
-      ((kind_of ≡ 16) × namespaces number xs (fails kind))
-      ⊎ (((kind_of ≡ 17) × ksymbol number xs (fails kind))
-      ⊎ (((kind_of ≡ 18) × bpf_event number xs (fails kind))
-      ⊎ (((kind_of ≡ 19) × cgroup number xs (fails kind))
-      ⊎ (((kind_of ≡ 20) × text_poke number xs (fails kind))
-      ⊎ (((kind_of ≡ 21) × aux_output_hw_id number xs (fails kind)))))))
-
+  -- The first error of the fields of a record that isn't a sample.
   abbrev pub EventFails : List ℕ → ErrorKind → Type 0
-  EventFails xs kind = FailsTo7 xs kind ⊎ (FailsTo15 xs kind ⊎ FailsTo21 xs kind)
+  EventFails xs kind = FailsIn types_to_7 kind_of xs kind ⊎ (FailsIn types_to_15 kind_of xs kind ⊎ FailsIn types_to_21 kind_of xs kind)
 
   abbrev pub DecodesEvent : List ℕ → Result EventRecord Error → List ℕ → Type 0
   DecodesEvent xs (Ok event) rest = IsEvent xs event rest
@@ -135,25 +147,8 @@ module _ (format : EventFormat) (raw : RawEventRecord) where
   abbrev pub IsParsed : EventRecord → Type 0
   IsParsed (Sample v) = IsSample (λ padding. sample number format (bytes_of raw.body) (encodes (sample_of v) padding))
   IsParsed (Raw v) = (v ≡ raw) × IsUnparsed
-  IsParsed (Mmap v) = IsSplit (Mmap v)
-  IsParsed (Lost v) = IsSplit (Lost v)
-  IsParsed (Comm v) = IsSplit (Comm v)
-  IsParsed (Exit v) = IsSplit (Exit v)
-  IsParsed (Throttle v) = IsSplit (Throttle v)
-  IsParsed (Unthrottle v) = IsSplit (Unthrottle v)
-  IsParsed (Fork v) = IsSplit (Fork v)
   IsParsed (Read v) = (has_known_values format ≡ true) × IsSplit (Read v)
-  IsParsed (Mmap2 v) = IsSplit (Mmap2 v)
-  IsParsed (Aux v) = IsSplit (Aux v)
-  IsParsed (ItraceStart v) = IsSplit (ItraceStart v)
-  IsParsed (LostSamples v) = IsSplit (LostSamples v)
-  IsParsed (ContextSwitch v) = IsSplit (ContextSwitch v)
-  IsParsed (Namespaces v) = IsSplit (Namespaces v)
-  IsParsed (Ksymbol v) = IsSplit (Ksymbol v)
-  IsParsed (BpfEvent v) = IsSplit (BpfEvent v)
-  IsParsed (Cgroup v) = IsSplit (Cgroup v)
-  IsParsed (TextPoke v) = IsSplit (TextPoke v)
-  IsParsed (AuxOutputHwId v) = IsSplit (AuxOutputHwId v)
+  IsParsed event = IsSplit event
 
   -- The sample_id fields are truncated, or they are complete and there is an error before them.
   abbrev pub SplitFails : ErrorKind → Type 0

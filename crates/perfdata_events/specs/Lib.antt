@@ -36,6 +36,7 @@ pub mod Read
 pub mod EventFormat
 pub mod EventFormats
 pub mod Sample
+pub mod TypeRow
 pub mod Event
 pub mod EventView
 pub mod WholeBody

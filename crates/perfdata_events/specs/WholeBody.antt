@@ -9,7 +9,7 @@ use Rattle.perfdata_events.specs.Event.{IsEvent, number}
 use Rattle.perfdata_events.specs.declared.format.EventFormat.{EventFormat}
 use Rattle.perfdata_events.specs.declared.sample.SampleRecord.{SampleRecord}
 use Rattle.perfdata_events.specs.declared.event.EventRecord.{EventRecord}
-use Rattle.perfdata_events.specs.declared.event.EventRecord.TheVariants.{Mmap, Lost, Comm, Exit, Throttle, Unthrottle, Fork, Read, Mmap2, Aux, ItraceStart, LostSamples, ContextSwitch, Namespaces, Ksymbol, BpfEvent, Cgroup, TextPoke, AuxOutputHwId, Sample, Raw}
+use Rattle.perfdata_events.specs.declared.event.EventRecord.TheVariants.{Sample, Raw}
 
 module _ (format : EventFormat) (raw : RawEventRecord) where
   -- Before the padding the fields spell the event and leave the padding. The sample_id fields, of their size, end the body.
@@ -31,22 +31,4 @@ module _ (format : EventFormat) (raw : RawEventRecord) where
   abbrev pub IsWholeBody : EventRecord → Type 0
   IsWholeBody (Sample v) = IsWholeSample v
   IsWholeBody (Raw v) = ⊤
-  IsWholeBody (Mmap v) = IsWhole (Mmap v)
-  IsWholeBody (Lost v) = IsWhole (Lost v)
-  IsWholeBody (Comm v) = IsWhole (Comm v)
-  IsWholeBody (Exit v) = IsWhole (Exit v)
-  IsWholeBody (Throttle v) = IsWhole (Throttle v)
-  IsWholeBody (Unthrottle v) = IsWhole (Unthrottle v)
-  IsWholeBody (Fork v) = IsWhole (Fork v)
-  IsWholeBody (Read v) = IsWhole (Read v)
-  IsWholeBody (Mmap2 v) = IsWhole (Mmap2 v)
-  IsWholeBody (Aux v) = IsWhole (Aux v)
-  IsWholeBody (ItraceStart v) = IsWhole (ItraceStart v)
-  IsWholeBody (LostSamples v) = IsWhole (LostSamples v)
-  IsWholeBody (ContextSwitch v) = IsWhole (ContextSwitch v)
-  IsWholeBody (Namespaces v) = IsWhole (Namespaces v)
-  IsWholeBody (Ksymbol v) = IsWhole (Ksymbol v)
-  IsWholeBody (BpfEvent v) = IsWhole (BpfEvent v)
-  IsWholeBody (Cgroup v) = IsWhole (Cgroup v)
-  IsWholeBody (TextPoke v) = IsWhole (TextPoke v)
-  IsWholeBody (AuxOutputHwId v) = IsWhole (AuxOutputHwId v)
+  IsWholeBody event = IsWhole event

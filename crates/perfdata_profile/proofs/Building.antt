@@ -1,5 +1,5 @@
 -- A builder as it is given one more record.
-use Rattle.std.proofs.Common.{◌≡◌, ◌∙◌, ◌+◌, ◌<◌, inl, inr, ap, refl, sym, subst, ℕ, ℤ, false, List, [], ◌∷◌, ◌++◌, get_or, length, map, slice_get, take, Option, None, Some}
+use Rattle.std.proofs.Common.{◌≡◌, ◌∙◌, ◌+◌, ◌<◌, inl, inr, ap, refl, sym, subst, ℕ, ℤ, Bool, true, false, List, [], ◌∷◌, ◌++◌, get_or, length, map, slice_get, take, Option, None, Some}
 use Rattle.std.proofs.lemmas.List.{append-nil, map-append, take_more}
 use Rattle.std.proofs.lemmas.List.Concat.{flat_map-append}
 use Rattle.std.proofs.lemmas.Option.{get_or_from_slice_get, slice_get_within}
@@ -9,9 +9,11 @@ use Rattle.perfdata_events.specs.declared.fields.task.Task.{Task}
 use Rattle.perfdata_events.specs.declared.sample.SampleRecord.{SampleRecord}
 use Rattle.perfdata_profile.specs.Building.{Builds, HasKey, IsProfileOf, options_of}
 use Rattle.perfdata_profile.specs.steps.Building.{HasStack, HasThread}
+use Rattle.perfdata_profile.specs.Chains.{ChainValue, ChainsHold, IsStackOf, chains_in}
+use Rattle.perfdata_profile.specs.steps.Chains.{AddsChain}
 use Rattle.perfdata_profile.specs.Interning.{Grows}
 use Rattle.perfdata_profile.specs.Locating.{CacheHolds, located_lists}
-use Rattle.perfdata_profile.specs.steps.Locating.{LocatorGrows}
+use Rattle.perfdata_profile.specs.steps.Locating.{IsTime, LocatorGrows}
 use Rattle.perfdata_profile.specs.Profiles.{lists_of, valued_entry, valued_sample}
 use Rattle.perfdata_profile.specs.Names.{number_of}
 use Rattle.perfdata_profile.specs.Resolving.{IsIdOf, Meaning}
@@ -23,6 +25,7 @@ use Rattle.perfdata_profile.specs.Threads.{pid_of, tid_of}
 use Rattle.perfdata_profile.specs.Values.{AreLocations, AreOnce, AreWithin, IsKey, IsLocation, Lists, location_at, sample_value, stack_at, thread_key}
 use Rattle.perfdata_profile.specs.steps.Values.{ListsGrow}
 use Rattle.perfdata_profile.specs.declared.builder.ProfileBuilder.{ProfileBuilder}
+use Rattle.perfdata_profile.specs.declared.chain_cache.ChainCache.{ChainCache}
 use Rattle.perfdata_profile.specs.declared.locating.Locator.{Locator}
 use Rattle.perfdata_profile.specs.declared.locations.LocationId.{LocationId}
 use Rattle.perfdata_profile.specs.declared.options.Detail.{Detail}
@@ -37,7 +40,7 @@ use Rattle.perfdata_profile.specs.declared.sums.Thread.{Thread}
 use Rattle.perfdata_profile.specs.declared.interned.Interned.{Interned}
 use Rattle.perfdata_profile.proofs.Counting.{counted_keys, counted_map, counted_number, counted_weaker, related_push}
 use Rattle.perfdata_profile.proofs.Elements.{old_or_last}
-use Rattle.perfdata_profile.proofs.Growing.{key_kept, key_within, lists_trans, locations_kept, locations_within}
+use Rattle.perfdata_profile.proofs.Growing.{key_kept, key_within, lists_trans, locations_kept, locations_within, none_at, stack_within, stack_kept as stack_value_kept}
 use Rattle.perfdata_profile.proofs.Looking.{cached_mapped}
 use Rattle.perfdata_profile.proofs.Valuing.{tallies_values, value_is}
 use Rattle.perfdata_spaces.specs.AddressSpaces.{Follows, mapping_values, name_effects}
@@ -65,6 +68,9 @@ locator_trans first second third grows more = record {
   lists = lists_trans (located_lists first) (located_lists second) (located_lists third) grows.lists more.lists;
   detail = more.detail ∙ grows.detail;
 }
+
+time_of : (one are : Bool) (time other : Option ℕ) → (are ≡ true → one ≡ true) → IsTime are time other → IsTime one time other
+time_of one are time other implies at = elim at [ inl is ↦ inl (implies is) | inr same ↦ inr same ]
 
 module _ (meaning : Meaning) where
   -- A stack as tables grow.
@@ -96,6 +102,14 @@ module _ (meaning : Meaning) where
           subst (λ (fs : List SampleFrame). HasStack meaning (located_lists new) first.detail before pid time fs more) (sym (take_more frames index d inside)) next,
         )
 
+  -- The same at the time of the sample or, if all locations are fixed, at each time.
+  module _ (first old new : Locator) (spaces : AddressSpaces) (pid : ℤ) (time : Option ℕ) (frames : List SampleFrame) (index : ℕ) (d : SampleFrame) (inside : index < length frames) (stack more : List LocationId) (id : LocationId) (grows : LocatorGrows first old) (adds : LocatorGrows old new) (pushed : more ≡ stack ++ id ∷ []) (within : IsLocation (located_lists new) id) (were fixed are : Bool) (both : are ≡ true → (were ≡ true) × (fixed ≡ true)) (before : List Applied) where
+    pub next_stacks : CacheHolds meaning first.detail (mapping_values spaces) old × ((other : Option ℕ) → IsTime were time other → HasStack meaning (located_lists old) first.detail before pid other (take index frames) stack) → (CacheHolds meaning old.detail (mapping_values spaces) old → CacheHolds meaning old.detail (mapping_values spaces) new) → (CacheHolds meaning old.detail (mapping_values spaces) old → (other : Option ℕ) → IsTime fixed time other → Locates meaning old.detail before pid other (get_or frames index d) (location_at (located_lists new) id)) → CacheHolds meaning first.detail (mapping_values spaces) new × ((other : Option ℕ) → IsTime are time other → HasStack meaning (located_lists new) first.detail before pid other (take (index + 1) frames) more)
+    next_stacks was cache located = (
+      (next_stack first old new spaces pid time frames index d inside stack more id grows adds pushed within before (was.0, was.1 time (inr refl)) cache (λ holds. located holds time (inr refl))).0,
+      λ other at. (next_stack first old new spaces pid other frames index d inside stack more id grows adds pushed within before (was.0, was.1 other (time_of were are time other (λ is. (both is).0) at)) cache (λ holds. located holds other (time_of fixed are time other (λ is. (both is).1) at))).1,
+    )
+
   -- The id of a name of a thread.
   pub has_thread : (lists : Lists) (ids : ThreadIds) (before : List Applied) (task : Task) (thread : Thread) (comm : Option (List ℕ)) → IsName task.tid (name_effects before) comm → IsIdOf (meaning.names_thread (record { task = task; comm = comm })) lists.names thread.name → thread.pid ≡ pid_of ids task → thread.tid ≡ tid_of ids task → HasThread meaning lists ids before task thread
   has_thread lists ids before task thread comm is_comm named pid tid = record {
@@ -109,20 +123,46 @@ module _ (meaning : Meaning) where
     };
   }
 
+  -- The id of a stack of the locations of frames.
+  module _ (old new : Lists) (grows : ListsGrow old new) (table : AreWithin old) (detail : Detail) (before : List Applied) where
+    pub stack_of : (pid : ℤ) (time : Option ℕ) (frames : List SampleFrame) (id : StackId) (stack : List LocationId) → slice_get new.stacks (stack_number id) ≡ Some stack → HasStack meaning old detail before pid time frames stack → IsStackOf meaning detail new before pid time frames id
+    stack_of pid time frames id stack at has =
+        let kept = stack_kept old new grows table detail before pid time frames stack has in
+        record {
+          within = slice_get_within new.stacks (stack_number id) stack at;
+          are = subst (AreRelated (Locates meaning detail before pid time) frames) (sym (value_is (map (location_at new)) new.stacks [] (stack_number id) stack at)) kept.are;
+        }
+
+    pub stack_of_kept : (pid : ℤ) (time : Option ℕ) (frames : List SampleFrame) (id : StackId) → IsStackOf meaning detail old before pid time frames id → IsStackOf meaning detail new before pid time frames id
+    stack_of_kept pid time frames id is = record {
+      within = stack_within old new grows id is.within;
+      are = subst (AreRelated (Locates meaning detail before pid time) frames) (sym (stack_value_kept old new grows table id is.within)) is.are;
+    }
+
+    -- The chains of a cache.
+    pub chains_kept : (chains : ChainCache) → ChainsHold meaning detail old before chains → ChainsHold meaning detail new before chains
+    chains_kept chains hold = λ index chain at time. stack_of_kept chain.pid time chain.frames chain.id (hold index chain at time)
+
+  pub chains_added : (lists : Lists) (detail : Detail) (before : List Applied) (old new : ChainCache) (chain : ChainValue) → AddsChain old chain new → ChainsHold meaning detail lists before old → ((time : Option ℕ) → IsStackOf meaning detail lists before chain.pid time chain.frames chain.id) → ChainsHold meaning detail lists before new
+  chains_added lists detail before old new chain adds hold is = λ index other at time. elim (adds index other at) [
+    | inl was ↦ hold was.0 other was.1 time
+    | inr same ↦ subst (λ (c : ChainValue). IsStackOf meaning detail lists before c.pid time c.frames c.id) (sym same) (is time)
+  ]
+
+  pub no_chains : (lists : Lists) (detail : Detail) (before : List Applied) (chains : ChainCache) → chains_in chains ≡ [] → ChainsHold meaning detail lists before chains
+  no_chains lists detail before chains none = λ index chain at time. absurd (none_at (chains_in chains) none index chain at)
+
   -- The ids of the thread and the stack of a sample.
-  pub has_key : (options : ProfileOptions) (first second : Lists) → ListsGrow first second → AreWithin first → (stacks : List (List LocationId)) (id : StackId) (stack : List LocationId) → slice_get stacks (stack_number id) ≡ Some stack → (before : List Applied) (misc : ℕ) (s : SampleRecord) (column : ℕ) (task : Task) (thread : Thread) (frames : List SampleFrame) → task ≡ sample_task s → meaning.has_frames before misc s frames → HasStack meaning first options.detail before task.pid s.timestamp frames stack → HasThread meaning second options.thread_ids before task thread → HasKey meaning (record { names = second.names; ranges = second.ranges; lines = second.lines; locations = second.locations; stacks = stacks }) options before misc s column (record { thread = thread; stack = id; column = column })
-  has_key options first second grows table stacks id stack at before misc s column task thread frames task_is has_frames has_stack has_thread =
-      let lists : Lists = record { names = second.names; ranges = second.ranges; lines = second.lines; locations = second.locations; stacks = stacks } in
-      let kept = stack_kept first second grows table options.detail before task.pid s.timestamp frames stack has_stack in
-      let value : stack_at lists id ≡ map (location_at lists) stack = value_is (map (location_at lists)) stacks [] (stack_number id) stack at in
-      let located : AreRelated (Locates meaning options.detail before task.pid s.timestamp) frames (stack_at lists id) = subst (AreRelated (Locates meaning options.detail before task.pid s.timestamp) frames) (sym value) kept.are in
+  pub has_key : (options : ProfileOptions) (first second : Lists) → ListsGrow first second → AreWithin first → (id : StackId) (before : List Applied) (misc : ℕ) (s : SampleRecord) (column : ℕ) (task : Task) (thread : Thread) (frames : List SampleFrame) → task ≡ sample_task s → meaning.has_frames before misc s frames → IsStackOf meaning options.detail first before task.pid s.timestamp frames id → HasThread meaning second options.thread_ids before task thread → HasKey meaning second options before misc s column (record { thread = thread; stack = id; column = column })
+  has_key options first second grows table id before misc s column task thread frames task_is has_frames is has_thread =
+      let kept = stack_of_kept first second grows table options.detail before task.pid s.timestamp frames id is in
       record {
-        within = (has_thread.within, slice_get_within stacks (stack_number id) stack at);
+        within = (has_thread.within, kept.within);
         is = record {
-          is_thread = subst (λ (t : Task). IsThread meaning options.thread_ids before t (thread_key lists thread)) task_is has_thread.is;
+          is_thread = subst (λ (t : Task). IsThread meaning options.thread_ids before t (thread_key second thread)) task_is has_thread.is;
           frames = frames;
           has_frames = has_frames;
-          are_located = subst (λ (t : Task). AreRelated (Locates meaning options.detail before t.pid s.timestamp) frames (stack_at lists id)) task_is located;
+          are_located = subst (λ (t : Task). AreRelated (Locates meaning options.detail before t.pid s.timestamp) frames (stack_at second id)) task_is kept.are;
           is_column = refl;
         };
       }
@@ -135,8 +175,8 @@ module _ (meaning : Meaning) where
   }
 
   module _ {R : Type 0} (options : ProfileOptions) (given : List Given) (old new : ProfileBuilder R) (builds : Builds meaning options given old) where
-    pub builds_counted : (misc : ℕ) (s : SampleRecord) (weight : SampleWeight) (key : SampleKey) → options_of new ≡ options_of old → new.spaces ≡ old.spaces → LocatorGrows old.locator new.locator → CacheHolds meaning options.detail (mapping_values old.spaces) new.locator → HasKey meaning (located_lists new.locator) options (applied_in given) misc s weight.column key → ((counted : List (Counted SampleKey)) → TalliesSamples counted old.sums → TalliesSamples (then_counted counted key weight.weight) new.sums) → Builds meaning options (given ++ record { misc = misc; event = Sample s; weight = Some weight } ∷ []) new
-    builds_counted misc s weight key same_options spaces grows cache has tallies =
+    pub builds_counted : (misc : ℕ) (s : SampleRecord) (weight : SampleWeight) (key : SampleKey) → options_of new ≡ options_of old → new.spaces ≡ old.spaces → LocatorGrows old.locator new.locator → CacheHolds meaning options.detail (mapping_values old.spaces) new.locator → ChainsHold meaning options.detail (located_lists new.locator) (applied_in given) new.chains → HasKey meaning (located_lists new.locator) options (applied_in given) misc s weight.column key → ((counted : List (Counted SampleKey)) → TalliesSamples counted old.sums → TalliesSamples (then_counted counted key weight.weight) new.sums) → Builds meaning options (given ++ record { misc = misc; event = Sample s; weight = Some weight } ∷ []) new
+    builds_counted misc s weight key same_options spaces grows cache chains has tallies =
         let last : Given = record { misc = misc; event = Sample s; weight = Some weight } in
         let same = applied_push given last ∙ append-nil (applied_in given) in
         let kept = counted_weaker (HasKey meaning (located_lists old.locator) options) (HasKey meaning (located_lists new.locator) options) (key_stays options (located_lists old.locator) (located_lists new.locator) grows.lists old.locator.tables.within) given builds.counted builds.are in
@@ -144,16 +184,18 @@ module _ (meaning : Meaning) where
           has_options = same_options ∙ builds.has_options;
           follows = subst (λ (r : List Applied). Follows r new.spaces) (sym same) (subst (Follows (applied_in given)) (sym spaces) builds.follows);
           cache = subst (λ (s : List _). CacheHolds meaning options.detail s new.locator) (ap mapping_values (sym spaces)) cache;
+          chains = subst (λ (r : List Applied). ChainsHold meaning options.detail (located_lists new.locator) r new.chains) (sym same) chains;
           counted = then_counted builds.counted key weight.weight;
           are = sample (given ++ last ∷ []) given (then_counted builds.counted key weight.weight) builds.counted misc s weight key refl refl has kept;
           sums = tallies builds.counted builds.sums;
         }
 
-    pub builds_applied : (last : Given) → is_selected last ≡ false → options_of new ≡ options_of old → new.locator ≡ old.locator → new.sums ≡ old.sums → Grows (mapping_values old.spaces) (mapping_values new.spaces) → Follows (applied_in given ++ applied_by last) new.spaces → Builds meaning options (given ++ last ∷ []) new
-    builds_applied last not same_options locator sums grows follows = record {
+    pub builds_applied : (last : Given) → is_selected last ≡ false → options_of new ≡ options_of old → new.locator ≡ old.locator → new.sums ≡ old.sums → Grows (mapping_values old.spaces) (mapping_values new.spaces) → Follows (applied_in given ++ applied_by last) new.spaces → ChainsHold meaning options.detail (located_lists new.locator) (applied_in given ++ applied_by last) new.chains → Builds meaning options (given ++ last ∷ []) new
+    builds_applied last not same_options locator sums grows follows chains = record {
       has_options = same_options ∙ builds.has_options;
       follows = subst (λ (r : List Applied). Follows r new.spaces) (sym (applied_push given last)) follows;
       cache = subst (CacheHolds meaning options.detail (mapping_values new.spaces)) (sym locator) (cached_mapped meaning options.detail (located_lists old.locator) (mapping_values old.spaces) (mapping_values new.spaces) grows old.locator.cache builds.cache);
+      chains = subst (λ (r : List Applied). ChainsHold meaning options.detail (located_lists new.locator) r new.chains) (sym (applied_push given last)) chains;
       counted = builds.counted;
       are = passed (given ++ last ∷ []) given builds.counted last refl not (subst (λ (l : Locator). AreCounted (HasKey meaning (located_lists l) options) given builds.counted) (sym locator) builds.are);
       sums = subst (TalliesSamples builds.counted) (sym sums) builds.sums;
@@ -161,7 +203,7 @@ module _ (meaning : Meaning) where
 
   -- A sample that isn't selected changes nothing.
   pub builds_unselected : {R : Type 0} → (options : ProfileOptions) (given : List Given) (builder : ProfileBuilder R) (misc : ℕ) (s : SampleRecord) → Builds meaning options given builder → Builds meaning options (given ++ record { misc = misc; event = Sample s; weight = None } ∷ []) builder
-  builds_unselected options given builder misc s builds = builds_applied options given builder builder builds (record { misc = misc; event = Sample s; weight = None }) refl refl refl refl ([], sym (append-nil (mapping_values builder.spaces))) (subst (λ (r : List Applied). Follows r builder.spaces) (sym (append-nil (applied_in given))) builds.follows)
+  builds_unselected options given builder misc s builds = builds_applied options given builder builder builds (record { misc = misc; event = Sample s; weight = None }) refl refl refl refl ([], sym (append-nil (mapping_values builder.spaces))) (subst (λ (r : List Applied). Follows r builder.spaces) (sym (append-nil (applied_in given))) builds.follows) (subst (λ (r : List Applied). ChainsHold meaning options.detail (located_lists builder.locator) r builder.chains) (sym (append-nil (applied_in given))) builds.chains)
 
   once_of : (tables : Interned) → AreOnce (lists_of tables)
   once_of tables = record { names = tables.names.once; ranges = tables.mappings.once; lines = tables.lines.once; locations = tables.locations.once; stacks = tables.stacks.once }

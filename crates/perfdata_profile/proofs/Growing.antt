@@ -136,7 +136,7 @@ module _ (old new : Lists) (grows : ListsGrow old new) where
   pub locations_within : (ids : List LocationId) → AreLocations old ids → AreLocations new ids
   locations_within ids is = λ index id at. location_within id (is index id at)
 
-  stack_within : (id : StackId) → IsStack old id → IsStack new id
+  pub stack_within : (id : StackId) → IsStack old id → IsStack new id
   stack_within id is = within_kept old.stacks new.stacks grows.stacks (stack_number id) is
 
   pub key_within : (key : SampleKey) → IsKey old key → IsKey new key

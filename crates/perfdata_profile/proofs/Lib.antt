@@ -1,6 +1,7 @@
 pub mod Adding
 mod Building
 mod Caching
+mod Chains
 pub mod Counting
 mod Deciding
 mod Erasing

@@ -1,5 +1,5 @@
 -- Locations as they are looked up.
-use Rattle.std.proofs.Common.{◌≡◌, ◌∙◌, ◌≤◌, ◌<◌, ◌&&◌, inl, inr, ap, refl, sym, subst, arith, nat_le, nat_lt, ℕ, Bool, true, List, [], length, slice_get, Option, Some}
+use Rattle.std.proofs.Common.{◌≡◌, ◌∙◌, ◌≤◌, ◌<◌, ◌&&◌, inl, inr, ap, refl, sym, subst, arith, nat_le, nat_lt, ℕ, Bool, true, false, List, [], length, slice_get, Option, Some}
 use Rattle.std.proofs.lemmas.Bool.Decides.{nat_tests}
 use Rattle.std.proofs.lemmas.List.{length-map}
 use Rattle.std.proofs.lemmas.Option.{get_or_from_slice_get, slice_get_within}
@@ -148,6 +148,19 @@ module _ (meaning : Meaning) where
         let m = has at.index index in
         let same : m.0 ≡ cached.mapping = some_same m.0 cached.mapping (sym m.1 ∙ cached.is_at) in
         cached.each frame index (m.2 ∙ ap (λ (v : MappingValue). Some v) same) address
+
+    -- It is one of each frame at the address.
+    pub hit_fixed : (lists : Lists) (mappings : List MappingValue) (frame : FrameValue) (at : MappedAddress) (id : LocationId) → frame.index ≡ Some at.index → lookup_address frame.frame ≡ at.address → HasMapping mappings frame → IsCached meaning detail lists mappings at id → IsNewLocation meaning detail lists frame (record { id = id; is_fixed = true })
+    hit_fixed lists mappings frame at id index address has cached = record {
+      found = hit lists mappings frame at id index address has cached;
+      fixed = λ is other same. hit lists mappings other at id (same.index ∙ index) (same.address ∙ address) (λ n here.
+          let m = has n (sym same.index ∙ here) in
+          (m.0, m.1, same.mapping ∙ m.2)) cached;
+    }
+
+    -- A location of one frame alone.
+    pub not_fixed : (lists : Lists) (frame : FrameValue) (id : LocationId) → IsFoundLocation meaning detail lists frame id → IsNewLocation meaning detail lists frame (record { id = id; is_fixed = false })
+    not_fixed lists frame id found = record { found = found; fixed = λ is other same. cc }
 
     -- A location that is fixed can be cached.
     pub fixed_cached : (lists : Lists) (mappings : List MappingValue) (frame : FrameValue) (at : MappedAddress) (new : NewLocation) → frame.index ≡ Some at.index → lookup_address frame.frame ≡ at.address → HasMapping mappings frame → new.is_fixed ≡ true → IsNewLocation meaning detail lists frame new → IsCached meaning detail lists mappings at new.id

@@ -3,13 +3,13 @@ use Rattle.std.proofs.Common.{◌≡◌, ◌∙◌, ◌<◌, ap, refl, sym, subs
 use Rattle.std.specs.Option.{option_map}
 use Rattle.std.specs.declared.alloc.AllocError.{AllocError}
 use Rattle.std.proofs.lemmas.Option.{slice_get_cases}
-use Rattle.perfdata_profile.specs.Locating.{CacheHolds, LooksUp, located_lists}
-use Rattle.perfdata_profile.specs.steps.Locating.{HasMapping}
+use Rattle.perfdata_profile.specs.Locating.{CacheHolds, IsNewLocation, LooksUp, located_lists}
+use Rattle.perfdata_profile.specs.steps.Locating.{HasMapping, IsTime}
 use Rattle.perfdata_profile.specs.Resolving.{FrameValue, Meaning}
 use Rattle.perfdata_profile.specs.Samples.{IsLocationOf, Locates}
 use Rattle.perfdata_profile.specs.Values.{LocationValue, location_at}
 use Rattle.perfdata_profile.specs.declared.locating.Locator.{Locator}
-use Rattle.perfdata_profile.specs.declared.locations.LocationId.{LocationId}
+use Rattle.perfdata_profile.specs.declared.locating.NewLocation.{NewLocation}
 use Rattle.perfdata_profile.specs.declared.options.Detail.{Detail}
 use Rattle.perfdata_profile.proofs.Elements.{some_same}
 use Rattle.perfdata_profile.proofs.Growing.{nothing}
@@ -59,19 +59,26 @@ locates meaning detail before spaces pid time frame index mapping location finds
 
 -- A frame that was looked up with what was found at its address.
 module _ (meaning : Meaning) (old new : Locator) (spaces : AddressSpaces) (pid : ℤ) (time : Option ℕ) (frame : SampleFrame) (index : Option ℕ) (mapping : Option MappingValue) (is : mapping ≡ mapping_at spaces index) (address : ℕ) (address_is : address ≡ lookup_address frame) (finds : (before : List Applied) → Follows before spaces → FindsIndex before spaces pid address frame.frame.context index) where
-  abbrev looks_up : LocationId → Type 0
-  looks_up id = (mappings : List MappingValue) → HasMapping mappings (value_of pid time frame index mapping) → CacheHolds meaning old.detail mappings old → LooksUp meaning old.detail mappings (value_of pid time frame index mapping) id new
+  abbrev looks_up : NewLocation → Type 0
+  looks_up new_location = (mappings : List MappingValue) → HasMapping mappings (value_of pid time frame index mapping) → CacheHolds meaning old.detail mappings old → LooksUp meaning old.detail mappings (value_of pid time frame index mapping) new_location new
 
   finds_there : (before : List Applied) → Follows before spaces → FindsIndex before spaces pid (lookup_address frame) frame.frame.context index
   finds_there before follows = subst (λ (a : ℕ). FindsIndex before spaces pid a frame.frame.context index) address_is (finds before follows)
 
-  looked_up : (before : List Applied) → Follows before spaces → CacheHolds meaning old.detail (mapping_values spaces) old → (id : LocationId) → looks_up id → LooksUp meaning old.detail (mapping_values spaces) (value_of pid time frame index mapping) id new
-  looked_up before follows holds id looks = looks (mapping_values spaces) (has_mapping spaces index mapping (value_of pid time frame index mapping) (finds_there before follows).within is refl refl) holds
+  looked_up : (before : List Applied) → Follows before spaces → CacheHolds meaning old.detail (mapping_values spaces) old → (location : NewLocation) → looks_up location → LooksUp meaning old.detail (mapping_values spaces) (value_of pid time frame index mapping) location new
+  looked_up before follows holds location looks = looks (mapping_values spaces) (has_mapping spaces index mapping (value_of pid time frame index mapping) (finds_there before follows).within is refl refl) holds
 
-  pub cache_looked_up : (result : Result LocationId AllocError) → IfOk result looks_up → OnOk result ((before : List Applied) → Follows before spaces → CacheHolds meaning old.detail (mapping_values spaces) old → CacheHolds meaning old.detail (mapping_values spaces) new)
-  cache_looked_up (Ok id) looks = λ before follows holds. (looked_up before follows holds id looks).cache
+  pub cache_looked_up : (result : Result NewLocation AllocError) → IfOk result looks_up → OnOk result ((before : List Applied) → Follows before spaces → CacheHolds meaning old.detail (mapping_values spaces) old → CacheHolds meaning old.detail (mapping_values spaces) new)
+  cache_looked_up (Ok location) looks = λ before follows holds. (looked_up before follows holds location looks).cache
   cache_looked_up (Err error) looks = tt
 
-  pub location_looked_up : (result : Result LocationId AllocError) → IfOk result looks_up → IfOk result (λ id. (before : List Applied) → Follows before spaces → CacheHolds meaning old.detail (mapping_values spaces) old → Locates meaning old.detail before pid time frame (location_at (located_lists new) id))
-  location_looked_up (Ok id) looks = λ before follows holds. locates meaning old.detail before spaces pid time frame index mapping (location_at (located_lists new) id) (finds_there before follows) is (looked_up before follows holds id looks).found.is
+  -- The location is one of the frame at the time of the sample or, if it is fixed, at each time.
+  found_at : (location : NewLocation) → IsNewLocation meaning old.detail (located_lists new) (value_of pid time frame index mapping) location → (other : Option ℕ) → IsTime location.is_fixed time other → IsLocationOf meaning old.detail (value_of pid other frame index mapping) (location_at (located_lists new) location.id)
+  found_at location found other at = elim at [
+    | inl fixed ↦ (found.fixed fixed (value_of pid other frame index mapping) (record { index = refl; mapping = refl; address = refl })).is
+    | inr same ↦ subst (λ (t : Option ℕ). IsLocationOf meaning old.detail (value_of pid t frame index mapping) (location_at (located_lists new) location.id)) (sym same) found.found.is
+  ]
+
+  pub location_looked_up : (result : Result NewLocation AllocError) → IfOk result looks_up → IfOk result (λ location. (before : List Applied) → Follows before spaces → CacheHolds meaning old.detail (mapping_values spaces) old → (other : Option ℕ) → IsTime location.is_fixed time other → Locates meaning old.detail before pid other frame (location_at (located_lists new) location.id))
+  location_looked_up (Ok location) looks = λ before follows holds other at. locates meaning old.detail before spaces pid other frame index mapping (location_at (located_lists new) location.id) (finds_there before follows) is (found_at location (looked_up before follows holds location looks).found other at)
   location_looked_up (Err error) looks = tt

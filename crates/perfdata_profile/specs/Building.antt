@@ -1,6 +1,7 @@
 -- A profile as it is built.
 use Rattle.std.specs.Prelude.{◌≡◌, ℕ, List, filter, length, map, slice_get, Some}
 use Rattle.perfdata_events.specs.declared.sample.SampleRecord.{SampleRecord}
+use Rattle.perfdata_profile.specs.Chains.{ChainsHold}
 use Rattle.perfdata_profile.specs.Locating.{CacheHolds, located_lists}
 use Rattle.perfdata_profile.specs.Profiles.{lists_of, valued_entry}
 use Rattle.perfdata_profile.specs.Resolving.{Meaning}
@@ -32,6 +33,7 @@ module _ (meaning : Meaning) where
       pub has_options : options_of builder ≡ options
       pub follows : Follows (applied_in given) builder.spaces
       pub cache : CacheHolds meaning options.detail (mapping_values builder.spaces) builder.locator
+      pub chains : ChainsHold meaning options.detail (located_lists builder.locator) (applied_in given) builder.chains
       pub counted : List (Counted SampleKey)
       pub are : AreCounted (HasKey (located_lists builder.locator) options) given counted
       pub sums : TalliesSamples counted builder.sums

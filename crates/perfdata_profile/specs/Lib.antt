@@ -1,6 +1,7 @@
 -- The specifications that contracts use.
 pub mod Building
 pub mod Caching
+pub mod Chains
 pub mod Erasing
 pub mod Interning
 pub mod Locating

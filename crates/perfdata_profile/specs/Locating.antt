@@ -39,6 +39,6 @@ module _ (meaning : Meaning) where
     CacheHolds mappings locator = AllCached (IsCached (located_lists locator) mappings) locator.cache
 
     -- A frame was looked up: its location is found, and what is cached holds.
-    pub record LooksUp (mappings : List MappingValue) (frame : FrameValue) (id : LocationId) (new : Locator) : Type 0 where
-      pub found : IsFoundLocation (located_lists new) frame id
+    pub record LooksUp (mappings : List MappingValue) (frame : FrameValue) (location : NewLocation) (new : Locator) : Type 0 where
+      pub found : IsNewLocation (located_lists new) frame location
       pub cache : CacheHolds mappings new

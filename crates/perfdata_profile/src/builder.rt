@@ -1,16 +1,18 @@
 //! Counts the samples of a recording.
 
-ghost use Rattle.std.specs.Prelude.{◌≡◌, [], ◌∷◌, ◌++◌, ℕ, List, Option, Some, OnErr, OnOk, IfOk};
+ghost use Rattle.std.specs.Prelude.{◌≡◌, [], ◌∷◌, ◌++◌, ℕ, true, List, Option, Some, OnErr, OnOk, IfOk};
+ghost use Rattle.perfdata_profile.specs.Chains.{ChainsHold, IsStackOf};
 ghost use Rattle.perfdata_profile.specs.Samples.{sample_task};
 ghost use Rattle.perfdata_profile.specs.Values.{AreLocations, IsKey, IsName};
 ghost use Rattle.perfdata_profile.specs.Building.{HasKey};
 ghost use Rattle.perfdata_profile.specs.steps.Building.{HasStack, HasThread};
 ghost use Rattle.perfdata_profile.specs.Locating.{CacheHolds, located_lists};
-ghost use Rattle.perfdata_profile.specs.steps.Locating.{LocatorGrows};
+ghost use Rattle.perfdata_profile.specs.steps.Locating.{IsTime, LocatorGrows};
 ghost use Rattle.perfdata_profile.specs.SampleSums.{KeepsSums};
 ghost use Rattle.perfdata_spaces.specs.AddressSpaces.{Follows, mapping_values};
 ghost use Rattle.perfdata_spaces.specs.Effects.{Applied};
 
+use crate::chain_cache::ChainCache;
 use crate::error::ProfileError;
 use crate::interned::Interned;
 use crate::locating::{Locator, Origin, indexed_mapping};
@@ -18,6 +20,7 @@ use crate::locations::LocationId;
 use crate::options::{ProfileOptions, ThreadIds};
 use crate::profile::Profile;
 use crate::resolver::Resolver;
+use crate::stacks::StackId;
 use crate::sums::{SampleKey, SampleSums, SampleWeight, Thread};
 use perfdata_events::event::EventRecord;
 use perfdata_events::sample::SampleRecord;
@@ -37,8 +40,17 @@ pub struct ProfileBuilder<R> {
     spaces: AddressSpaces,
     locator: Locator,
     sums: SampleSums,
+    chains: ChainCache,
     frames: Vec<SampleFrame>,
     stack: Vec<LocationId>,
+    last: Option<StackId>,
+}
+
+// The stack of some frames, and whether it is that of these frames of the process at each time.
+#[derive(Clone, Copy)]
+struct NewStack {
+    id: StackId,
+    is_fixed: bool,
 }
 
 // Returns the process and the thread of a sample. They are -1 for samples without.
@@ -48,7 +60,15 @@ fn sample_task(sample: &SampleRecord<'_>) -> Task
     sample.task.unwrap_or(Task { pid: -1, tid: -1 })
 }
 
-// Sets a stack to the ids of the locations of frames, that of the leaf first.
+// Returns whether two things are so.
+fn are_both(first: bool, second: bool) -> bool
+    ensures { result ≡ true → (first ≡ true) × (second ≡ true) }
+{
+    first && second
+}
+
+// Sets a stack to the ids of the locations of frames, that of the leaf first. Returns whether they are those
+// of these frames of the process at each time.
 fn set_stack<R: Resolver>(
     resolver: &mut R,
     spaces: &AddressSpaces,
@@ -56,22 +76,26 @@ fn set_stack<R: Resolver>(
     origin: Origin,
     frames: &[SampleFrame],
     stack: &mut Vec<LocationId>,
-) -> Result<(), AllocError>
+) -> Result<bool, AllocError>
     ensures grows { LocatorGrows locator.old locator.new }
     ensures cache { OnOk result ((before : List Applied) → Follows before spaces.now →
         CacheHolds R.meaning locator.old.detail (mapping_values spaces.now) locator.old →
         CacheHolds R.meaning locator.old.detail (mapping_values spaces.now) locator.new) }
     ensures within { OnOk result (AreLocations (located_lists locator.new) stack.new.items) }
-    ensures ok { OnOk result ((before : List Applied) → Follows before spaces.now →
+    ensures ok { IfOk result (λ is_fixed. (before : List Applied) → Follows before spaces.now →
         CacheHolds R.meaning locator.old.detail (mapping_values spaces.now) locator.old →
-        HasStack R.meaning (located_lists locator.new) locator.old.detail before origin.pid origin.time
+        (time : Option ℕ) → IsTime is_fixed origin.time time →
+        HasStack R.meaning (located_lists locator.new) locator.old.detail before origin.pid time
         frames.now stack.new.items) }
 {
     stack.clear();
+    let mut is_fixed = true;
     'frames: for frame in frames {
-        stack.push(locator.location(resolver, spaces, origin, *frame)?)?;
+        let location = locator.location(resolver, spaces, origin, *frame)?;
+        stack.push(location.id)?;
+        is_fixed = are_both(is_fixed, location.is_fixed);
     }
-    Ok(())
+    Ok(is_fixed)
 }
 
 // Returns the thread of a sample.
@@ -112,9 +136,75 @@ impl<R: Resolver> ProfileBuilder<R> {
             spaces: AddressSpaces::new(alloc),
             locator: Locator::new(alloc, options.detail),
             sums: SampleSums::new(alloc),
+            chains: ChainCache::new(alloc),
             frames: Vec::new(alloc),
             stack: Vec::new(alloc),
+            last: None,
         }
+    }
+
+    // Returns a new stack of the frames.
+    fn new_stack(&mut self, origin: Origin) -> Result<NewStack, AllocError>
+        ensures options { options_of self.new ≡ options_of self.old }
+        ensures spaces { self.new.spaces ≡ self.old.spaces }
+        ensures sums { self.new.sums ≡ self.old.sums }
+        ensures frames { self.new.frames ≡ self.old.frames }
+        ensures chains { self.new.chains ≡ self.old.chains }
+        ensures grows { LocatorGrows self.old.locator self.new.locator }
+        ensures cache { OnOk result ((before : List Applied) → Follows before self.old.spaces →
+            CacheHolds R.meaning self.old.locator.detail (mapping_values self.old.spaces) self.old.locator →
+            CacheHolds R.meaning self.old.locator.detail (mapping_values self.old.spaces) self.new.locator) }
+        ensures ok { IfOk result (λ new. (before : List Applied) → Follows before self.old.spaces →
+            CacheHolds R.meaning self.old.locator.detail (mapping_values self.old.spaces) self.old.locator →
+            (time : Option ℕ) → IsTime new.is_fixed origin.time time →
+            IsStackOf R.meaning self.old.locator.detail (located_lists self.new.locator) before origin.pid
+            time self.old.frames.items new.id) }
+    {
+        let is_fixed = set_stack(
+            &mut self.resolver,
+            &self.spaces,
+            &mut self.locator,
+            origin,
+            self.frames.as_slice(),
+            &mut self.stack,
+        )?;
+        let id = self.locator.tables.stacks.intern(self.stack.as_slice())?;
+        Ok(NewStack { id, is_fixed })
+    }
+
+    // Returns the stack of the frames: the one that is kept, or a new one.
+    fn stack_id(&mut self, origin: Origin) -> Result<StackId, AllocError>
+        ensures options { options_of self.new ≡ options_of self.old }
+        ensures spaces { self.new.spaces ≡ self.old.spaces }
+        ensures sums { self.new.sums ≡ self.old.sums }
+        ensures frames { self.new.frames ≡ self.old.frames }
+        ensures grows { LocatorGrows self.old.locator self.new.locator }
+        ensures cache { OnOk result ((before : List Applied) → Follows before self.old.spaces →
+            CacheHolds R.meaning self.old.locator.detail (mapping_values self.old.spaces) self.old.locator →
+            CacheHolds R.meaning self.old.locator.detail (mapping_values self.old.spaces) self.new.locator) }
+        ensures chains { OnOk result ((before : List Applied) → Follows before self.old.spaces →
+            CacheHolds R.meaning self.old.locator.detail (mapping_values self.old.spaces) self.old.locator →
+            ChainsHold R.meaning self.old.locator.detail (located_lists self.old.locator) before
+            self.old.chains →
+            ChainsHold R.meaning self.old.locator.detail (located_lists self.new.locator) before
+            self.new.chains) }
+        ensures ok { IfOk result (λ id. (before : List Applied) → Follows before self.old.spaces →
+            CacheHolds R.meaning self.old.locator.detail (mapping_values self.old.spaces) self.old.locator →
+            ChainsHold R.meaning self.old.locator.detail (located_lists self.old.locator) before
+            self.old.chains →
+            IsStackOf R.meaning self.old.locator.detail (located_lists self.new.locator) before origin.pid
+            origin.time self.old.frames.items id) }
+    {
+        if let Some(id) = self.chains.find(origin.pid, self.frames.as_slice()) {
+            return Ok(id);
+        }
+        let new = self.new_stack(origin)?;
+        if !new.is_fixed {
+            return Ok(new.id);
+        }
+        self.chains
+            .insert(origin.pid, self.frames.as_slice(), new.id)?;
+        Ok(new.id)
     }
 
     // Returns the key of a sample of an event with a column.
@@ -131,8 +221,16 @@ impl<R: Resolver> ProfileBuilder<R> {
         ensures cache { OnOk result ((before : List Applied) → Follows before self.old.spaces →
             CacheHolds R.meaning self.old.locator.detail (mapping_values self.old.spaces) self.old.locator →
             CacheHolds R.meaning self.old.locator.detail (mapping_values self.old.spaces) self.new.locator) }
+        ensures chains { OnOk result ((before : List Applied) → Follows before self.old.spaces →
+            CacheHolds R.meaning self.old.locator.detail (mapping_values self.old.spaces) self.old.locator →
+            ChainsHold R.meaning self.old.locator.detail (located_lists self.old.locator) before
+            self.old.chains →
+            ChainsHold R.meaning self.old.locator.detail (located_lists self.new.locator) before
+            self.new.chains) }
         ensures ok { IfOk result (λ key. (before : List Applied) → Follows before self.old.spaces →
             CacheHolds R.meaning self.old.locator.detail (mapping_values self.old.spaces) self.old.locator →
+            ChainsHold R.meaning self.old.locator.detail (located_lists self.old.locator) before
+            self.old.chains →
             HasKey R.meaning (located_lists self.new.locator) (options_of self.old) before misc sample.now
             column key) }
     {
@@ -143,14 +241,7 @@ impl<R: Resolver> ProfileBuilder<R> {
         };
         self.resolver
             .frames(&self.spaces, misc, sample, &mut self.frames)?;
-        set_stack(
-            &mut self.resolver,
-            &self.spaces,
-            &mut self.locator,
-            origin,
-            self.frames.as_slice(),
-            &mut self.stack,
-        )?;
+        let stack = self.stack_id(origin)?;
         let thread = sample_thread(
             &mut self.resolver,
             &self.spaces,
@@ -158,7 +249,7 @@ impl<R: Resolver> ProfileBuilder<R> {
             self.thread_ids,
             task,
         )?;
-        let stack = self.locator.tables.stacks.intern(self.stack.as_slice())?;
+        self.last = Some(stack);
         Ok(SampleKey {
             thread,
             stack,
@@ -199,6 +290,7 @@ impl<R: Resolver> ProfileBuilder<R> {
             } ∷ []) self.new) }
         ensures err { OnErr result (KeepsSums self.old.sums self.new.sums) }
     {
+        self.chains.clear();
         let index = self.spaces.apply(misc, event)?;
         self.resolver
             .record_applied(misc, event, indexed_mapping(&self.spaces, index))
@@ -299,7 +391,10 @@ impl<R: Resolver> ProfileBuilder<R> {
 
     /// Returns the stack of the sample that was counted last, the leaf's location first.
     pub fn last_stack(&self) -> &[LocationId] {
-        self.stack.as_slice()
+        match self.last {
+            Some(id) => self.locator.tables.stacks.get(id).unwrap_or(&[]),
+            None => &[],
+        }
     }
 
     /// Returns what the ids so far stand for.

@@ -8,6 +8,7 @@
 
 pub mod builder;
 mod cache;
+mod chain_cache;
 pub mod error;
 pub mod function_kinds;
 pub mod interned;

@@ -1,6 +1,6 @@
 //! The locations of frames.
 
-ghost use Rattle.std.specs.Prelude.{◌≡◌, [], ℕ, List, OnOk, IfOk};
+ghost use Rattle.std.specs.Prelude.{◌≡◌, [], ℕ, List, Option, OnOk, IfOk};
 ghost use Rattle.std.specs.Option.{option_map};
 ghost use Rattle.perfdata_profile.specs.Resolving.{frame_value};
 ghost use Rattle.perfdata_profile.specs.Samples.{Locates};
@@ -44,11 +44,11 @@ struct FrameLines {
     is_fixed: bool,
 }
 
-// The location of a frame, and whether it is that of each frame at the address of the mapping.
+/// The location of a frame, and whether it is that of each frame at the address of the mapping.
 #[derive(Clone, Copy)]
-struct NewLocation {
-    id: LocationId,
-    is_fixed: bool,
+pub(crate) struct NewLocation {
+    pub(crate) id: LocationId,
+    pub(crate) is_fixed: bool,
 }
 
 /// Tables, and the locations of addresses that were looked up before.
@@ -78,7 +78,8 @@ impl Locator {
     ghost use Rattle.perfdata_profile.specs.Locating.{CacheHolds, IsFoundLocation};
     ghost use Rattle.perfdata_profile.specs.steps.Locating.{HasMapping, IsFoundKey};
     ghost use Rattle.perfdata_profile.specs.Locating.{IsNewLocation, LooksUp};
-    ghost use Rattle.perfdata_profile.specs.steps.Locating.{AreFoundLines, IsFoundRange, LocatorGrows};
+    ghost use Rattle.perfdata_profile.specs.steps.Locating.{AreFoundLines, IsFoundRange, IsTime};
+    ghost use Rattle.perfdata_profile.specs.steps.Locating.{LocatorGrows};
     ghost use Rattle.perfdata_profile.specs.Locating.{located_lists};
 
     // Nothing was looked up.
@@ -196,33 +197,38 @@ impl Locator {
         })
     }
 
-    // Returns the location of a frame: the cached one, or a new one.
+    // Returns the location of a frame: the cached one, or a new one. That of a frame without a mapping isn't
+    // fixed.
     fn resolved_location<R: Resolver>(
         &mut self,
         resolver: &mut R,
         frame: &ResolvedFrame<'_>,
-    ) -> Result<LocationId, AllocError>
+    ) -> Result<NewLocation, AllocError>
         ensures grows { LocatorGrows self.old self.new }
-        ensures within { IfOk result (λ id. IsLocation (located_lists self.new) id) }
-        ensures ok { IfOk result (λ id. (mappings : List MappingValue) →
+        ensures within { IfOk result (λ new. IsLocation (located_lists self.new) new.id) }
+        ensures ok { IfOk result (λ new. (mappings : List MappingValue) →
             HasMapping mappings (frame_value frame.now) →
             CacheHolds R.meaning self.old.detail mappings self.old →
-            LooksUp R.meaning self.old.detail mappings (frame_value frame.now) id self.new) }
+            LooksUp R.meaning self.old.detail mappings (frame_value frame.now) new self.new) }
     {
         let Some(index) = frame.index else {
-            return Ok(self.new_location(resolver, frame)?.id);
+            let unmapped = self.new_location(resolver, frame)?;
+            return Ok(NewLocation {
+                id: unmapped.id,
+                is_fixed: false,
+            });
         };
         let address = frame.frame.lookup_address();
         let at = MappedAddress { index, address };
         if let Some(id) = self.cache.get(at) {
-            return Ok(id);
+            return Ok(NewLocation { id, is_fixed: true });
         }
         let new = self.new_location(resolver, frame)?;
         if !new.is_fixed {
-            return Ok(new.id);
+            return Ok(new);
         }
         self.cache.insert(at, new.id)?;
-        Ok(new.id)
+        Ok(new)
     }
 
     // Returns the location of a frame of a sample.
@@ -232,16 +238,17 @@ impl Locator {
         spaces: &AddressSpaces,
         origin: Origin,
         frame: SampleFrame,
-    ) -> Result<LocationId, AllocError>
+    ) -> Result<NewLocation, AllocError>
         ensures grows { LocatorGrows self.old self.new }
         ensures cache { OnOk result ((before : List Applied) → Follows before spaces.now →
             CacheHolds R.meaning self.old.detail (mapping_values spaces.now) self.old →
             CacheHolds R.meaning self.old.detail (mapping_values spaces.now) self.new) }
-        ensures within { IfOk result (λ id. IsLocation (located_lists self.new) id) }
-        ensures ok { IfOk result (λ id. (before : List Applied) → Follows before spaces.now →
+        ensures within { IfOk result (λ new. IsLocation (located_lists self.new) new.id) }
+        ensures ok { IfOk result (λ new. (before : List Applied) → Follows before spaces.now →
             CacheHolds R.meaning self.old.detail (mapping_values spaces.now) self.old →
-            Locates R.meaning self.old.detail before origin.pid origin.time frame
-            (location_at (located_lists self.new) id)) }
+            (time : Option ℕ) → IsTime new.is_fixed origin.time time →
+            Locates R.meaning self.old.detail before origin.pid time frame
+            (location_at (located_lists self.new) new.id)) }
     {
         let address = frame.lookup_address();
         let index = spaces.find_index(origin.pid, address, frame.frame.context);

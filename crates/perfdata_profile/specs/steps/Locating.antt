@@ -1,5 +1,5 @@
 -- Steps of private functions: the locations of frames as they are looked up.
-use Rattle.std.specs.Prelude.{◌≡◌, ℕ, ◌<◌, true, List, length, Option, Some, slice_get}
+use Rattle.std.specs.Prelude.{◌≡◌, ℕ, ◌<◌, ◌⊎◌, true, Bool, List, length, Option, Some, slice_get}
 use Rattle.std.specs.Option.{option_map}
 use Rattle.perfdata_profile.specs.Resolving.{AreAtOneAddress, FrameValue, Meaning}
 use Rattle.perfdata_profile.specs.Samples.{IsPlace, IsRangeAt}
@@ -18,6 +18,10 @@ use Rattle.perfdata_profile.specs.Locating.{located_lists}
 pub record LocatorGrows (old new : Locator) : Type 0 where
   pub lists : ListsGrow (located_lists old) (located_lists new)
   pub detail : new.detail ≡ old.detail
+
+-- The time of a sample or, of something that is fixed, any time.
+abbrev pub IsTime : Bool → Option ℕ → Option ℕ → Type 0
+IsTime is_fixed time other = (is_fixed ≡ true) ⊎ (other ≡ time)
 
 -- A frame has the mapping with its index, if it has an index.
 abbrev pub HasMapping : List MappingValue → FrameValue → Type 0

@@ -8,6 +8,7 @@ returns g c = record {
   has_options = λ i. record { detail = c.new-2.ensures.detail i; thread_ids = c.args.options.thread_ids };
   follows = c.new.ensures;
   cache = λ index at id found. absurd (none_at _ c.new-2.ensures.cache index (at, id) found);
+  chains = λ index chain at. absurd (none_at _ c.new-4.ensures index chain at);
   counted = [];
   are = none [] [] refl refl;
   sums = c.new-3.ensures;
