@@ -83,7 +83,9 @@ enum dewikura_status_code {
     DEWIKURA_JIT_WRONG_TYPE = 22,         // the jitdump record at this offset is of another type
     DEWIKURA_JIT_BAD_BODY = 23,           // the body of the jitdump record is malformed
     DEWIKURA_BAD_SYMBOL_TABLE = 24,       // a record of simpleperf's symbol tables is malformed
-    DEWIKURA_NO_SPACE = 25                // the array is too small for the next record
+    DEWIKURA_NO_SPACE = 25,               // the array is too small for the next record
+    DEWIKURA_NOT_ELF = 26,                // not an ELF file
+    DEWIKURA_BAD_ELF = 27                 // a table of the ELF file ends after it, or its entries are too small
 };
 
 // ---- structs: numbers are in the machine's byte order, whatever the byte order of the input is
@@ -430,6 +432,14 @@ struct dewikura_jit_debug_entry {
     uint32_t column;       // starting at 1; 0 if it is unknown
 };
 
+// A symbol of an ELF file: a function, an object, or a label in code. Offsets are in bytes from the start of the file.
+struct dewikura_elf_symbol {
+    uint64_t start;       // offset of its first byte: in a file with debug information alone, that in the file without
+    uint64_t size;        // in bytes
+    uint64_t name_offset; // of its name
+    uint64_t name_size;   // in bytes
+};
+
 // The library has the same sizes.
 #if defined(__cplusplus)
 #define DEWIKURA_CHECK_SIZE(name, size) static_assert(sizeof(struct name) == size, "size of struct " #name)
@@ -465,6 +475,7 @@ DEWIKURA_CHECK_SIZE(dewikura_jit_load, 64);
 DEWIKURA_CHECK_SIZE(dewikura_jit_move, 48);
 DEWIKURA_CHECK_SIZE(dewikura_jit_unwinding, 40);
 DEWIKURA_CHECK_SIZE(dewikura_jit_debug_entry, 32);
+DEWIKURA_CHECK_SIZE(dewikura_elf_symbol, 32);
 #undef DEWIKURA_CHECK_SIZE
 typedef char dewikura_has_64_bits[sizeof(size_t) == 8 ? 1 : -1];
 
@@ -1013,6 +1024,21 @@ DEWIKURA_NONNULL DEWIKURA_NODISCARD dewikura_status dewikura_read_jit_unwinding(
 DEWIKURA_NONNULL DEWIKURA_NODISCARD dewikura_status dewikura_read_jit_debug_info(const void *data, size_t size,
     uint64_t offset, uint64_t *code_address, struct dewikura_jit_debug_entry *entries, size_t capacity,
     uint64_t *total);
+
+// Writes the symbols of an ELF file, up to `capacity`: those of `.symtab` or, without one, of `.dynsym`. *total counts
+// all symbols. An offset may be in several: the last one is the one that perffold shows. A symbol without a size ends at
+// the next one, or with its section.
+//
+// The offset in its file of an address is `address - mapping.address + mapping.page_offset`.
+//
+// Returns DEWIKURA_OK, DEWIKURA_NOT_ELF, DEWIKURA_BAD_ELF or DEWIKURA_OUT_OF_MEMORY. After an error *total is 0.
+DEWIKURA_NONNULL DEWIKURA_NODISCARD dewikura_status dewikura_read_elf_symbols(const void *data, size_t size,
+    struct dewikura_elf_symbol *symbols, size_t capacity, uint64_t *total);
+
+// Writes the build id of an ELF file, up to `capacity`. *id_size is its size in bytes, and 0 for a file without one.
+// The statuses are those of dewikura_read_elf_symbols. After an error *id_size is 0.
+DEWIKURA_NONNULL DEWIKURA_NODISCARD dewikura_status dewikura_elf_build_id(const void *data, size_t size, uint8_t *id,
+    size_t capacity, uint64_t *id_size);
 
 // Writes the text of a mangled name of C++ (Itanium C++ ABI) or of Rust, up to `capacity`, without a NUL. `style` is
 // DEWIKURA_STYLE_NAME or another number, which is as DEWIKURA_STYLE_SIGNATURE. *text_size is the size of the whole text

@@ -96,6 +96,37 @@ class RecordingTest(unittest.TestCase):
         # The text doesn't fit into the array of the first call.
         self.assertEqual(dewikura.demangle("_Z9000" + 9000 * "a"), 9000 * "a")
 
+    def test_symbols(self):
+        path = pathlib.Path(dewikura._native._library._name)
+        symbols = dewikura.symbols(path)
+        names = {symbols.name(index): symbol for index, symbol in enumerate(symbols)}
+        version = names[b"dewikura_version"]
+        self.assertGreater(version.size, 0)
+        self.assertEqual([symbols.name(found) for found in symbols.find([version.start, version.start + version.size - 1])], 2 * [b"dewikura_version"])
+        self.assertEqual(symbols.find_indices([2**63]), [-1])
+        last = [max((index for index, symbol in enumerate(symbols) if symbol.start <= offset < symbol.start + symbol.size), default=-1)
+                for offset in range(version.start - 64, version.start + 64)]
+        self.assertEqual(symbols.find_indices(range(version.start - 64, version.start + 64)), last)
+        self.assertEqual(len(dewikura.symbols(path.read_bytes())), len(symbols))
+        self.assertRaises(dewikura.FormatError, dewikura.symbols, FIRST)
+        self.assertRaises(dewikura.FormatError, dewikura.build_id, b"")
+        self.assertRaises(dewikura.FormatError, dewikura.symbols, path.read_bytes()[:100])
+
+    def test_functions(self):
+        library = pathlib.Path(dewikura._native._library._name)
+        symbols = dewikura.symbols(library)
+        with dewikura.open(CALLS) as recording, tempfile.TemporaryDirectory() as folder:
+            stacks = recording.stacks
+            self.assertEqual(set(stacks.functions(symfs=folder)), {None})
+            path = next(path for path in map(stacks.mappings.path, range(len(stacks.mappings))) if path.startswith(b"/usr/lib"))
+            copy = pathlib.Path(folder + path.decode())
+            copy.parent.mkdir(parents=True)
+            copy.write_bytes(library.read_bytes())
+            for frame, function in zip(stacks.frames, stacks.functions(symfs=folder)):
+                mapping = stacks.mapping_of(frame)
+                found = symbols.find([frame.file_offset])[0] if mapping and stacks.mappings.path(mapping) == path else None
+                self.assertEqual(function, found and (dewikura.demangle(symbols.name(found)) or symbols.name(found).decode()))
+
     def test_build_ids(self):
         with dewikura.open(CALLS) as recording:
             found = sorted((entry.path, entry.build_id.hex(), entry.kind.name) for entry in recording.build_ids)

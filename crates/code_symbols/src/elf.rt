@@ -183,6 +183,13 @@ impl<R: PlacedSource + Drop> ElfFile<R> {
         Ok(parse_alternate_link(alloc, &bytes)?)
     }
 
+    /// Returns where the names of the symbols that `symbols` reads begin in the file, or `None` if it has no
+    /// symbols. A name is at this offset plus its `name_start`.
+    pub fn names_offset(&self) -> Option<u64> {
+        let symbols = self.symbol_table()?;
+        Some(find_section(&self.sections, symbols.link as usize)?.offset)
+    }
+
     /// Reads the symbols of functions and objects, and the labels in sections whose names contain `text`.
     ///
     /// Their starts are offsets in the file that has these segments: `self.segments()`, or those of the file
@@ -295,6 +302,12 @@ impl<R: PlacedSource + Drop> ElfFile<R> {
     fn code_of_name(&self, name: &[u8]) -> Option<Section> {
         let section = self.section_of_name(name)?;
         if section.is_code { Some(section) } else { None }
+    }
+
+    // The symbol table that is read: `.symtab` if there is one, otherwise `.dynsym`.
+    fn symbol_table(&self) -> Option<Section> {
+        let full = self.index_of_type(header::SYMTAB);
+        find_section(&self.sections, full.or(self.index_of_type(header::DYNSYM))?)
     }
 
     // The index of the first section of a type.

@@ -1,10 +1,10 @@
-//! C exports of the calls of `perfdata_arrays`, `perfdata_stack_arrays` and `demangle`;
+//! C exports of the calls of `perfdata_arrays`, `perfdata_stack_arrays`, `code_symbols` and `demangle`;
 //! `bindings/c/include/dewikura.h` declares them.
 //!
 //! No pointer may be NULL, also where an array has no elements.
 #![tactic(auto)]
 
-ghost use Rattle.std.specs.Prelude.{◌≡◌, ℕ, ◌<◌, ◌-◌, ◌++◌, ◌∷◌, [], length, take};
+ghost use Rattle.std.specs.Prelude.{◌≡◌, ◌≢◌, ℕ, ◌<◌, ◌-◌, ◌++◌, ◌∷◌, [], length, take};
 ghost use Rattle.std.specs.Bool.{nat_eq};
 ghost use Rattle.std.specs.List.{starts_with};
 ghost use Rattle.perfdata_sources.specs.declared.endian.Endianness.TheVariants.{BigEndian};
@@ -35,8 +35,10 @@ ghost use Rattle.dewikura.specs.Demangling.{Demangles};
 ghost use Rattle.dewikura.specs.Numbers.{endian_from, number_of_bool, IsNumberOfKind};
 
 mod demangling;
+mod elf_files;
 
 use demangle::Style;
+use elf_files::ElfSymbol;
 use linux_perf_data::Endianness;
 use linux_perf_data::in_memory::entries::RecordEntry;
 use linux_perf_data::in_memory::position::RecordPosition;
@@ -654,5 +656,37 @@ pub extern "C" fn dewikura_demangle(
 {
     let outcome = demangling::demangle(alloc, name, style_from_number(style), text);
     *size = outcome.size;
+    outcome.status.code()
+}
+
+/// Writes the symbols of an ELF file, as `ElfFile::symbols` reads them. `count` is the number of all of them.
+/// Of the symbols that contain an offset the last one is preferred.
+#[unsafe(no_mangle)]
+pub extern "C" fn dewikura_read_elf_symbols(
+    alloc: Global,
+    file: &[u8],
+    symbols: &mut [ElfSymbol],
+    count: &mut u64,
+) -> u32
+    ensures failed { result ≢ 0 → count.new ≡ 0 }
+{
+    let outcome = elf_files::elf_symbols(alloc, file, symbols);
+    *count = outcome.count;
+    outcome.status.code()
+}
+
+/// Writes the build id of an ELF file, as `ElfFile::build_id` reads it. `id_size` is its size in bytes, and 0
+/// for a file without one.
+#[unsafe(no_mangle)]
+pub extern "C" fn dewikura_elf_build_id(
+    alloc: Global,
+    file: &[u8],
+    id: &mut [u8],
+    id_size: &mut u64,
+) -> u32
+    ensures failed { result ≢ 0 → id_size.new ≡ 0 }
+{
+    let outcome = elf_files::elf_build_id(alloc, file, id);
+    *id_size = outcome.count;
     outcome.status.code()
 }

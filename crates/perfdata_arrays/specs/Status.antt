@@ -12,7 +12,7 @@ use Rattle.perfdata_sections.specs.declared.error.ReadError.TheVariants as part
 use Rattle.perfdata_jit.specs.declared.error.JitDumpError.{JitDumpError}
 use Rattle.perfdata_jit.specs.declared.error.JitDumpError.TheVariants as jit
 use Rattle.perfdata_arrays.specs.declared.status.Status.{Status}
-use Rattle.perfdata_arrays.specs.declared.status.Status.TheVariants.{Success, OutOfMemory, Truncated, InvalidData, InvalidHeaderSize, Compressed, Other, BadMagic, NoAttributes, BadDataSection, BadAttribute, AttributeTooLarge, MissingIdentifier, SampleIdAllMismatch, NoEventTypes, InvalidUtf8, BadRecordSize, TruncatedRecord, JitTruncatedHeader, JitBadHeaderSize, JitBadMagic, JitBadRecordSize, JitWrongType, JitBadBody, BadSymbolTable, NoSpace}
+use Rattle.perfdata_arrays.specs.declared.status.Status.TheVariants.{Success, OutOfMemory, Truncated, InvalidData, InvalidHeaderSize, Compressed, Other, BadMagic, NoAttributes, BadDataSection, BadAttribute, AttributeTooLarge, MissingIdentifier, SampleIdAllMismatch, NoEventTypes, InvalidUtf8, BadRecordSize, TruncatedRecord, JitTruncatedHeader, JitBadHeaderSize, JitBadMagic, JitBadRecordSize, JitWrongType, JitBadBody, BadSymbolTable, NoSpace, NotElf, BadElf}
 
 -- the code of a status
 abbrev pub status_code : Status → ℕ
@@ -42,6 +42,8 @@ status_code JitWrongType = 22
 status_code JitBadBody = 23
 status_code BadSymbolTable = 24
 status_code NoSpace = 25
+status_code NotElf = 26
+status_code BadElf = 27
 
 -- the number is the code of a status with this property
 abbrev pub IsCodeOf : ℕ → (Status → Type 0) → Type 0
@@ -75,7 +77,9 @@ status_texts =
     (22, codes "the jitdump record has another type") ∷
     (23, codes "the body of the jitdump record is malformed") ∷
     (24, codes "a record of simpleperf's symbol tables is malformed") ∷
-    (25, codes "the array is too small for the next record") ∷ []
+    (25, codes "the array is too small for the next record") ∷
+    (26, codes "not an ELF file") ∷
+    (27, codes "a table of the ELF file is truncated, or its entries are too small") ∷ []
 
 -- the text of a status code
 unfoldable pub code_text : ℕ → List ℕ

@@ -90,6 +90,12 @@ pub enum Status {
     /// The call chain of the next sample has more frames than the array of frames has elements, or the next
     /// record has more counter values than their array.
     NoSpace,
+
+    /// The input isn't an ELF file.
+    NotElf,
+
+    /// A table of the ELF file isn't within it, or the size of its entries is below that of the format.
+    BadElf,
 }
 
 impl Status {
@@ -124,6 +130,8 @@ impl Status {
             Status::JitBadBody => 23,
             Status::BadSymbolTable => 24,
             Status::NoSpace => 25,
+            Status::NotElf => 26,
+            Status::BadElf => 27,
         }
     }
 }
@@ -160,6 +168,8 @@ fn text_of_code(code: u32) -> &'static str
         23 => "the body of the jitdump record is malformed",
         24 => "a record of simpleperf's symbol tables is malformed",
         25 => "the array is too small for the next record",
+        26 => "not an ELF file",
+        27 => "a table of the ELF file is truncated, or its entries are too small",
         _ => "unknown status",
     }
 }

@@ -5,6 +5,7 @@ from ._structs import Counter, Frame, JitRecord, Mapping, Record, Sample, Sample
 from .constants import VERSION as _VERSION
 from .constants import (AttrFlag, BodyError, CpuMode, DsoKind, EventType, Feature, FrameContext, InputKind, JitRecordType, MappingKind,
                         ReadFormat, RecordType, SampleType, Status, SymbolFileType)
+from .elf import ElfSymbol, Symbols, build_id, symbols
 from .errors import FormatError, PerfDataError, TruncatedError, UnsupportedError
 from .jitdump import (JitDebugEntry, JitDebugInfo, JitDump, JitHeader, JitLoad, JitMove, JitRecords, JitUnwinding, jitdump_from_buffer,
                       open_jitdump)
@@ -15,11 +16,11 @@ from .recording import (Attribute, BuildId, Counters, Frames, Kind, Mappings, Re
 __version__ = ".".join(map(str, _VERSION))
 
 __all__ = [
-    "AttrFlag", "Attribute", "BodyError", "BuildId", "Counter", "Counters", "CpuMode", "DsoKind", "EventType", "Feature", "FormatError",
+    "AttrFlag", "Attribute", "BodyError", "BuildId", "Counter", "Counters", "CpuMode", "DsoKind", "ElfSymbol", "EventType", "Feature", "FormatError",
     "Frame", "FrameContext", "Frames", "InputKind", "JitDebugEntry", "JitDebugInfo", "JitDump", "JitHeader", "JitLoad", "JitMove",
     "JitRecord", "JitRecordType", "JitRecords", "JitUnwinding", "Kind", "Mapping", "MappingKind", "Mappings", "PerfDataError",
     "ReadFormat", "Record", "RecordType", "Recording", "Records", "Sample", "SampleDetails", "SampleType", "Samples", "Stack",
-    "StackFrame", "StackFrames", "StackMapping", "StackMappings", "Stacks", "Status", "Symbol", "SymbolFile", "SymbolFileType", "Task",
-    "Tasks", "TruncatedError", "UnsupportedError", "demangle", "from_buffer", "input_kind", "jitdump_from_buffer", "library_version",
-    "open", "open_jitdump",
+    "StackFrame", "StackFrames", "StackMapping", "StackMappings", "Stacks", "Status", "Symbol", "SymbolFile", "SymbolFileType", "Symbols",
+    "Task", "Tasks", "TruncatedError", "UnsupportedError", "build_id", "demangle", "from_buffer", "input_kind", "jitdump_from_buffer",
+    "library_version", "open", "open_jitdump", "symbols",
 ]

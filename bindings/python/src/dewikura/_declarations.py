@@ -399,6 +399,16 @@ class JitDebugEntry(ctypes.Structure):
     _fields_ = [("code_address", u64), ("path_offset", u64), ("path_size", u64), ("line", u32), ("column", u32)]
 
 
+class ElfSymbol(ctypes.Structure):
+    """A symbol of an ELF file: a function, an object, or a label in code. Offsets are in bytes from the start of the file."""
+
+    start: int
+    size: int
+    name_offset: int
+    name_size: int
+    _fields_ = [("start", u64), ("size", u64), ("name_offset", u64), ("name_size", u64)]
+
+
 # Of each struct the size, and the offset of each field.
 _LAYOUTS = {
     Cursor: (16, (0, 8)),
@@ -428,6 +438,7 @@ _LAYOUTS = {
     JitMove: (48, (0, 8, 16, 24, 32, 40, 44)),
     JitUnwinding: (40, (0, 8, 16, 24, 32)),
     JitDebugEntry: (32, (0, 8, 16, 24, 28)),
+    ElfSymbol: (32, (0, 8, 16, 24)),
 }
 for _struct, _layout in _LAYOUTS.items():
     if (ctypes.sizeof(_struct), tuple(getattr(_struct, name).offset for name, *_ in _struct._fields_)) != _layout:
@@ -477,6 +488,8 @@ _EXPORTS = {
     "dewikura_read_jit_move": (u32, [c_void_p, c_size_t, u64, POINTER(JitMove)]),
     "dewikura_read_jit_unwinding": (u32, [c_void_p, c_size_t, u64, POINTER(JitUnwinding)]),
     "dewikura_read_jit_debug_info": (u32, [c_void_p, c_size_t, u64, POINTER(u64), POINTER(JitDebugEntry), c_size_t, POINTER(u64)]),
+    "dewikura_read_elf_symbols": (u32, [c_void_p, c_size_t, POINTER(ElfSymbol), c_size_t, POINTER(u64)]),
+    "dewikura_elf_build_id": (u32, [c_void_p, c_size_t, POINTER(u8), c_size_t, POINTER(u64)]),
     "dewikura_demangle": (u32, [c_void_p, c_size_t, u32, c_void_p, c_size_t, POINTER(u64)]),
 }
 

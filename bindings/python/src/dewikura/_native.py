@@ -56,6 +56,8 @@ read_jit_move = _library.dewikura_read_jit_move
 read_jit_unwinding = _library.dewikura_read_jit_unwinding
 read_jit_debug_info = _library.dewikura_read_jit_debug_info
 demangle = _library.dewikura_demangle
+read_elf_symbols = _library.dewikura_read_elf_symbols
+elf_build_id = _library.dewikura_elf_build_id
 
 
 def library_version() -> "tuple[int, int, int]":

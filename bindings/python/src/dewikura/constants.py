@@ -32,6 +32,8 @@ class Status(enum.IntEnum):
     JIT_BAD_BODY = 23
     BAD_SYMBOL_TABLE = 24
     NO_SPACE = 25
+    NOT_ELF = 26
+    BAD_ELF = 27
 
 
 class InputKind(enum.IntEnum):

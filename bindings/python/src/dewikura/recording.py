@@ -5,16 +5,17 @@ import dataclasses
 import enum
 import itertools
 import mmap
+import os
 from array import array as number_array
 from ctypes import c_uint8 as u8, c_uint64 as u64
 from typing import (Any, Dict, Iterable, Iterator, List, Literal, Mapping as AnyMapping, NamedTuple, Optional, Tuple, Type,
                     TypeVar, Union)
 
-from . import _native, _structs
+from . import _native, _structs, elf
 from ._arrays import StructSequence, words_of
 from ._input import Buffer, OpenInput, PathLike, map_file
 from ._structs import Counter, Frame, Mapping, Record, Sample, SampleDetails, Stack, StackFrame, StackMapping, Task, known
-from .constants import AttrFlag, DsoKind, EventType, Feature, InputKind, ReadFormat, SampleType, Status, SymbolFileType
+from .constants import AttrFlag, DsoKind, EventType, Feature, InputKind, MappingKind, ReadFormat, SampleType, Status, SymbolFileType
 from .errors import PerfDataError, check, error_of
 
 S = TypeVar("S", bound=StructSequence[Any])
@@ -164,6 +165,25 @@ class StackMappings(StructSequence[StackMapping]):
         return columns
 
 
+def _file_symbols(path: str) -> Optional[elf.Symbols]:
+    """The symbols of a file, or None if it isn't an ELF file that can be read."""
+    if not os.path.isfile(path):
+        return None
+    try:
+        return elf.symbols(path)
+    except (OSError, PerfDataError):
+        return None
+
+
+def _names(symbols: Optional[elf.Symbols], offsets: List[int]) -> Iterable[Optional[str]]:
+    """The texts of the symbols at offsets in a file."""
+    if symbols is None:
+        return itertools.repeat(None)
+    indices = symbols.find_indices(offsets)
+    texts = {index: elf.symbol_text(symbols.name(index)) for index in set(indices) if index >= 0}
+    return map(texts.get, indices)
+
+
 class Stacks(StructSequence[Stack]):
     """The samples of a recording in order of time, as stacks, with their `frames` and the `mappings` of these."""
 
@@ -196,6 +216,27 @@ class Stacks(StructSequence[Stack]):
         if not stack.has_name:
             return None
         return bytes(self.mappings._source.data[stack.name_offset:stack.name_offset + stack.name_size])
+
+    def functions(self, symfs: str = "") -> List[Optional[str]]:
+        """Returns the name of the function of each frame of `frames`: by the symbols of its mapped file, which is looked for below `symfs`.
+        It is None where no file or no symbol is found. Inlined functions aren't shown, and copies of stacks aren't unwound."""
+        names: List[Optional[str]] = [None] * len(self.frames)
+        positions: Dict[int, List[int]] = {}
+        for position, frame in enumerate(self.frames):
+            positions.setdefault(frame._mapping, []).append(position)
+        positions.pop(_structs.NO_MAPPING, None)
+        tables: Dict[str, Optional[elf.Symbols]] = {}
+        for index, of_mapping in positions.items():
+            path = os.fsdecode(self.mappings.path(index))
+            if self.mappings[index].kind == MappingKind.KERNEL_SYMBOL:
+                found: Iterable[Optional[str]] = itertools.repeat(path)
+            else:
+                if path not in tables:
+                    tables[path] = _file_symbols(symfs + path)
+                found = _names(tables[path], [self.frames[position].file_offset for position in of_mapping])
+            for position, name in zip(of_mapping, found):
+                names[position] = name
+        return names
 
     def mapping_of(self, frame: StackFrame) -> Optional[StackMapping]:
         """Returns the mapping in which a frame of a stack is looked up, or None."""
