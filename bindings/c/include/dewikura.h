@@ -1026,10 +1026,8 @@ DEWIKURA_NONNULL DEWIKURA_NODISCARD dewikura_status dewikura_read_jit_debug_info
     uint64_t *total);
 
 // Writes the symbols of an ELF file, up to `capacity`: those of `.symtab` or, without one, of `.dynsym`. *total counts
-// all symbols. An offset may be in several: the last one is the one that perffold shows. A symbol without a size ends at
-// the next one, or with its section.
-//
-// The offset in its file of an address is `address - mapping.address + mapping.page_offset`.
+// all symbols. An offset may be in several: the last one is the one that perffold shows. A symbol without a size ends
+// at the next one, or with its section. `file_offset` of a frame (dewikura_stack_frame) is such an offset.
 //
 // Returns DEWIKURA_OK, DEWIKURA_NOT_ELF, DEWIKURA_BAD_ELF or DEWIKURA_OUT_OF_MEMORY. After an error *total is 0.
 DEWIKURA_NONNULL DEWIKURA_NODISCARD dewikura_status dewikura_read_elf_symbols(const void *data, size_t size,

@@ -51,7 +51,7 @@ pub(crate) struct MappedPath<'a> {
 }
 
 // Returns the part of a path up to its last slash, which is at least one slash.
-fn directory_of(path: &str) -> &str {
+fn parent_directory(path: &str) -> &str {
     match path.rsplit_once('/') {
         Some((directory, _name)) => path.get(..directory.len().saturating_add(1)).unwrap_or("/"),
         None => "/",
@@ -128,14 +128,14 @@ impl SourceList {
         let Some(source) = source else {
             return Ok(());
         };
-        let directory = directory_of(source.path.as_str());
+        let directory = parent_directory(source.path.as_str());
         self.add(source.root, format!(in alloc; "{directory}{path}")?, None)
     }
 
     // Adds the paths of the debug file that the debug link of the mapped file at a path names.
     fn add_linked(&mut self, path: &str, name: &str, crc: u32) -> Result<(), AllocError> {
         let alloc = self.alloc;
-        let directory = directory_of(path);
+        let directory = parent_directory(path);
         let crc = Some(crc);
         self.add(
             PathRoot::Files,
