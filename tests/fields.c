@@ -1160,8 +1160,8 @@ static void check_texts(void)
     dewikura_status status;
     size_t length;
     CHECK(dewikura_version(), DEWIKURA_VERSION);
-    CHECK(dewikura_status_text(DEWIKURA_NO_SPACE + 1, unknown, sizeof unknown), 14);
-    for (status = DEWIKURA_OK; status <= DEWIKURA_NO_SPACE; status++) {
+    CHECK(dewikura_status_text(DEWIKURA_TRACING_DATA + 1, unknown, sizeof unknown), 14);
+    for (status = DEWIKURA_OK; status <= DEWIKURA_TRACING_DATA; status++) {
         length = dewikura_status_text(status, text, sizeof text);
         CHECK(length, strlen(text));
         CHECK(!strcmp(text, unknown), 0);

@@ -85,7 +85,8 @@ enum dewikura_status_code {
     DEWIKURA_BAD_SYMBOL_TABLE = 24,       // a record of simpleperf's symbol tables is malformed
     DEWIKURA_NO_SPACE = 25,               // the array is too small for the next record
     DEWIKURA_NOT_ELF = 26,                // not an ELF file
-    DEWIKURA_BAD_ELF = 27                 // a table of the ELF file ends after it, or its entries are too small
+    DEWIKURA_BAD_ELF = 27,                // a table of the ELF file ends after it, or its entries are too small
+    DEWIKURA_TRACING_DATA = 28            // a pipe with tracing data, which tracepoint events have
 };
 
 // ---- structs: numbers are in the machine's byte order, whatever the byte order of the input is
@@ -1024,6 +1025,11 @@ DEWIKURA_NONNULL DEWIKURA_NODISCARD dewikura_status dewikura_read_jit_unwinding(
 DEWIKURA_NONNULL DEWIKURA_NODISCARD dewikura_status dewikura_read_jit_debug_info(const void *data, size_t size,
     uint64_t offset, uint64_t *code_address, struct dewikura_jit_debug_entry *entries, size_t capacity,
     uint64_t *total);
+
+// Returns DEWIKURA_TRACING_DATA if a pipe has the record HEADER_TRACING_DATA, as `perf record -o -` writes it for
+// tracepoint events: what follows it isn't records, though the other calls read it as such. Record to a file instead.
+// Otherwise returns DEWIKURA_OK, also if the pipe has an error, which the other calls return.
+DEWIKURA_NONNULL DEWIKURA_NODISCARD dewikura_status dewikura_check_tracing_data(const void *data, size_t size);
 
 // Writes the symbols of an ELF file, up to `capacity`: those of `.symtab` or, without one, of `.dynsym`. *total counts
 // all symbols. An offset may be in several: the last one is the one that perffold shows. A symbol without a size ends

@@ -96,6 +96,14 @@ class RecordingTest(unittest.TestCase):
         # The text doesn't fit into the array of the first call.
         self.assertEqual(dewikura.demangle("_Z9000" + 9000 * "a"), 9000 * "a")
 
+    def test_tracing_data(self):
+        for order in ("little", "big"):
+            opening = (perfdata.record(64, 0, perfdata.attribute(order=order), order), perfdata.record(9, 0, bytes(8), order))
+            self.assertEqual(len(dewikura.from_buffer(perfdata.pipe(*opening, order=order)).records), 1)
+            data = perfdata.pipe(*opening, perfdata.record(66, 0, bytes(4), order), b"\x17\x08\x44tracing", order=order)
+            with self.assertRaisesRegex(dewikura.UnsupportedError, "tracing data in a pipe isn't supported: record to a file"):
+                dewikura.from_buffer(data)
+
     def test_symbols(self):
         path = pathlib.Path(dewikura._native._library._name)
         symbols = dewikura.symbols(path)

@@ -4,7 +4,7 @@
 //! No pointer may be NULL, also where an array has no elements.
 #![tactic(auto)]
 
-ghost use Rattle.std.specs.Prelude.{◌≡◌, ◌≢◌, ℕ, ◌<◌, ◌-◌, ◌++◌, ◌∷◌, [], length, take};
+ghost use Rattle.std.specs.Prelude.{◌≡◌, ◌≢◌, ◌⊎◌, ℕ, ◌<◌, ◌-◌, ◌++◌, ◌∷◌, [], length, take};
 ghost use Rattle.std.specs.Bool.{nat_eq};
 ghost use Rattle.std.specs.List.{starts_with};
 ghost use Rattle.perfdata_sources.specs.declared.endian.Endianness.TheVariants.{BigEndian};
@@ -62,6 +62,7 @@ use perfdata_arrays::tasks::TaskEntry;
 use perfdata_arrays::{
     attrs, build_ids, byte_order, counters, feature_set, features, finishing, jit, jit_bodies,
     jit_debug, mappings, meta_info, records, samples, sort, status, strings, symbol_tables, tasks,
+    tracing_data,
 };
 use perfdata_stack_arrays::frame::StackFrame;
 use perfdata_stack_arrays::mapping::StackMapping;
@@ -657,6 +658,14 @@ pub extern "C" fn dewikura_demangle(
     let outcome = demangling::demangle(alloc, name, style_from_number(style), text);
     *size = outcome.size;
     outcome.status.code()
+}
+
+/// Returns whether a pipe has tracing data, as `tracing_data::check_tracing_data` does.
+#[unsafe(no_mangle)]
+pub extern "C" fn dewikura_check_tracing_data(alloc: Global, input: &[u8]) -> u32
+    ensures { (result ≡ 0) ⊎ (result ≡ 28) }
+{
+    tracing_data::check_tracing_data(alloc, input).code()
 }
 
 /// Writes the symbols of an ELF file, as `ElfFile::symbols` reads them. `count` is the number of all of them.

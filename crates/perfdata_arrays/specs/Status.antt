@@ -12,7 +12,7 @@ use Rattle.perfdata_sections.specs.declared.error.ReadError.TheVariants as part
 use Rattle.perfdata_jit.specs.declared.error.JitDumpError.{JitDumpError}
 use Rattle.perfdata_jit.specs.declared.error.JitDumpError.TheVariants as jit
 use Rattle.perfdata_arrays.specs.declared.status.Status.{Status}
-use Rattle.perfdata_arrays.specs.declared.status.Status.TheVariants.{Success, OutOfMemory, Truncated, InvalidData, InvalidHeaderSize, Compressed, Other, BadMagic, NoAttributes, BadDataSection, BadAttribute, AttributeTooLarge, MissingIdentifier, SampleIdAllMismatch, NoEventTypes, InvalidUtf8, BadRecordSize, TruncatedRecord, JitTruncatedHeader, JitBadHeaderSize, JitBadMagic, JitBadRecordSize, JitWrongType, JitBadBody, BadSymbolTable, NoSpace, NotElf, BadElf}
+use Rattle.perfdata_arrays.specs.declared.status.Status.TheVariants.{Success, OutOfMemory, Truncated, InvalidData, InvalidHeaderSize, Compressed, Other, BadMagic, NoAttributes, BadDataSection, BadAttribute, AttributeTooLarge, MissingIdentifier, SampleIdAllMismatch, NoEventTypes, InvalidUtf8, BadRecordSize, TruncatedRecord, JitTruncatedHeader, JitBadHeaderSize, JitBadMagic, JitBadRecordSize, JitWrongType, JitBadBody, BadSymbolTable, NoSpace, NotElf, BadElf, TracingData}
 
 -- the code of a status
 abbrev pub status_code : Status → ℕ
@@ -44,6 +44,7 @@ status_code BadSymbolTable = 24
 status_code NoSpace = 25
 status_code NotElf = 26
 status_code BadElf = 27
+status_code TracingData = 28
 
 -- the number is the code of a status with this property
 abbrev pub IsCodeOf : ℕ → (Status → Type 0) → Type 0
@@ -79,7 +80,8 @@ status_texts =
     (24, codes "a record of simpleperf's symbol tables is malformed") ∷
     (25, codes "the array is too small for the next record") ∷
     (26, codes "not an ELF file") ∷
-    (27, codes "a table of the ELF file is truncated, or its entries are too small") ∷ []
+    (27, codes "a table of the ELF file is truncated, or its entries are too small") ∷
+    (28, codes "tracing data in a pipe isn't supported: record to a file") ∷ []
 
 -- the text of a status code
 unfoldable pub code_text : ℕ → List ℕ

@@ -34,3 +34,4 @@ pub mod status;
 pub mod strings;
 pub mod symbol_tables;
 pub mod tasks;
+pub mod tracing_data;

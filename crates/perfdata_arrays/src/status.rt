@@ -96,6 +96,9 @@ pub enum Status {
 
     /// A table of the ELF file isn't within it, or the size of its entries is below that of the format.
     BadElf,
+
+    /// A pipe has tracing data, which aren't records.
+    TracingData,
 }
 
 impl Status {
@@ -132,6 +135,7 @@ impl Status {
             Status::NoSpace => 25,
             Status::NotElf => 26,
             Status::BadElf => 27,
+            Status::TracingData => 28,
         }
     }
 }
@@ -170,6 +174,7 @@ fn text_of_code(code: u32) -> &'static str
         25 => "the array is too small for the next record",
         26 => "not an ELF file",
         27 => "a table of the ELF file is truncated, or its entries are too small",
+        28 => "tracing data in a pipe isn't supported: record to a file",
         _ => "unknown status",
     }
 }

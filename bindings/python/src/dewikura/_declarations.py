@@ -488,6 +488,7 @@ _EXPORTS = {
     "dewikura_read_jit_move": (u32, [c_void_p, c_size_t, u64, POINTER(JitMove)]),
     "dewikura_read_jit_unwinding": (u32, [c_void_p, c_size_t, u64, POINTER(JitUnwinding)]),
     "dewikura_read_jit_debug_info": (u32, [c_void_p, c_size_t, u64, POINTER(u64), POINTER(JitDebugEntry), c_size_t, POINTER(u64)]),
+    "dewikura_check_tracing_data": (u32, [c_void_p, c_size_t]),
     "dewikura_read_elf_symbols": (u32, [c_void_p, c_size_t, POINTER(ElfSymbol), c_size_t, POINTER(u64)]),
     "dewikura_elf_build_id": (u32, [c_void_p, c_size_t, POINTER(u8), c_size_t, POINTER(u64)]),
     "dewikura_demangle": (u32, [c_void_p, c_size_t, u32, c_void_p, c_size_t, POINTER(u64)]),

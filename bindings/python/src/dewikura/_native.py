@@ -58,6 +58,7 @@ read_jit_debug_info = _library.dewikura_read_jit_debug_info
 demangle = _library.dewikura_demangle
 read_elf_symbols = _library.dewikura_read_elf_symbols
 elf_build_id = _library.dewikura_elf_build_id
+check_tracing_data = _library.dewikura_check_tracing_data
 
 
 def library_version() -> "tuple[int, int, int]":

@@ -34,6 +34,7 @@ class Status(enum.IntEnum):
     NO_SPACE = 25
     NOT_ELF = 26
     BAD_ELF = 27
+    TRACING_DATA = 28
 
 
 class InputKind(enum.IntEnum):

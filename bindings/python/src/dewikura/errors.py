@@ -37,6 +37,7 @@ _CLASSES = {
     Status.TRUNCATED_RECORD: TruncatedError,
     Status.JIT_TRUNCATED_HEADER: TruncatedError,
     Status.COMPRESSED: UnsupportedError,
+    Status.TRACING_DATA: UnsupportedError,
     Status.OTHER: PerfDataError,
 }
 

@@ -864,16 +864,25 @@ def _finished(data: Buffer) -> bytes:
 def open(path: PathLike, *, kind: Optional[Kind] = None, unfinished: bool = False) -> Recording:
     """Maps a perf.data file or a stored pipe. The kind is that of its header unless it is given.
 
-    With `unfinished` a file that perf didn't finish, or whose end is missing, has its whole records and its whole sections."""
+    With `unfinished` a file that perf didn't finish, or whose end is missing, has its whole records and its whole sections. A pipe with
+    tracing data, which tracepoint events have, raises UnsupportedError: record these to a file."""
     data, mapping = map_file(path)
     if unfinished and (kind or _kind_of(memoryview(data))) is Kind.FILE:
         finished = _finished(data)
         if mapping is not None:
             mapping.close()
         return Recording(finished, Kind.FILE)
-    return Recording(data, kind or _kind_of(memoryview(data)), mapping)
+    return _checked(data, kind or _kind_of(memoryview(data)), mapping)
+
+
+def _checked(data: Buffer, kind: Kind, mapping: Optional[mmap.mmap] = None) -> Recording:
+    """A recording. A pipe with tracing data raises UnsupportedError: what follows them isn't records."""
+    if kind is Kind.PIPE:
+        with _native.Input(data) as (address, size):
+            check(_native.check_tracing_data(address, size))
+    return Recording(data, kind, mapping)
 
 
 def from_buffer(data: Buffer, *, kind: Optional[Kind] = None) -> Recording:
     """Reads a recording from a buffer (bytes, bytearray, memoryview, mmap, numpy array), without a copy."""
-    return Recording(data, kind or _kind_of(memoryview(data).cast("B")))
+    return _checked(data, kind or _kind_of(memoryview(data).cast("B")))
