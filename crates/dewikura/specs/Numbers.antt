@@ -1,7 +1,9 @@
--- Numbers that cross to C for a byte order, a truth value and the kind of an input.
+-- Numbers that cross to C for a byte order, a truth value, the kind of an input and the style of a text.
 use Rattle.std.specs.Prelude.{◌≡◌, ℕ, zero, suc, Bool, true, false, List, Option, None, Some}
 use Rattle.perfdata_sources.specs.declared.endian.Endianness.{Endianness}
 use Rattle.perfdata_sources.specs.declared.endian.Endianness.TheVariants.{LittleEndian, BigEndian}
+use Rattle.demangle_cpp.specs.declared.Style.{Style}
+use Rattle.demangle_cpp.specs.declared.Style.TheVariants.{Name, Signature}
 use Rattle.linux_perf_data.specs.InputKind.{IsKindOfStart}
 use Rattle.linux_perf_data.specs.declared.input_kind.InputKind.{InputKind}
 use Rattle.linux_perf_data.specs.declared.input_kind.InputKind.TheVariants.{File, Pipe, JitDump}
@@ -10,6 +12,11 @@ use Rattle.linux_perf_data.specs.declared.input_kind.InputKind.TheVariants.{File
 abbrev pub endian_from : ℕ → Endianness
 endian_from zero = LittleEndian
 endian_from (suc n) = BigEndian
+
+-- the name for 0, the whole signature for all other numbers
+abbrev pub style_from : ℕ → Style
+style_from zero = Name
+style_from (suc n) = Signature
 
 -- 1 for true, 0 for false
 abbrev pub number_of_bool : Bool → ℕ

@@ -32,7 +32,7 @@ ghost use Rattle.perfdata_arrays.specs.Tasks.{ReadsPipeTasks, ReadsTaskPage};
 ghost use Rattle.demangle.specs.Prefix.{IsMangled};
 ghost use Rattle.perfdata_stack_arrays.specs.Reading.{ReadsFileStacks, ReadsPipeStacks};
 ghost use Rattle.dewikura.specs.Demangling.{Demangles};
-ghost use Rattle.dewikura.specs.Numbers.{endian_from, number_of_bool, IsNumberOfKind};
+ghost use Rattle.dewikura.specs.Numbers.{endian_from, style_from, number_of_bool, IsNumberOfKind};
 
 mod demangling;
 mod elf_files;
@@ -87,7 +87,9 @@ fn endian_from_flag(is_big_endian: u32) -> Endianness
 }
 
 // The style of texts is that of names for 0, and that of signatures for all other values.
-fn style_from_number(style: u32) -> Style {
+fn style_from_number(style: u32) -> Style
+    ensures { result ≡ style_from style }
+{
     if style == 0 {
         Style::Name
     } else {
