@@ -1,6 +1,7 @@
 -- Lemmas.
 pub mod ErrorLemmas
 pub mod NumberLemmas
+pub mod RememberLemmas
 pub mod SectionLemmas
 pub mod StableLemmas
 pub mod TableLemmas

@@ -6,6 +6,7 @@ pub mod FrameTables
 pub mod Instructions
 pub mod Numbers
 pub mod Pointers
+pub mod Remembering
 pub mod Rows
 pub mod Sections
 pub mod TableRows

@@ -46,6 +46,7 @@ fn slot(address: u64) -> usize
 }
 
 impl FrameTable {
+    ghost use Rattle.code_cfi.specs.Remembering.{RemembersAt};
     ghost use Rattle.code_cfi.specs.FrameTables.{fdes_of, cies_of, bytes_of, table_of, IsRowAt, NoRowAt};
 
     /// Reads the entries of a section, whose first byte is at an address.
@@ -132,6 +133,7 @@ impl FrameTable {
     pub fn row(&self, alloc: Global, index: usize, address: u64) -> Result<RowAtAddress, CfiError>
         ensures found { IfOk result (λ found. IsRowAt self.now index address found) }
         ensures none { IfErr result (λ e. e ≢ errors.Memory → NoRowAt self.now index address) }
+        ensures memory { IfErr result (λ e. e ≡ errors.Memory → RemembersAt self.now index) }
     {
         match self.cached_row(index, address) {
             Some(row) => Ok(*row),

@@ -1,5 +1,6 @@
 //! Call frame instructions, as they are in the bytes of a program.
-ghost use Rattle.std.specs.Prelude.{◌≡◌, ◌≤◌, ◌<◌, length, true, false, IfOk, OnErr};
+ghost use Rattle.std.specs.Prelude.{◌≡◌, ◌≢◌, ◌≤◌, ◌<◌, length, true, false, IfErr, IfOk, OnErr};
+ghost use Rattle.code_cfi.specs.declared.error.CfiError.TheVariants as errors;
 ghost use Rattle.code_cfi.specs.Instructions.{PairAt, SignedPairAt, ExpressionAt, RegisterExpressionAt};
 ghost use Rattle.code_cfi.specs.Instructions.{OperandsAt, InstructionAt};
 ghost use Rattle.code_cfi.specs.steps.Instructions.{NoPair, NoSignedPair, NoExpression, NoRegisterExpression};
@@ -87,6 +88,7 @@ fn read_pair(bytes: &[u8]) -> Result<(u64, u64, &[u8]), CfiError>
     ensures found { IfOk result (λ x. PairAt bytes.now x.0 x.1 x.2.now) }
     ensures none { OnErr result (NoPair bytes.now) }
     ensures shorter { IfOk result (λ x. length x.2.now ≤ length bytes.now) }
+    ensures never { IfErr result (λ e. e ≢ errors.Memory) }
 {
     let (first, rest) = read_uleb128(bytes)?;
     let (second, rest) = read_uleb128(rest)?;
@@ -98,6 +100,7 @@ fn read_signed_pair(bytes: &[u8]) -> Result<(u64, i64, &[u8]), CfiError>
     ensures found { IfOk result (λ x. SignedPairAt bytes.now x.0 x.1 x.2.now) }
     ensures none { OnErr result (NoSignedPair bytes.now) }
     ensures shorter { IfOk result (λ x. length x.2.now ≤ length bytes.now) }
+    ensures never { IfErr result (λ e. e ≢ errors.Memory) }
 {
     let (first, rest) = read_uleb128(bytes)?;
     let (second, rest) = read_sleb128(rest)?;
@@ -110,6 +113,7 @@ fn read_expression(bytes: &[u8], end: usize) -> Result<(ByteRange, &[u8]), CfiEr
     ensures found { IfOk result (λ x. ExpressionAt end bytes.now x.0 x.1.now) }
     ensures none { OnErr result (NoExpression end bytes.now) }
     ensures shorter { IfOk result (λ x. length x.1.now ≤ length bytes.now) }
+    ensures never { IfErr result (λ e. e ≢ errors.Memory) }
 {
     let (block, rest) = read_block(bytes)?;
     let block_end = end - rest.len();
@@ -126,6 +130,7 @@ fn read_register_expression(bytes: &[u8], end: usize) -> Result<(u64, ByteRange,
     ensures found { IfOk result (λ x. RegisterExpressionAt end bytes.now x.0 x.1 x.2.now) }
     ensures none { OnErr result (NoRegisterExpression end bytes.now) }
     ensures shorter { IfOk result (λ x. length x.2.now ≤ length bytes.now) }
+    ensures never { IfErr result (λ e. e ≢ errors.Memory) }
 {
     let (register, rest) = read_uleb128(bytes)?;
     let (span, rest) = read_expression(rest, end)?;
@@ -142,6 +147,7 @@ fn read_location<'a>(
     ensures found { IfOk result (λ x. OperandsAt encoding.now opcode bytes.now x.0 x.1.now) }
     ensures none { OnErr result (is_location opcode ≡ true → NoOperands encoding.now opcode bytes.now) }
     ensures shorter { IfOk result (λ x. length x.1.now ≤ length bytes.now) }
+    ensures never { IfErr result (λ e. e ≢ errors.Memory) }
 {
     match opcode {
         0x01 => {
@@ -176,6 +182,7 @@ fn read_cfa<'a>(
     ensures found { IfOk result (λ x. OperandsAt encoding.now opcode bytes.now x.0 x.1.now) }
     ensures none { OnErr result (is_cfa opcode ≡ true → NoOperands encoding.now opcode bytes.now) }
     ensures shorter { IfOk result (λ x. length x.1.now ≤ length bytes.now) }
+    ensures never { IfErr result (λ e. e ≢ errors.Memory) }
 {
     match opcode {
         0x0c => {
@@ -216,6 +223,7 @@ fn read_rule<'a>(
     ensures found { IfOk result (λ x. OperandsAt encoding.now opcode bytes.now x.0 x.1.now) }
     ensures none { OnErr result (is_rule opcode ≡ true → NoOperands encoding.now opcode bytes.now) }
     ensures shorter { IfOk result (λ x. length x.1.now ≤ length bytes.now) }
+    ensures never { IfErr result (λ e. e ≢ errors.Memory) }
 {
     match opcode {
         0x05 => {
@@ -260,6 +268,7 @@ fn read_value_rule<'a>(
     ensures found { IfOk result (λ x. OperandsAt encoding.now opcode bytes.now x.0 x.1.now) }
     ensures none { OnErr result (is_value_rule opcode ≡ true → NoOperands encoding.now opcode bytes.now) }
     ensures shorter { IfOk result (λ x. length x.1.now ≤ length bytes.now) }
+    ensures never { IfErr result (λ e. e ≢ errors.Memory) }
 {
     match opcode {
         0x14 => {
@@ -288,6 +297,7 @@ fn read_other<'a>(
     ensures none { OnErr result (is_location opcode ≡ false → is_cfa opcode ≡ false → is_rule opcode ≡ false
         → is_value_rule opcode ≡ false → NoOperands encoding.now opcode bytes.now) }
     ensures shorter { IfOk result (λ x. length x.1.now ≤ length bytes.now) }
+    ensures never { IfErr result (λ e. e ≢ errors.Memory) }
 {
     match opcode {
         0x00 => Ok((Instruction::Nop, bytes)),
@@ -319,6 +329,7 @@ fn read_operands<'a>(
     ensures found { IfOk result (λ x. OperandsAt encoding.now opcode bytes.now x.0 x.1.now) }
     ensures none { OnErr result (NoOperands encoding.now opcode bytes.now) }
     ensures shorter { IfOk result (λ x. length x.1.now ≤ length bytes.now) }
+    ensures never { IfErr result (λ e. e ≢ errors.Memory) }
 {
     match opcode {
         0x01..=0x04 => read_location(opcode, bytes, encoding),
@@ -338,6 +349,7 @@ pub(crate) fn read_instruction<'a>(
     ensures found { IfOk result (λ x. InstructionAt encoding.now bytes.now x.0 x.1.now) }
     ensures none { OnErr result (NoInstruction encoding.now bytes.now) }
     ensures shorter { IfOk result (λ x. length x.1.now < length bytes.now) }
+    ensures never { IfErr result (λ e. e ≢ errors.Memory) }
 {
     let (opcode, rest) = read_byte(bytes)?;
     let operand = (opcode % 64) as u64;

@@ -1,7 +1,7 @@
 //! Numbers of fixed size and LEB128 numbers, at the start of some bytes.
 ghost use Rattle.std.specs.Prelude.{◌≡◌, ◌≤◌, ◌<◌, ◌+◌, ◌*◌, ◌%◌, ◌^◌, [], ◌∷◌, length, drop};
 ghost use Rattle.std.specs.Prelude.{pos, ◌+ℤ◌, ◌*ℤ◌, ◌⊎◌, IfOk, IfErr, IfSome, OnErr, IfNone, SomeIff};
-ghost use Rattle.std.specs.Prelude.{FitsSigned};
+ghost use Rattle.std.specs.Prelude.{FitsSigned, ◌≢◌};
 ghost use Rattle.std.specs.Int.{w64};
 ghost use Rattle.code_cfi.specs.Numbers.{fixed_value, FixedAt, IsLeb128, Uleb128At, Sleb128At, BlockAt};
 ghost use Rattle.code_cfi.specs.Numbers.{NoUleb128, NoSleb128, EndsInLeb128};
@@ -40,6 +40,7 @@ pub fn read_fixed(bytes: &[u8], size: usize) -> Result<(u64, &[u8]), CfiError>
     ensures none { OnErr result (length bytes.now < size) }
     ensures error { IfErr result (λ e. e ≡ errors.Truncated) }
     ensures shorter { IfOk result (λ x. length x.1.now ≤ length bytes.now) }
+    ensures never { IfErr result (λ e. e ≢ errors.Memory) }
 {
     if bytes.len() < size {
         return Err(CfiError::Truncated);
@@ -53,6 +54,7 @@ pub(crate) fn read_byte(bytes: &[u8]) -> Result<(u8, &[u8]), CfiError>
     ensures found { IfOk result (λ x. bytes.now ≡ x.0 ∷ x.1.now) }
     ensures none { OnErr result (bytes.now ≡ []) }
     ensures shorter { IfOk result (λ x. length x.1.now < length bytes.now) }
+    ensures never { IfErr result (λ e. e ≢ errors.Memory) }
 {
     match bytes {
         [] => Err(CfiError::Truncated),
@@ -65,6 +67,7 @@ pub(crate) fn skip(bytes: &[u8], size: usize) -> Result<&[u8], CfiError>
     ensures found { IfOk result (λ rest. (size ≤ length bytes.now) × (rest.now ≡ drop size bytes.now)) }
     ensures none { OnErr result (length bytes.now < size) }
     ensures shorter { IfOk result (λ rest. length rest.now ≤ length bytes.now) }
+    ensures never { IfErr result (λ e. e ≢ errors.Memory) }
 {
     if bytes.len() < size {
         return Err(CfiError::Truncated);
@@ -80,6 +83,7 @@ fn leb128_size(bytes: &[u8]) -> Result<usize, CfiError>
     ensures named { IfErr result (λ e. (e ≡ errors.Truncated) ⊎ (e ≡ errors.Leb128)) }
     ensures truncated { IfErr result (λ e. e ≡ errors.Truncated → EndsInLeb128 bytes.now) }
     ensures long { IfErr result (λ e. e ≡ errors.Leb128 → IsLongLeb128 bytes.now) }
+    ensures never { IfErr result (λ e. e ≢ errors.Memory) }
 {
     'bytes: for (index, byte) in bytes.iter().enumerate() {
         if index == MAX_LEB128_SIZE {
@@ -164,6 +168,7 @@ pub fn read_uleb128(bytes: &[u8]) -> Result<(u64, &[u8]), CfiError>
     ensures truncated { IfErr result (λ e. e ≡ errors.Truncated → EndsInLeb128 bytes.now) }
     ensures large { IfErr result (λ e. e ≡ errors.Leb128 → IsLargeUleb128 bytes.now) }
     ensures shorter { IfOk result (λ x. length x.1.now < length bytes.now) }
+    ensures never { IfErr result (λ e. e ≢ errors.Memory) }
 {
     let size = leb128_size(bytes)?;
     let (number, rest) = bytes.split_at(size);
@@ -184,6 +189,7 @@ pub fn read_sleb128(bytes: &[u8]) -> Result<(i64, &[u8]), CfiError>
     ensures truncated { IfErr result (λ e. e ≡ errors.Truncated → EndsInLeb128 bytes.now) }
     ensures large { IfErr result (λ e. e ≡ errors.Leb128 → IsLargeSleb128 bytes.now) }
     ensures shorter { IfOk result (λ x. length x.1.now < length bytes.now) }
+    ensures never { IfErr result (λ e. e ≢ errors.Memory) }
 {
     let size = leb128_size(bytes)?;
     let (number, rest) = bytes.split_at(size);
@@ -196,6 +202,7 @@ pub(crate) fn read_block(bytes: &[u8]) -> Result<(&[u8], &[u8]), CfiError>
     ensures found { IfOk result (λ x. BlockAt bytes.now x.0.now x.1.now) }
     ensures none { OnErr result (NoBlock bytes.now) }
     ensures shorter { IfOk result (λ x. length x.0.now + length x.1.now < length bytes.now) }
+    ensures never { IfErr result (λ e. e ≢ errors.Memory) }
 {
     let (size, rest) = read_uleb128(bytes)?;
     if size > rest.len() as u64 {

@@ -1,5 +1,7 @@
 //! Encoded pointers: their format is the low half of the encoding, what they are relative to the high half.
-ghost use Rattle.std.specs.Prelude.{◌≡◌, ◌≤◌, ◌<◌, ◌%◌, ◌^◌, length, IfOk, IfSome, IfNone, OnErr};
+ghost use Rattle.std.specs.Prelude.{◌≡◌, ◌≤◌, ◌<◌, ◌%◌, ◌^◌, length, IfErr, IfOk, IfSome, IfNone};
+ghost use Rattle.std.specs.Prelude.{OnErr, ◌≢◌};
+ghost use Rattle.code_cfi.specs.declared.error.CfiError.TheVariants as errors;
 ghost use Rattle.code_cfi.specs.Pointers.{format_code, sign_extended as extended, FormatAt, EncodedAt};
 ghost use Rattle.code_cfi.specs.Pointers.{PointerAt, SignedAt, Sleb128BitsAt};
 ghost use Rattle.code_cfi.specs.steps.Pointers.{NoFormat, NoEncoded, NoPointer};
@@ -70,6 +72,7 @@ fn read_signed(bytes: &[u8], size: usize, sign: u64) -> Result<(u64, &[u8]), Cfi
     ensures found { IfOk result (λ x. SignedAt size sign bytes.now x.0 x.1.now) }
     ensures none { OnErr result (length bytes.now < size) }
     ensures shorter { IfOk result (λ x. length x.1.now ≤ length bytes.now) }
+    ensures never { IfErr result (λ e. e ≢ errors.Memory) }
 {
     let (value, rest) = read_fixed(bytes, size)?;
     Ok((sign_extended(value, sign), rest))
@@ -80,6 +83,7 @@ fn read_sleb128_bits(bytes: &[u8]) -> Result<(u64, &[u8]), CfiError>
     ensures found { IfOk result (λ x. Sleb128BitsAt bytes.now x.0 x.1.now) }
     ensures none { OnErr result (NoSleb128 bytes.now) }
     ensures shorter { IfOk result (λ x. length x.1.now ≤ length bytes.now) }
+    ensures never { IfErr result (λ e. e ≢ errors.Memory) }
 {
     let (value, rest) = read_sleb128(bytes)?;
     Ok((value.cast_unsigned(), rest))
@@ -90,6 +94,7 @@ fn read_format(bytes: &[u8], format: Format) -> Result<(u64, &[u8]), CfiError>
     ensures found { IfOk result (λ x. FormatAt format bytes.now x.0 x.1.now) }
     ensures none { OnErr result (NoFormat format bytes.now) }
     ensures shorter { IfOk result (λ x. length x.1.now ≤ length bytes.now) }
+    ensures never { IfErr result (λ e. e ≢ errors.Memory) }
 {
     match format {
         Format::Absolute | Format::Unsigned8 | Format::Signed8 => read_fixed(bytes, 8),
@@ -107,6 +112,7 @@ pub(crate) fn read_encoded(bytes: &[u8], encoding: u8) -> Result<(u64, &[u8]), C
     ensures found { IfOk result (λ x. EncodedAt encoding bytes.now x.0 x.1.now) }
     ensures none { OnErr result (NoEncoded encoding bytes.now) }
     ensures shorter { IfOk result (λ x. length x.1.now ≤ length bytes.now) }
+    ensures never { IfErr result (λ e. e ≢ errors.Memory) }
 {
     let format = pointer_format(encoding).ok_or(CfiError::Encoding(encoding))?;
     read_format(bytes, format)
@@ -121,6 +127,7 @@ pub(crate) fn read_pointer(
     ensures found { IfOk result (λ x. PointerAt encoding address bytes.now x.0 x.1.now) }
     ensures none { OnErr result (NoPointer encoding address bytes.now) }
     ensures shorter { IfOk result (λ x. length x.1.now ≤ length bytes.now) }
+    ensures never { IfErr result (λ e. e ≢ errors.Memory) }
 {
     let (value, rest) = read_encoded(bytes, encoding)?;
     match encoding / 16 {

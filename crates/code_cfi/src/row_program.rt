@@ -7,7 +7,9 @@ ghost use Rattle.code_cfi.specs.Rows.{rule_of as rule_set, Rewrites, SetsRule, w
 ghost use Rattle.code_cfi.specs.Rows.{Moment, StepsInFde};
 ghost use Rattle.code_cfi.specs.steps.Rows.{NoStep, NoRun};
 ghost use Rattle.code_cfi.specs.declared.row.Cfa.{Cfa};
+ghost use Rattle.code_cfi.specs.Remembering.{RemembersAfter, RunRemembers};
 ghost use Rattle.code_cfi.specs.declared.error.CfiError.TheVariants as errors;
+ghost use Rattle.code_cfi.specs.declared.instruction.Instruction.TheVariants as instructions;
 
 use crate::cie::Cie;
 use crate::error::CfiError;
@@ -81,6 +83,7 @@ fn rule(cie: &Cie, instruction: &Instruction) -> Option<(u64, Rule)>
 fn cfa(cie: &Cie, instruction: &Instruction, cfa: Cfa) -> Result<Cfa, CfiError>
     ensures found { IfOk result (λ new. DefinesCfa cie.now instruction.now cfa new) }
     ensures none { OnErr result ((new : Cfa) → DefinesCfa cie.now instruction.now cfa new → ⊥) }
+    ensures never { IfErr result (λ e. e ≢ errors.Memory) }
 {
     match *instruction {
         Instruction::DefineCfa(register, offset) => Ok(Cfa::Register(register, offset)),
@@ -112,6 +115,7 @@ fn restore_row(state: &mut RowState) -> Result<(), CfiError>
     ensures remembered { OnOk result (state.old.remembered.items
         ≡ state.new.remembered.items ++ state.new.row ∷ []) }
     ensures none { OnErr result (state.old.remembered.items ≡ []) }
+    ensures never { IfErr result (λ e. e ≢ errors.Memory) }
 {
     match state.remembered.pop() {
         Some(row) => {
@@ -151,6 +155,7 @@ fn step_in_fde(
         (moment_of state.new)) }
     ensures none { IfErr result (λ e. e ≢ errors.Memory
         → (n : Moment) → StepsInFde initial.now instruction.now (moment_of state.old) n → ⊥) }
+    ensures memory { IfErr result (λ e. e ≡ errors.Memory → instruction.now ≡ instructions.RememberState) }
 {
     match *instruction {
         Instruction::SetLocation(location) => {
@@ -173,6 +178,7 @@ fn step_of_cfa(cie: &Cie, instruction: &Instruction, state: &mut RowState) -> Re
     ensures done { OnOk result ((cfa : Cfa) × DefinesCfa cie.now instruction.now state.old.row.cfa cfa
         × Rewrites (moment_of state.old) (with_cfa state.old.row cfa) (moment_of state.new)) }
     ensures none { OnErr result ((cfa : Cfa) → DefinesCfa cie.now instruction.now state.old.row.cfa cfa → ⊥) }
+    ensures never { IfErr result (λ e. e ≢ errors.Memory) }
 {
     let cfa = cfa(cie, instruction, state.row.cfa)?;
     state.row.cfa = cfa;
@@ -184,6 +190,7 @@ fn step_of_rule(cie: &Cie, instruction: &Instruction, state: &mut RowState) -> R
     ensures done { OnOk result (SetsRule (rule_set cie.now instruction.now) (moment_of state.old)
         (moment_of state.new)) }
     ensures none { OnErr result (rule_set cie.now instruction.now ≡ None) }
+    ensures never { IfErr result (λ e. e ≢ errors.Memory) }
 {
     match rule(cie, instruction) {
         Some((register, rule)) => {
@@ -205,6 +212,7 @@ fn step(
         (moment_of state.new)) }
     ensures none { IfErr result (λ e. e ≢ errors.Memory
         → NoStep cie.now initial.now instruction.now (moment_of state.old)) }
+    ensures memory { IfErr result (λ e. e ≡ errors.Memory → RemembersAfter initial.now instruction.now) }
 {
     match *instruction {
         Instruction::Nop => Ok(()),
@@ -254,6 +262,8 @@ pub(crate) fn run(
     ensures small { OnOk result (length program.now ≤ 65536) }
     ensures none { IfErr result (λ e. e ≢ errors.Memory → length program.now ≤ 65536
         → NoRun encoding.now cie.now initial.now address program.now (moment_of state.old)) }
+    ensures memory { IfErr result (λ e. e ≡ errors.Memory →
+        RunRemembers initial.now encoding.now program.now) }
 {
     if program.len() > MAX_PROGRAM_SIZE {
         return Err(CfiError::ProgramSize);

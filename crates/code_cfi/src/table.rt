@@ -45,6 +45,7 @@ impl EntryTable {
     ghost use Rattle.code_cfi.specs.TableRows.{IsRowIn, NoRowIn, IsWithin, IsProgram};
     ghost use Rattle.code_cfi.specs.TableRows.{encoding_in, program_in};
     ghost use Rattle.code_cfi.specs.Rows.{Runs};
+    ghost use Rattle.code_cfi.specs.Remembering.{RemembersIn, RunRemembers};
     ghost use Rattle.code_cfi.specs.steps.Rows.{NoRun, moment_of};
     ghost use Rattle.code_cfi.specs.declared.error.CfiError.TheVariants as errors;
 
@@ -134,6 +135,7 @@ impl EntryTable {
     ) -> Result<RowAtAddress, CfiError>
         ensures found { IfOk result (λ found. IsRowIn self.now index address found) }
         ensures none { IfErr result (λ e. e ≢ errors.Memory → NoRowIn self.now index address) }
+        ensures memory { IfErr result (λ e. e ≡ errors.Memory → RemembersIn self.now index) }
     {
         if index >= self.fdes.len() {
             return Err(CfiError::NoCie);
@@ -174,6 +176,8 @@ impl EntryTable {
         ensures none { IfErr result (λ e. e ≢ errors.Memory → IsProgram self.now span
             → NoRun (encoding_in self.now cie.now span) cie.now initial.now address
             (program_in self.now span) (moment_of state.old)) }
+        ensures memory { IfErr result (λ e. e ≡ errors.Memory →
+            RunRemembers initial.now (encoding_in self.now cie.now span) (program_in self.now span)) }
     {
         let program = self.byte_slice(span).ok_or(CfiError::Truncated)?;
         let encoding = Encoding {

@@ -41,6 +41,17 @@ pub data NameEffect : Type 0 where
   -- Nothing changes.
   KeepsAll : NameEffect
 
+-- An effect needs memory: it doesn't only remove all mappings of a process.
+abbrev pub NeedsMemory : SpaceEffect → Type 0
+NeedsMemory (Clears pid) = ⊥
+NeedsMemory Leaves = ⊥
+NeedsMemory _ = Unit {0}
+
+-- A thread gets a name.
+abbrev pub NamesThread : NameEffect → Type 0
+NamesThread KeepsAll = ⊥
+NamesThread _ = Unit {0}
+
 -- The mapping that an effect adds.
 abbrev pub added : SpaceEffect → List MappingValue
 added (Maps pid mapping) = mapping ∷ []

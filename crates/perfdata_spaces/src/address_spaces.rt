@@ -1,9 +1,10 @@
 //! The address spaces of processes and of the kernel, and the names of threads.
 
-ghost use Rattle.std.specs.Prelude.{◌≡◌, ◌%◌, [], List, slice_get, IfOk, OnOk, OnErr};
+ghost use Rattle.std.specs.Prelude.{◌≡◌, ◌⊎◌, ◌%◌, [], List, slice_get, IfOk, OnOk, OnErr};
 ghost use Rattle.std.specs.Option.{option_map};
 ghost use Rattle.perfdata_sources.specs.CpuMode.{cpu_mode_of};
-ghost use Rattle.perfdata_spaces.specs.Effects.{Applied, added, effect_of};
+ghost use Rattle.perfdata_spaces.specs.Effects.{Applied, added, effect_of, naming_of};
+ghost use Rattle.perfdata_spaces.specs.Effects.{NamesThread, NeedsMemory};
 ghost use Rattle.perfdata_spaces.specs.Histories.{context_in, IsFoundMapping};
 ghost use Rattle.perfdata_spaces.specs.Mappings.{mapping_value};
 ghost use Rattle.perfdata_spaces.specs.NameHistories.{IsName};
@@ -77,8 +78,8 @@ impl AddressSpaces {
     /// Applies a record, and returns the index of the mapping that it adds, if it adds one. `misc` is that of
     /// its header. The records of a recording are applied in order of time.
     ///
-    /// Fails if memory runs out. Then nothing is mapped elsewhere than before, the thread may already have
-    /// the new name, and the call can be repeated.
+    /// Fails if memory runs out, which only records that map or name something need. Then nothing is mapped
+    /// elsewhere than before, the thread may already have the new name, and the call can be repeated.
     pub fn apply(
         &mut self,
         misc: u16,
@@ -88,6 +89,8 @@ impl AddressSpaces {
             Follows (then_applied records misc «record».now) self.new) }
         ensures added { IfOk result (λ index.
             AddsMappings (added (effect_of misc «record».now)) self.old index self.new) }
+        ensures memory { OnErr result (NeedsMemory (effect_of misc «record».now)
+            ⊎ NamesThread (naming_of «record».now)) }
         ensures indices { KeepsIndices self.old self.new }
         ensures unchanged { OnErr result (mapping_values self.new ≡ mapping_values self.old) }
         ensures err { OnErr result ((records : List Applied) → Follows records self.old →

@@ -1,10 +1,11 @@
 //! What is mapped in processes and in the kernel.
 
-ghost use Rattle.std.specs.Prelude.{◌≡◌, [], List, slice_get};
+ghost use Rattle.std.specs.Prelude.{◌≡◌, ◌%◌, [], List, slice_get, IsOk, OnErr};
 ghost use Rattle.std.specs.Option.{option_copied};
-ghost use Rattle.perfdata_spaces.specs.Mappings.{mapping_value};
+ghost use Rattle.perfdata_sources.specs.CpuMode.{cpu_mode_of};
+ghost use Rattle.perfdata_spaces.specs.Mappings.{mapping_value, mapping_of_mmap, mapping_of_mmap2};
 ghost use Rattle.perfdata_spaces.specs.Effects.{Maps, MapsKernel, Registers, Removes, Copies, Clears};
-ghost use Rattle.perfdata_spaces.specs.Effects.{mapped_in, symbol_effect, forked, effect_of};
+ghost use Rattle.perfdata_spaces.specs.Effects.{mapped_in, symbol_effect, forked, effect_of, NeedsMemory};
 
 use crate::mapping::Mapping;
 use crate::processes::Processes;
@@ -14,6 +15,8 @@ use perfdata_base::event::CpuMode;
 use perfdata_events::call_chain::CallContext;
 use perfdata_events::event::EventRecord;
 use perfdata_events::kernel::KsymbolRecord;
+use perfdata_events::mmap::MmapRecord;
+use perfdata_events::mmap2::Mmap2Record;
 use perfdata_events::sample_bits::MiscFlags;
 use perfdata_events::task::ForkOrExitRecord;
 use std::alloc::{AllocError, Global};
@@ -94,18 +97,48 @@ impl Spaces {
         Ok(Some(index))
     }
 
-    // Adds a mapping to the space of a process or of the kernel. Returns its index if it is added.
-    fn map(
-        &mut self,
-        mode: CpuMode,
-        pid: i32,
-        mapping: Mapping,
-    ) -> Result<Option<usize>, AllocError>
-        ensures { Changes (mapped_in mode pid (mapping_value mapping)) self.old result self.new }
+    // Adds the mapping of a record to the space of a process or of the kernel. Returns its index if it is
+    // added: those of guests aren't.
+    fn map_mmap(&mut self, misc: u16, record: &MmapRecord<'_>) -> Result<Option<usize>, AllocError>
+        ensures change { Changes (mapped_in (cpu_mode_of (misc % 8)) «record».now.pid
+            (mapping_of_mmap «record».now)) self.old result self.new }
+        ensures memory { OnErr result (NeedsMemory (mapped_in (cpu_mode_of (misc % 8)) «record».now.pid
+            (mapping_of_mmap «record».now))) }
     {
-        match mode {
-            CpuMode::User | CpuMode::Unknown => self.map_process(pid, mapping),
-            CpuMode::Kernel => self.map_kernel(mapping),
+        match CpuMode::from_misc(misc) {
+            CpuMode::User | CpuMode::Unknown => {
+                let mapping = Mapping::of_mmap(self.alloc, record)?;
+                self.map_process(record.pid, mapping)
+            }
+            CpuMode::Kernel => {
+                let mapping = Mapping::of_mmap(self.alloc, record)?;
+                self.map_kernel(mapping)
+            }
+            _ => Ok(None),
+        }
+    }
+
+    // Adds the mapping of a record to the space of a process or of the kernel. Returns its index if it is
+    // added: those of guests aren't.
+    fn map_mmap2(
+        &mut self,
+        misc: u16,
+        record: &Mmap2Record<'_>,
+    ) -> Result<Option<usize>, AllocError>
+        ensures change { Changes (mapped_in (cpu_mode_of (misc % 8)) «record».now.pid
+            (mapping_of_mmap2 «record».now)) self.old result self.new }
+        ensures memory { OnErr result (NeedsMemory (mapped_in (cpu_mode_of (misc % 8)) «record».now.pid
+            (mapping_of_mmap2 «record».now))) }
+    {
+        match CpuMode::from_misc(misc) {
+            CpuMode::User | CpuMode::Unknown => {
+                let mapping = Mapping::of_mmap2(self.alloc, record)?;
+                self.map_process(record.pid, mapping)
+            }
+            CpuMode::Kernel => {
+                let mapping = Mapping::of_mmap2(self.alloc, record)?;
+                self.map_kernel(mapping)
+            }
             _ => Ok(None),
         }
     }
@@ -135,7 +168,8 @@ impl Spaces {
 
     // Registers or removes a symbol of the kernel. Returns its index if it is registered.
     fn change_symbol(&mut self, symbol: &KsymbolRecord<'_>) -> Result<Option<usize>, AllocError>
-        ensures { Changes (symbol_effect symbol.now) self.old result self.new }
+        ensures change { Changes (symbol_effect symbol.now) self.old result self.new }
+        ensures memory { OnErr result (NeedsMemory (symbol_effect symbol.now)) }
     {
         if symbol.flags & KSYMBOL_UNREGISTER != 0 {
             self.remove(symbol.address, u64::from(symbol.length))
@@ -147,7 +181,8 @@ impl Spaces {
 
     // Removes the mappings of a process.
     fn clear(&mut self, pid: i32) -> Result<Option<usize>, AllocError>
-        ensures { Changes (Clears pid) self.old result self.new }
+        ensures ok { IsOk result }
+        ensures change { Changes (Clears pid) self.old result self.new }
     {
         self.processes.clear(pid);
         Ok(None)
@@ -163,7 +198,8 @@ impl Spaces {
 
     // Gives a new process the mappings of the process that forked it.
     fn fork(&mut self, misc: u16, fork: &ForkOrExitRecord) -> Result<Option<usize>, AllocError>
-        ensures { Changes (forked misc fork.now) self.old result self.new }
+        ensures change { Changes (forked misc fork.now) self.old result self.new }
+        ensures memory { OnErr result (NeedsMemory (forked misc fork.now)) }
     {
         if fork.pid == fork.ppid {
             Ok(None)
@@ -180,17 +216,12 @@ impl Spaces {
         misc: u16,
         record: &EventRecord<'_>,
     ) -> Result<Option<usize>, AllocError>
-        ensures { Changes (effect_of misc «record».now) self.old result self.new }
+        ensures change { Changes (effect_of misc «record».now) self.old result self.new }
+        ensures memory { OnErr result (NeedsMemory (effect_of misc «record».now)) }
     {
         match record {
-            EventRecord::Mmap(mmap) => {
-                let mapping = Mapping::of_mmap(self.alloc, mmap)?;
-                self.map(CpuMode::from_misc(misc), mmap.pid, mapping)
-            }
-            EventRecord::Mmap2(mmap) => {
-                let mapping = Mapping::of_mmap2(self.alloc, mmap)?;
-                self.map(CpuMode::from_misc(misc), mmap.pid, mapping)
-            }
+            EventRecord::Mmap(mmap) => self.map_mmap(misc, mmap),
+            EventRecord::Mmap2(mmap) => self.map_mmap2(misc, mmap),
             EventRecord::Ksymbol(symbol) => self.change_symbol(symbol),
             EventRecord::Comm(comm) if comm.is_execve => self.clear(comm.pid),
             EventRecord::Fork(fork) => self.fork(misc, fork),

@@ -3,7 +3,7 @@
 ghost use Rattle.std.specs.Prelude.{◌≡◌, ℤ, [], if◌then◌else◌, Some, OnOk, OnErr};
 ghost use Rattle.std.specs.Option.{option_map};
 ghost use Rattle.perfdata_sources.specs.Raw.{bytes_of};
-ghost use Rattle.perfdata_spaces.specs.Effects.{naming_of};
+ghost use Rattle.perfdata_spaces.specs.Effects.{naming_of, NamesThread};
 ghost use Rattle.perfdata_spaces.specs.Processes.{is_same};
 
 use crate::mapping::to_vec;
@@ -77,7 +77,8 @@ impl ThreadNames {
 
     // Applies a record.
     pub(crate) fn apply(&mut self, record: &EventRecord<'_>) -> Result<(), AllocError>
-        ensures { ChangesNames (naming_of «record».now) self.old result self.new }
+        ensures change { ChangesNames (naming_of «record».now) self.old result self.new }
+        ensures memory { OnErr result (NamesThread (naming_of «record».now)) }
     {
         match record {
             EventRecord::Comm(comm) => self.set(comm.tid, comm.name),

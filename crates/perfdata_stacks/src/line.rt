@@ -1,6 +1,6 @@
 //! The text of a line: the name of the thread, then the names of the frames, root first, with semicolons
 //! between them.
-ghost use Rattle.std.specs.Prelude.{◌≡◌, ◌++◌, map, OnErr, OnOk};
+ghost use Rattle.std.specs.Prelude.{◌≡◌, ◌<◌, ◌+◌, ◌++◌, length, map, vec_capacity, vec_len, OnErr, OnOk};
 ghost use Rattle.perfdata_stacks.specs.Line.{name_byte, comm_byte, AppendsPart};
 
 use std::alloc::AllocError;
@@ -32,6 +32,7 @@ fn comm_byte(byte: u8) -> u8
 pub fn push_name(line: &mut Vec<u8>, name: &[u8]) -> Result<(), AllocError>
     ensures ok { OnOk result (line.new.items ≡ line.old.items ++ map name_byte name.now) }
     ensures err { OnErr result (AppendsPart line.old.items (map name_byte name.now) line.new.items) }
+    ensures full { OnErr result (vec_capacity line.old < vec_len line.old + length name.now) }
 {
     'bytes: for byte in name {
         line.push(name_byte(*byte))?;
@@ -45,6 +46,7 @@ pub fn push_name(line: &mut Vec<u8>, name: &[u8]) -> Result<(), AllocError>
 pub fn push_comm(line: &mut Vec<u8>, comm: &[u8]) -> Result<(), AllocError>
     ensures ok { OnOk result (line.new.items ≡ line.old.items ++ map comm_byte comm.now) }
     ensures err { OnErr result (AppendsPart line.old.items (map comm_byte comm.now) line.new.items) }
+    ensures full { OnErr result (vec_capacity line.old < vec_len line.old + length comm.now) }
 {
     'bytes: for byte in comm {
         line.push(comm_byte(*byte))?;

@@ -9,7 +9,7 @@ use Rattle.indexmap.specs.IndexSet.{insert_key}
 use Rattle.std.proofs.lemmas.Map.Keys.{IsDistinct-head, IsDistinct-tail}
 use Rattle.std.specs.List.{AllByRecursion, IsDistinct, list_any}
 use Rattle.pprof.specs.Builders.{place_of}
-use Rattle.pprof.specs.Rows.{AreDistinct, Identifies, IsId}
+use Rattle.pprof.specs.Rows.{AreDistinct, Identifies, IsAbsent, IsId}
 use Rattle.pprof.specs.Tables.{Place}
 use Rattle.pprof.specs.steps.Rows.{IdentifiesBy}
 use Rattle.pprof.specs.declared.builder.FunctionNames.{FunctionNames}
@@ -17,7 +17,7 @@ use Rattle.pprof.specs.declared.builder.MappedFile.{MappedFile}
 use Rattle.pprof.specs.declared.builder.LocationRow.{LocationRow}
 use Rattle.pprof.specs.declared.profile.Line.{Line}
 use Rattle.pprof.specs.declared.profile.ValueType.{ValueType}
-use Rattle.pprof.proofs.Interning.{at_map, some_same}
+use Rattle.pprof.proofs.Interning.{at_map, or_none, some_same}
 
 holds_at : {A : Type 0} → (P : A → Type 0) (xs : List A) (index : ℕ) (x : A) → AllByRecursion P xs → slice_get xs index ≡ Some x → P x
 holds_at P [] index x all at = cc
@@ -36,6 +36,14 @@ distinct_rows {A} eq reflexive (x ∷ xs) apart (suc first) zero row at also =
     absurd (true≢false (sym (reflexive x) ∙ ap (eq x) (some_same x row also) ∙ other))
 distinct_rows eq reflexive (x ∷ xs) apart (suc first) (suc second) row at also =
     ap suc (distinct_rows eq reflexive xs (IsDistinct-tail eq x xs apart) first second row at also)
+
+-- A row that no row equals is absent.
+pub absent_row : {A : Type 0} → (eq : A → A → Bool) (reflexive : (x : A) → eq x x ≡ true) (row : A) (xs : List A) → list_any (eq row) xs ≡ false → IsAbsent xs row
+absent_row eq reflexive row [] none index is = cc
+absent_row eq reflexive row (x ∷ xs) none zero is =
+    true≢false (sym (reflexive row) ∙ ap (eq row) (sym (some_same x row is)) ∙ (or_none (eq row x) (list_any (eq row) xs) none).0)
+absent_row eq reflexive row (x ∷ xs) none (suc index) is =
+    absent_row eq reflexive row xs (or_none (eq row x) (list_any (eq row) xs) none).1 index is
 
 same_number : (n : ℕ) → (n == n) ≡ true
 same_number n = (Decides-eqb n n).1 refl
@@ -100,6 +108,14 @@ module _ {A B : Type 0} (eq : A → A → Bool) (f : A → B) (same : (x y : A) 
       absurd (true≢false (sym ((same x y.0).1 (some_same (f x) row also ∙ sym y.2)) ∙ other))
   distinct_values (x ∷ xs) apart (suc first) (suc second) row at also =
       ap suc (distinct_values xs (IsDistinct-tail eq x xs apart) first second row at also)
+
+  -- The value of a row that no row equals is absent.
+  pub absent_value : (row : A) (xs : List A) → list_any (eq row) xs ≡ false → IsAbsent (map f xs) (f row)
+  absent_value row [] none index is = cc
+  absent_value row (x ∷ xs) none zero is =
+      true≢false (sym ((same row x).1 (sym (some_same (f x) (f row) is))) ∙ (or_none (eq row x) (list_any (eq row) xs) none).0)
+  absent_value row (x ∷ xs) none (suc index) is =
+      absent_value row xs (or_none (eq row x) (list_any (eq row) xs) none).1 index is
 
   added : (old new : List A) (row : A) → new ≡ insert_key eq old row → (map f new ≡ map f old) ⊎ (map f new ≡ map f old ++ f row ∷ [])
   added old new row is = by (list_any (eq row) old) is

@@ -1,5 +1,5 @@
 -- Tables to which rows are appended.
-use Rattle.std.proofs.Common.{◌≡◌, ◌∙◌, inl, inr, ap, sym, ℕ, List, [], ◌∷◌, ◌++◌, append_assoc, slice_get, Option, None, Some, ℤ, Result, Ok, Err, IfOk}
+use Rattle.std.proofs.Common.{◌≡◌, ◌∙◌, inl, inr, ap, sym, ℕ, List, [], ◌∷◌, ◌++◌, append_assoc, slice_get, Option, None, Some, ℤ, Result, Ok, Err, IfOk, OnErr}
 use Rattle.std.proofs.lemmas.List.{append-nil}
 use Rattle.pprof.specs.Labels.{IsKeyOf}
 use Rattle.pprof.specs.Rows.{Grows, Interns}
@@ -8,7 +8,7 @@ use Rattle.pprof.proofs.Interning.{at_more}
 pub grows_trans : {A : Type 0} → (first second third : List A) → Grows first second → Grows second third → Grows first third
 grows_trans first second third grows more = (grows.0 ++ more.0, more.1 ∙ ap (λ l. l ++ more.0) grows.1 ∙ append_assoc first grows.0 more.0)
 
-grows_equal : {A : Type 0} → (old new : List A) → new ≡ old → Grows old new
+pub grows_equal : {A : Type 0} → (old new : List A) → new ≡ old → Grows old new
 grows_equal old new is = ([], is ∙ sym (append-nil old))
 
 pub interns_grows : {A : Type 0} → (old new : List A) (row : A) (index : ℕ) → Interns old row index new → Grows old new
@@ -16,6 +16,10 @@ interns_grows old new row index interns = elim interns.adds [
   | inl same ↦ grows_equal old new same
   | inr more ↦ (row ∷ [], more)
 ]
+
+pub grows_interned : {A E : Type 0} → (result : Result ℕ E) (old new : List A) (row : A) → IfOk result (λ index. Interns old row index new) → OnErr result (new ≡ old) → Grows old new
+grows_interned (Ok index) old new row interns same = interns_grows old new row index interns
+grows_interned (Err error) old new row interns same = grows_equal old new same
 
 pub at_kept : {A : Type 0} → (old new : List A) → Grows old new → (index : ℕ) (x : A) → slice_get old index ≡ Some x → slice_get new index ≡ Some x
 at_kept old new grows index x at = ap (λ l. slice_get l index) grows.1 ∙ at_more old grows.0 index x at

@@ -1,12 +1,15 @@
 -- Interning of texts.
-use Rattle.std.proofs.Common.{◌≡◌, ◌∙◌, ◌||◌, inl, inr, ap, refl, sym, subst, arith, cond, true≢false, ℕ, zero, suc, Bool, true, false, List, [], ◌∷◌, ◌++◌, ◌⊎◌, length, map, slice_get, Some, Option, Result, Ok, Err, IfOk, OnErr, String, Global}
+use Rattle.std.proofs.Common.{◌≡◌, ◌∙◌, ◌||◌, inl, inr, ap, refl, sym, subst, arith, cond, true≢false, ◌≤◌, ℕ, zero, suc, Bool, true, false, List, [], ◌∷◌, ◌++◌, ◌⊎◌, length, map, position, slice_get, Some, Option, Result, Ok, Err, IfOk, OnErr, String, Global}
 use Rattle.std.proofs.lemmas.List.{map-append}
+use Rattle.std.proofs.lemmas.List.Quantifiers.{position-Some}
+use Rattle.std.proofs.lemmas.Option.{slice_get_cases}
 use Rattle.std.proofs.lemmas.Slice.Eq.{bytes_eq-Decides}
 use Rattle.std.specs.List.{list_any}
 use Rattle.std.specs.Option.{unwrap_or}
+use Rattle.std.specs.Str.{bytes_eq}
 use Rattle.std.specs.String.{string_bytes, string_eq}
 use Rattle.indexmap.specs.IndexSet.{insert_key}
-use Rattle.pprof.specs.Rows.{Interns}
+use Rattle.pprof.specs.Rows.{Interns, IsAbsent}
 use Rattle.pprof.specs.Texts.{AreStrings}
 
 pub some_same : {A : Type 0} (x y : A) → Some x ≡ Some y → x ≡ y
@@ -32,7 +35,7 @@ old_or_last (z ∷ xs) y (suc index) x is = elim (old_or_last xs y index x is) [
   | inr last ↦ inr (omega (arith, last.0), last.1)
 ]
 
-or_none : (a b : Bool) → (a || b) ≡ false → (a ≡ false) × (b ≡ false)
+pub or_none : (a b : Bool) → (a || b) ≡ false → (a ≡ false) × (b ≡ false)
 or_none true b is = absurd (true≢false is)
 or_none false b is = (refl, is)
 
@@ -43,6 +46,14 @@ none_there key (k ∷ keys) zero none is =
     let same = (bytes_eq-Decides (string_bytes key) (string_bytes k)).1 (sym (some_same (string_bytes k) (string_bytes key) is)) in
     true≢false (sym same ∙ (or_none (string_eq key k) (list_any (string_eq key) keys) none).0)
 none_there key (k ∷ keys) (suc index) none is = none_there key keys index (or_none (string_eq key k) (list_any (string_eq key) keys) none).1 is
+
+-- A text that no key has isn't among the texts.
+pub absent_text : (text : List ℕ) (keys : List (String Global)) → list_any (λ (k : String Global). bytes_eq text (string_bytes k)) keys ≡ false → IsAbsent (map string_bytes keys) text
+absent_text text [] none index is = cc
+absent_text text (k ∷ keys) none zero is =
+    let same = (bytes_eq-Decides text (string_bytes k)).1 (sym (some_same (string_bytes k) text is)) in
+    true≢false (sym same ∙ (or_none (bytes_eq text (string_bytes k)) (list_any (λ (k : String Global). bytes_eq text (string_bytes k)) keys) none).0)
+absent_text text (k ∷ keys) none (suc index) is = absent_text text keys (or_none (bytes_eq text (string_bytes k)) (list_any (λ (k : String Global). bytes_eq text (string_bytes k)) keys) none).1 index is
 
 one_more : (texts : List (List ℕ)) (text : List ℕ) → AreStrings texts → ((index : ℕ) → slice_get texts index ≡ Some text → ⊥) → AreStrings (texts ++ text ∷ [])
 one_more texts text are new = record {
@@ -89,4 +100,24 @@ interned old new key k index text is at same adds =
     subst P is record {
       is_at = at_map string_bytes new index k at ∙ ap (λ (t : List ℕ). Some t) bytes;
       adds = adds_text old new key adds;
+    }
+
+pub found_past : {K : Type 0} → (test : K → Bool) (ks : List K) (index : ℕ) → position test ks ≡ Some index → length ks ≤ index → ⊥
+found_past test [] index is past = cc
+found_past test (k ∷ ks) index is past = omega (arith, (position-Some test (k ∷ ks) index k is).0, past)
+
+pub found_at : {K : Type 0} → (test : K → Bool) (ks : List K) (index : ℕ) → position test ks ≡ Some index → ((k : K) × (slice_get ks index ≡ Some k) × (test k ≡ true))
+found_at test ks index is = elim (slice_get_cases ks index).1 [
+  | inl there ↦ (there.0, there.2, ap test (sym there.3) ∙ (position-Some test ks index there.0 is).1)
+  | inr past ↦ absurd (found_past test ks index is past.0)
+]
+
+-- The index of a key with a text is that of the text.
+pub found_text : (keys : List (String Global)) (index : ℕ) (text : List ℕ) → position (λ (k : String Global). bytes_eq text (string_bytes k)) keys ≡ Some index
+    → Interns (map string_bytes keys) text index (map string_bytes keys)
+found_text keys index text is =
+    let k = found_at (λ (k : String Global). bytes_eq text (string_bytes k)) keys index is in
+    record {
+      is_at = at_map string_bytes keys index k.0 k.1 ∙ ap (λ (t : List ℕ). Some t) (sym ((bytes_eq-Decides text (string_bytes k.0)).0 k.2));
+      adds = inl refl;
     }

@@ -108,3 +108,7 @@ locations_of k locations = sym (flat_map-map (λ (location : LocationValue). mes
 -- What is appended to no bytes is all there is.
 pub started : {old new : List ℕ} {fields : List Field} → old ≡ [] → Appends old fields new → new ≡ message_bytes fields
 started {old} {new} {fields} empty written = written.is ∙ ap (λ (bs : List ℕ). bs ++ message_bytes fields) empty
+
+pub nothing_mapped : {A B : Type 0} → (f : A → B) (xs : List A) → map f xs ≡ [] → xs ≡ []
+nothing_mapped f [] is = refl
+nothing_mapped f (x ∷ xs) is = cc

@@ -1,6 +1,7 @@
 -- The rows of a builder.
 use Rattle.std.specs.Prelude.{ℕ, List, Vec, map}
 use Rattle.std.specs.declared.alloc.Global.{Global}
+use Rattle.indexmap.specs.IndexSet.{spare}
 use Rattle.pprof.specs.Samples.{Row}
 use Rattle.pprof.specs.Strings.{texts_of}
 use Rattle.pprof.specs.Tables.{Place, Tables}
@@ -26,4 +27,19 @@ tables_of builder = record {
   functions = builder.functions.keys;
   locations = map place_of builder.places.keys;
   samples = rows_of builder.rows.entries;
+}
+
+-- How many rows fit into the memory that tables have.
+pub record Room : Type 0 where
+  pub types : ℕ
+  pub mappings : ℕ
+  pub functions : ℕ
+  pub locations : ℕ
+
+abbrev pub room_of : Builder → Room
+room_of builder = record {
+  types = spare builder.sample_types;
+  mappings = spare builder.mappings;
+  functions = spare builder.functions;
+  locations = spare builder.places;
 }

@@ -1,5 +1,5 @@
 -- The messages of profile.proto: the fields of each, ascending by number.
-use Rattle.std.specs.Prelude.{ℕ, List, [], ◌++◌, map, Option, None, Some}
+use Rattle.std.specs.Prelude.{◌≡◌, ℕ, List, [], ◌++◌, map, Option, None, Some}
 use Rattle.std.specs.Int.{from_bool}
 use Rattle.std.specs.List.{flat_map}
 use Rattle.std.specs.String.{string_bytes}
@@ -97,6 +97,20 @@ profile_fields p = message_fields 1 value_type_fields p.sample_types ++ message_
     ++ message_fields 3 mapping_fields p.mappings ++ message_fields 4 location_fields p.locations
     ++ message_fields 5 function_fields p.functions ++ text_fields 6 p.strings ++ number_field 10 p.duration
     ++ period_type_fields p.period_type ++ number_field 12 p.period ++ number_field 13 p.comment ++ number_field 14 p.default_sample_type
+
+-- A profile that has no bytes: no rows and no texts, and all numbers are 0.
+pub record IsEmpty (p : ProfileValue) : Type 0 where
+  pub sample_types : p.sample_types ≡ []
+  pub samples : p.samples ≡ []
+  pub mappings : p.mappings ≡ []
+  pub locations : p.locations ≡ []
+  pub functions : p.functions ≡ []
+  pub strings : p.strings ≡ []
+  pub duration : p.duration ≡ 0
+  pub period_type : p.period_type ≡ None
+  pub period : p.period ≡ 0
+  pub comment : p.comment ≡ 0
+  pub default_sample_type : p.default_sample_type ≡ 0
 
 -- The bytes of a profile.
 abbrev pub encode : ProfileValue → List ℕ

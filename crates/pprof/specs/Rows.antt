@@ -5,6 +5,10 @@ use Rattle.std.specs.Prelude.{◌≡◌, ℕ, ◌+◌, ◌-◌, ◌<◌, ◌≤�
 abbrev pub AreDistinct : {A : Type 0} → List A → Type 0
 AreDistinct {A} rows = (first second : ℕ) (row : A) → slice_get rows first ≡ Some row → slice_get rows second ≡ Some row → first ≡ second
 
+-- No row is this one.
+abbrev pub IsAbsent : {A : Type 0} → List A → A → Type 0
+IsAbsent rows row = (index : ℕ) → slice_get rows index ≡ Some row → ⊥
+
 -- A row has an index. It alone may be appended, so other rows keep theirs.
 pub record Interns {A : Type 0} (old : List A) (row : A) (index : ℕ) (new : List A) : Type 0 where
   pub is_at : slice_get new index ≡ Some row

@@ -1,5 +1,5 @@
 -- The samples of a builder, and how more are added.
-use Rattle.std.specs.Prelude.{◌≡◌, ℕ, zero, suc, ◌+◌, ◌-◌, ◌^◌, min, List, [], ◌∷◌, ◌++◌, ◌⊎◌, length, replicate, slice_get, take, Some}
+use Rattle.std.specs.Prelude.{◌≡◌, ◌≢◌, ℕ, zero, suc, ◌+◌, ◌-◌, ◌^◌, min, List, [], ◌∷◌, ◌++◌, ◌⊎◌, length, replicate, slice_get, take, Some}
 use Rattle.pprof.specs.Messages.{SampleValue}
 use Rattle.pprof.specs.declared.builder.WeightedSamples.{WeightedSamples}
 use Rattle.pprof.specs.declared.profile.Label.{Label}
@@ -47,6 +47,22 @@ pub record HasKey (labels : List Label) (location_ids : List ℕ) (row : Row) : 
   pub labels_are : row.labels ≡ labels
   pub location_ids_are : row.location_ids ≡ location_ids
 
+-- No row has these labels and locations.
+abbrev pub NoneHasKey : List Row → List Label → List ℕ → Type 0
+NoneHasKey rows labels location_ids = (index : ℕ) (row : Row) → slice_get rows index ≡ Some row → HasKey labels location_ids row → ⊥
+
+-- The row that has these labels and locations lacks the value of a type.
+pub record LacksValues (type_count : ℕ) (rows : List Row) (labels : List Label) (location_ids : List ℕ) : Type 0 where
+  pub index : ℕ
+  pub row : Row
+  pub is_at : slice_get rows index ≡ Some row
+  pub has_key : HasKey labels location_ids row
+  pub lacks : length row.values ≢ type_count
+
+-- Samples with these labels and locations need memory, for a row or for its values.
+abbrev pub NeedMemory : ℕ → List Row → List Label → List ℕ → Type 0
+NeedMemory type_count rows labels location_ids = NoneHasKey rows labels location_ids ⊎ LacksValues type_count rows labels location_ids
+
 -- A weight is added to a row that has these labels and locations.
 pub record AddsToRow (type_count : ℕ) (old : List Row) (labels : List Label) (location_ids : List ℕ) (weight : WeightedSamples) (new : List Row) : Type 0 where
   pub index : ℕ
@@ -57,7 +73,7 @@ pub record AddsToRow (type_count : ℕ) (old : List Row) (labels : List Label) (
 
 -- No row has these labels and locations, so one that has is appended.
 pub record AppendsRow (type_count : ℕ) (old : List Row) (labels : List Label) (location_ids : List ℕ) (weight : WeightedSamples) (new : List Row) : Type 0 where
-  pub none_has_key : (index : ℕ) (row : Row) → slice_get old index ≡ Some row → HasKey labels location_ids row → ⊥
+  pub none_has_key : NoneHasKey old labels location_ids
   pub new_is : new ≡ old ++ record { location_ids = location_ids; labels = labels; values = weighted weight (replicate type_count 0) } ∷ []
 
 -- Samples are added to the row with these labels and locations, and to no other.

@@ -1,17 +1,19 @@
 //! Builds a profile of mappings, functions, locations and samples.
-ghost use Rattle.std.specs.Prelude.{◌≡◌, ◌<◌, ◌||◌, [], ◌∷◌, ◌++◌, List, length, map, replicate, slice_get};
-ghost use Rattle.std.specs.Prelude.{slice_index_or, IfOk, OnErr, OnOk};
+ghost use Rattle.std.specs.Prelude.{◌≡◌, ◌≢◌, ◌<◌, ◌||◌, [], ◌∷◌, ◌++◌, List, length, map, replicate};
+ghost use Rattle.std.specs.Prelude.{slice_get, slice_index_or, false, Some, IfOk, IsOk, OnErr, OnOk};
 ghost use Rattle.std.specs.List.{list_any};
 ghost use Rattle.std.specs.Str.Lossy.{utf8_lossy};
+ghost use Rattle.std.specs.Str.{IsUtf8};
 ghost use Rattle.std.specs.String.{string_bytes};
 ghost use Rattle.indexmap.specs.IndexMap.{index_map_len};
-ghost use Rattle.indexmap.specs.IndexSet.{IsUnique};
+ghost use Rattle.indexmap.specs.IndexSet.{IsUnique, contains, spare};
 ghost use Rattle.pprof.specs.Builders.{place_of, rows_of};
 ghost use Rattle.pprof.specs.Labels.{HasLabels, IsKeyOf, number_labels, thread_labels};
 ghost use Rattle.pprof.specs.Messages.{location_value, profile_value, sample_value};
-ghost use Rattle.pprof.specs.Rows.{AreDistinct, Grows, Identifies, Interns, numbered};
+ghost use Rattle.pprof.specs.Rows.{AreDistinct, Grows, Identifies, Interns, IsAbsent, numbered};
 ghost use Rattle.pprof.specs.steps.Rows.{IdentifiesBy};
-ghost use Rattle.pprof.specs.Samples.{AddsSamples, raised, sample_row, weighted};
+ghost use Rattle.pprof.specs.Samples.{AddsSamples, NeedMemory, Row, padded};
+ghost use Rattle.pprof.specs.Samples.{raised, sample_row, weighted};
 ghost use Rattle.pprof.specs.steps.Samples.{RaisesRow};
 ghost use Rattle.pprof.specs.Strings.{texts_of};
 ghost use Rattle.pprof.specs.Tables.{Builds, Place, function_row, has_filename, has_number, known_id};
@@ -144,7 +146,7 @@ pub struct Builder {
 }
 
 impl Builder {
-    ghost use Rattle.pprof.specs.Builders.{tables_of};
+    ghost use Rattle.pprof.specs.Builders.{room_of, tables_of};
 
     /// Creates a profile without samples and without sample types.
     ///
@@ -170,6 +172,7 @@ impl Builder {
         ensures ok { IfOk result (λ index.
             Interns (tables_of self.old).strings (utf8_lossy text.now) index (tables_of self.new).strings) }
         ensures once { AreStrings (tables_of self.new).strings }
+        ensures new { OnErr result (IsUtf8 text.now → IsAbsent (tables_of self.old).strings text.now) }
         ensures err { OnErr result (tables_of self.new ≡ tables_of self.old) }
         ensures rest { tables_of self.new
             ≡ record (tables_of self.old) { strings = (tables_of self.new).strings } }
@@ -185,6 +188,8 @@ impl Builder {
         ensures ok { IfOk result (λ index.
             Interns (tables_of self.old).types value_type index (tables_of self.new).types) }
         ensures once { AreDistinct (tables_of self.new).types }
+        ensures new { OnErr result (IsAbsent (tables_of self.old).types value_type) }
+        ensures room { 0 < (room_of self.old).types → IsOk result }
         ensures err { OnErr result (tables_of self.new ≡ tables_of self.old) }
         ensures rest { tables_of self.new
             ≡ record (tables_of self.old) { types = (tables_of self.new).types } }
@@ -214,6 +219,8 @@ impl Builder {
         ensures ok { IfOk result (λ id.
             Identifies (tables_of self.old).mappings file id (tables_of self.new).mappings) }
         ensures once { AreDistinct (tables_of self.new).mappings }
+        ensures new { OnErr result (IsAbsent (tables_of self.old).mappings file) }
+        ensures room { 0 < (room_of self.old).mappings → IsOk result }
         ensures err { OnErr result (tables_of self.new ≡ tables_of self.old) }
         ensures rest { tables_of self.new
             ≡ record (tables_of self.old) { mappings = (tables_of self.new).mappings } }
@@ -228,6 +235,8 @@ impl Builder {
         ensures ok { IfOk result (λ id.
             Identifies (tables_of self.old).functions names id (tables_of self.new).functions) }
         ensures once { AreDistinct (tables_of self.new).functions }
+        ensures new { OnErr result (IsAbsent (tables_of self.old).functions names) }
+        ensures room { 0 < (room_of self.old).functions → IsOk result }
         ensures err { OnErr result (tables_of self.new ≡ tables_of self.old) }
         ensures rest { tables_of self.new
             ≡ record (tables_of self.old) { functions = (tables_of self.new).functions } }
@@ -242,6 +251,8 @@ impl Builder {
         ensures ok { IfOk result (λ id.
             Identifies (tables_of self.old).locations (place_of place) id (tables_of self.new).locations) }
         ensures once { AreDistinct (tables_of self.new).locations }
+        ensures new { OnErr result (IsAbsent (tables_of self.old).locations (place_of place)) }
+        ensures room { 0 < (room_of self.old).locations → IsOk result }
         ensures err { OnErr result (tables_of self.new ≡ tables_of self.old) }
         ensures rest { tables_of self.new
             ≡ record (tables_of self.old) { locations = (tables_of self.new).locations } }
@@ -277,6 +288,8 @@ impl Builder {
     ) -> Result<(), AllocError>
         ensures ok { OnOk result (AddsSamples (length (tables_of self.old).types) (tables_of self.old).samples
             labels.items location_ids.items weight (tables_of self.new).samples) }
+        ensures memory { OnErr result (NeedMemory (length (tables_of self.old).types)
+            (tables_of self.old).samples labels.items location_ids.items) }
         ensures err { OnErr result (tables_of self.new ≡ tables_of self.old) }
         ensures rest { tables_of self.new
             ≡ record (tables_of self.old) { samples = (tables_of self.new).samples } }
@@ -340,6 +353,8 @@ fn row_id<T: Eq + Hash + Drop>(rows: &mut IndexSet<T>, row: T) -> Result<u64, Al
     ensures ok { IfOk result (λ id.
         IdentifiesBy T.eq rows.old.keys row id rows.new.keys) }
     ensures err { OnErr result (rows.new.keys ≡ rows.old.keys) }
+    ensures new { OnErr result (contains T.eq rows.old row ≡ false) }
+    ensures room { 0 < spare rows.old → IsOk result }
     ensures once { IsUnique T.eq rows.new }
 {
     let (index, _is_new) = rows.insert_full(row)?;
@@ -377,6 +392,18 @@ fn take_values(
     Ok(values)
 }
 
+// Makes a value for each sample type. Those that are missing are 0.
+fn pad(values: &mut Vec<u64>, type_count: usize) -> Result<(), AllocError>
+    ensures ok { OnOk result (values.new.items ≡ padded type_count values.old.items) }
+    ensures err { OnErr result (values.new.items ≡ values.old.items) }
+    ensures lacks { OnErr result (length values.old.items ≢ type_count) }
+{
+    if values.len() == type_count {
+        return Ok(());
+    }
+    values.resize(type_count, 0)
+}
+
 // Adds a weight to the values of the row with an index.
 fn raise(
     rows: &mut IndexMap<RowKey, Vec<u64>>,
@@ -388,11 +415,13 @@ fn raise(
     ensures ok { OnOk result (RaisesRow (rows_of rows.old.entries) index type_count weight
         (rows_of rows.new.entries)) }
     ensures err { OnErr result (rows_of rows.new.entries ≡ rows_of rows.old.entries) }
+    ensures lacks { OnErr result ((row : Row) → slice_get (rows_of rows.old.entries) index ≡ Some row →
+        length row.values ≢ type_count) }
 {
     let Some(values) = rows.get_index_mut(index) else {
         return Ok(());
     };
-    values.resize(type_count, 0)?;
+    pad(values, type_count)?;
     add_weight(values, weight);
     Ok(())
 }

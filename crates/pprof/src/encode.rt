@@ -1,8 +1,8 @@
 //! Writes a profile as bytes.
-ghost use Rattle.std.specs.Prelude.{◌≡◌, ◌<◌, ◌^◌, map, IfOk, OnOk};
+ghost use Rattle.std.specs.Prelude.{◌≡◌, ◌≢◌, ◌<◌, ◌^◌, [], None, map, IfOk, OnErr, OnOk};
 ghost use Rattle.std.specs.String.{string_bytes};
 ghost use Rattle.pprof.specs.Messages.{encode, function_fields, label_fields, line_fields, location_fields};
-ghost use Rattle.pprof.specs.Messages.{location_value};
+ghost use Rattle.pprof.specs.Messages.{IsEmpty, location_value};
 ghost use Rattle.pprof.specs.Messages.{mapping_fields, period_type_fields, profile_value};
 ghost use Rattle.pprof.specs.Messages.{sample_fields, sample_value, text_fields, value_type_fields};
 ghost use Rattle.pprof.specs.steps.Wire.{Appends};
@@ -91,7 +91,8 @@ impl Message for Function {
 // Appends a field for each text.
 fn push_texts(bytes: &mut Vec<u8>, field: u64, texts: &[String]) -> Result<(), AllocError>
     requires { field < 2 ^ 32 }
-    ensures { OnOk result
+    ensures memory { OnErr result (texts.now ≢ []) }
+    ensures fields { OnOk result
         (Appends bytes.old.items (text_fields field (map string_bytes texts.now)) bytes.new.items) }
 {
     'texts: for text in texts {
@@ -106,7 +107,8 @@ fn push_period_type(
     bytes: &mut Vec<u8>,
     period_type: Option<ValueType>,
 ) -> Result<(), AllocError>
-    ensures { OnOk result
+    ensures memory { OnErr result (period_type ≢ None) }
+    ensures fields { OnOk result
         (Appends bytes.old.items (period_type_fields period_type) bytes.new.items) }
 {
     match period_type {
@@ -117,9 +119,10 @@ fn push_period_type(
 
 /// Returns the bytes of a profile.
 ///
-/// Fails if memory runs out.
+/// Fails if memory runs out, which a profile without bytes doesn't need.
 pub fn encode(alloc: Global, profile: &Profile) -> Result<Vec<u8>, AllocError>
-    ensures { IfOk result (λ bytes. bytes.items ≡ encode (profile_value profile.now)) }
+    ensures bytes { IfOk result (λ bytes. bytes.items ≡ encode (profile_value profile.now)) }
+    ensures memory { OnErr result (¬ IsEmpty (profile_value profile.now)) }
 {
     let mut bytes = Vec::new(alloc);
     push_messages(alloc, &mut bytes, 1, profile.sample_types.as_slice())?;

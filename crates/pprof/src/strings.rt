@@ -2,7 +2,8 @@
 ghost use Rattle.std.specs.Prelude.{◌≡◌, [], ◌∷◌, ℕ, List, map, IfOk, OnErr};
 ghost use Rattle.std.specs.Str.Lossy.{utf8_lossy};
 ghost use Rattle.std.specs.String.{string_bytes};
-ghost use Rattle.pprof.specs.Rows.{Grows, Interns};
+ghost use Rattle.std.specs.Str.{IsUtf8};
+ghost use Rattle.pprof.specs.Rows.{Grows, Interns, IsAbsent};
 ghost use Rattle.pprof.specs.Texts.{AreStrings};
 
 use indexmap::IndexSet;
@@ -36,8 +37,12 @@ impl StringTable {
     pub fn intern(&mut self, text: &[u8]) -> Result<u64, AllocError>
         ensures ok { IfOk result (λ index.
             Interns (texts_of self.old) (utf8_lossy text.now) index (texts_of self.new)) }
+        ensures new { OnErr result (IsUtf8 text.now → IsAbsent (texts_of self.old) text.now) }
         ensures err { OnErr result (texts_of self.new ≡ texts_of self.old) }
     {
+        if let Ok(text) = str::from_utf8(text) {
+            return self.intern_text(text);
+        }
         let text = String::from_utf8_lossy(self.alloc, text)?;
         let (index, _is_new) = self.texts.insert_full(text)?;
         Ok(index as u64)
@@ -49,6 +54,18 @@ impl StringTable {
     pub fn intern_text(&mut self, text: &str) -> Result<u64, AllocError>
         ensures ok { IfOk result (λ index. Interns (texts_of self.old) text.now index (texts_of self.new)) }
         ensures texts { Grows (texts_of self.old) (texts_of self.new) }
+        ensures new { OnErr result (IsAbsent (texts_of self.old) text.now) }
+        ensures err { OnErr result (texts_of self.new ≡ texts_of self.old) }
+    {
+        match self.texts.get_index_of(text) {
+            Some(index) => Ok(index as u64),
+            None => self.add(text),
+        }
+    }
+
+    // Returns the index of a text, which is added if it is new.
+    fn add(&mut self, text: &str) -> Result<u64, AllocError>
+        ensures ok { IfOk result (λ index. Interns (texts_of self.old) text.now index (texts_of self.new)) }
         ensures err { OnErr result (texts_of self.new ≡ texts_of self.old) }
     {
         let text = String::from_str(self.alloc, text)?;

@@ -1,5 +1,5 @@
 //! Writes the fields of messages in the wire format of protocol buffers.
-ghost use Rattle.std.specs.Prelude.{◌≡◌, ◌<◌, ◌*◌, ◌^◌, ◌++◌, List, OnOk};
+ghost use Rattle.std.specs.Prelude.{◌≡◌, ◌≢◌, ◌<◌, ◌*◌, ◌^◌, ◌++◌, [], List, OnErr, OnOk};
 ghost use Rattle.std.specs.List.{flat_map};
 ghost use Rattle.pprof.specs.Wire.{Field, bytes_field, message_field, message_fields};
 ghost use Rattle.pprof.specs.steps.Wire.{Appends};
@@ -35,7 +35,8 @@ fn push_varint(bytes: &mut Vec<u8>, number: u64) -> Result<(), AllocError>
 /// Appends a field with a number, unless it is 0.
 pub(crate) fn push_number(bytes: &mut Vec<u8>, field: u64, number: u64) -> Result<(), AllocError>
     requires { field < 2 ^ 32 }
-    ensures { OnOk result (Appends bytes.old.items (number_field field number) bytes.new.items) }
+    ensures fields { OnOk result (Appends bytes.old.items (number_field field number) bytes.new.items) }
+    ensures memory { OnErr result (number ≢ 0) }
 {
     if number == 0 {
         return Ok(());
@@ -99,8 +100,9 @@ pub(crate) fn push_messages<M: Message>(
     messages: &[M],
 ) -> Result<(), AllocError>
     requires { field < 2 ^ 32 }
-    ensures { OnOk result
+    ensures fields { OnOk result
         (Appends bytes.old.items (message_fields field M.fields messages.now) bytes.new.items) }
+    ensures memory { OnErr result (messages.now ≢ []) }
 {
     'messages: for message in messages {
         push_message(alloc, bytes, field, message)?;

@@ -2,6 +2,7 @@ use Rattle.std.proofs.Common.{◌∷◌, arith}
 use Rattle.std.proofs.lemmas.Result.{err_from_is_err_and}
 use Rattle.code_cfi.specs.steps.Rows.{moment_of}
 use Rattle.code_cfi.proofs.ErrorLemmas.{if_any_error}
+use Rattle.code_cfi.proofs.RememberLemmas.{remembers_more, run_remembers}
 use Rattle.code_cfi.proofs.UniqueRuns.{run_first, no_run_read, no_run_step}
 use Rattle.code_cfi.proofs.row_program.run.Goals as goal
 
@@ -17,6 +18,7 @@ instructions-preserved c =
       );
       follows = λ n runs. run_first c.args.encoding.now c.args.cie.now c.args.initial.now c.args.address c.instructions.rest.now (moment_of c.instructions.state) n c.in_ok-instruction.instruction c.in_ok-instruction.after.now
           (moment_of c.step.new.state) (omega (arith, shorter)) (omega (arith, low)) c.in_ok-instruction.ensures.found c.in_ok-step.ensures.done (c.instructions.invariant.follows n runs);
+      remembers = λ r. c.instructions.invariant.remembers (remembers_more c.args.encoding.now c.instructions.rest.now c.in_ok-instruction.instruction c.in_ok-instruction.after.now c.in_ok-instruction.ensures.found r);
     }
 
 pub returns-in_err-instruction-clause-none : goal.returns-in_err-instruction-clause-none
@@ -32,3 +34,14 @@ returns-in_err-step-clause-none c =
     rw (p.1, p.2) (λ other small n runs.
     no_run_step c.args.encoding.now c.args.cie.now c.args.initial.now c.args.address c.instructions.rest.now (moment_of c.instructions.state) c.in_ok-instruction.instruction c.in_ok-instruction.after.now (omega (arith, shorter))
     (omega (arith, c.if-state-address.true)) c.in_ok-instruction.ensures.found (c.in_err-step.ensures.none other) n (c.instructions.invariant.follows n runs))
+
+pub returns-in_err-instruction-clause-memory : goal.returns-in_err-instruction-clause-memory
+returns-in_err-instruction-clause-memory c =
+    let p = err_from_is_err_and c.from_residual.result c.from_residual.ensures.1 in
+    rw (p.1, p.2) (λ memory. absurd (c.in_err-instruction.ensures.never memory))
+
+pub returns-in_err-step-clause-memory : goal.returns-in_err-step-clause-memory
+returns-in_err-step-clause-memory c =
+    let p = err_from_is_err_and c.from_residual-in_err-step.result c.from_residual-in_err-step.ensures.1 in
+    rw (p.1, p.2) (λ memory. run_remembers c.args.initial.now c.args.encoding.now c.args.program.now c.instructions.rest.now c.in_ok-instruction.instruction c.in_ok-instruction.after.now
+    c.in_ok-instruction.ensures.found c.instructions.invariant.remembers (c.in_err-step.ensures.memory memory))

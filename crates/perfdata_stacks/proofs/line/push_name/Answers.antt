@@ -11,5 +11,10 @@ returns-in_err-push-clause-err c =
     rw p.1 (record {
       count = c.bytes.byte-index;
       not_all = omega (arith, length-map bytes name_byte, c.bytes-test.true);
-      is = c.in_err-push.ensures.items ∙ c.bytes.invariant ∙ ap (λ more. c.args.line.now.items ++ more) (sym (take-map name_byte c.bytes.byte-index bytes));
+      is = c.in_err-push.ensures.items ∙ c.bytes.invariant.items ∙ ap (λ more. c.args.line.now.items ++ more) (sym (take-map name_byte c.bytes.byte-index bytes));
     })
+
+pub returns-in_err-push-clause-full : goal.returns-in_err-push-clause-full
+returns-in_err-push-clause-full c =
+    let p = err_from_is_err_and c.from_residual.result c.from_residual.ensures.1 in
+    rw p.1 (omega (arith, c.bytes-test.true, c.bytes.invariant.len, c.bytes.invariant.capacity, c.in_err-push.ensures.full))

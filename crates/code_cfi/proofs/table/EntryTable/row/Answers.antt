@@ -50,3 +50,23 @@ returns-in_err-run-2-clause-none c =
     rw (p.1, p.2) (λ other.
     no_fde_run c.args.self.now c.args.index c.args.address c.index-fde.result.now within c.index-fde.ensures c.index-cie.result.now cie_within c.index-cie.ensures first (refl, c.new.ensures, c.new-2.ensures.items)
     middle second c.in_ok-run.ensures.done (refl, refl, refl) (c.in_err-run-2.ensures.none other))
+
+pub returns-in_err-run-clause-memory : goal.returns-in_err-run-clause-memory
+returns-in_err-run-clause-memory c =
+    let p = err_from_is_err_and c.from_residual.result c.from_residual.ensures.1 in
+    rw (p.1, p.2) (λ memory. absurd (c.in_err-run.ensures.memory memory))
+
+pub returns-in_err-run-2-clause-memory : goal.returns-in_err-run-2-clause-memory
+returns-in_err-run-2-clause-memory c =
+    let p = err_from_is_err_and c.from_residual-in_err-run-2.result c.from_residual-in_err-run-2.ensures.1 in
+    let within : c.args.index < length c.args.self.now.fdes.items = search rules in
+    let cie_within : c.index-fde.result.now.cie < length c.args.self.now.cies.items = search rules in
+    rw (p.1, p.2) (λ memory. record {
+      fde = c.index-fde.result.now;
+      cie = c.index-cie.result.now;
+      index_within = within;
+      fde_is = c.index-fde.ensures;
+      cie_within = cie_within;
+      cie_is = c.index-cie.ensures;
+      remembers = c.in_err-run-2.ensures.memory memory;
+    })

@@ -1,5 +1,6 @@
+use Rattle.std.proofs.lemmas.Result.{on_err_weaker}
 use Rattle.pprof.specs.Builders.{place_of}
-use Rattle.pprof.proofs.Distinct.{distinct_values, eq_place, identified, place-Decides}
+use Rattle.pprof.proofs.Distinct.{absent_value, distinct_values, eq_place, identified, place-Decides}
 use Rattle.pprof.proofs.builder.Builder.location.Goals as goal
 
 pub returns-clause-ok : goal.returns-clause-ok
@@ -7,3 +8,6 @@ returns-clause-ok c = identified eq_place place_of place-Decides c.row_id.result
 
 pub returns-clause-once : goal.returns-clause-once
 returns-clause-once c = distinct_values eq_place place_of place-Decides c.row_id.new.rows.keys c.row_id.ensures.once
+
+pub returns-clause-new : goal.returns-clause-new
+returns-clause-new c = on_err_weaker c.row_id.result (absent_value eq_place place_of place-Decides c.args.place c.args.self.now.places.keys) c.row_id.ensures.new

@@ -3,4 +3,4 @@ use Rattle.pprof.proofs.Writing.{last}
 use Rattle.pprof.proofs.encode.LineMessage.push.Goals as goal
 
 pub returns : goal.returns
-returns c = last (number_field 2 c.args.self.now.line) c.push_number-2.new.bytes.items c.push_number-2.result c.in_ok-push_number.ensures c.push_number-2.ensures
+returns c = last (number_field 2 c.args.self.now.line) c.push_number-2.new.bytes.items c.push_number-2.result c.in_ok-push_number.ensures.fields c.push_number-2.ensures.fields

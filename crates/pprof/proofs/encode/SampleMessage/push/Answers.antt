@@ -13,5 +13,5 @@ returns c =
     let values : Appends c.push_packed.new.bytes.items (packed_field 2 s.values.items) c.push_packed-2.new.bytes.items =
     rw (← c.as_slice-2.ensures.value) c.in_ok-push_packed-2.ensures in
     let labels : OnOk c.push_messages.result (Appends c.push_packed-2.new.bytes.items (message_fields 3 label_fields s.labels.items) c.push_messages.new.bytes.items) =
-    rw (← c.as_slice-3.ensures.value) c.push_messages.ensures in
+    rw (← c.as_slice-3.ensures.value) c.push_messages.ensures.fields in
     last (message_fields 3 label_fields s.labels.items) c.push_messages.new.bytes.items c.push_messages.result (more ids values) labels

@@ -1,22 +1,18 @@
-use Rattle.std.proofs.Common.{map}
-use Rattle.std.specs.String.{string_bytes}
-use Rattle.pprof.proofs.Growing.{interns_grows}
-use Rattle.pprof.proofs.Interning.{insertion, interned}
+use Rattle.std.proofs.Common.{refl, sym}
+use Rattle.pprof.specs.Strings.{texts_of}
+use Rattle.pprof.proofs.Growing.{grows_equal, grows_interned}
+use Rattle.pprof.proofs.Interning.{absent_text, found_text}
+use Rattle.pprof.proofs.Counting.{on_err}
 use Rattle.pprof.proofs.strings.StringTable.intern_text.Goals as goal
 
-pub invariant_of-self : goal.invariant_of-self
-invariant_of-self c = record { strings = insertion c.insert_full.result c.args.self.now.texts.keys c.insert_full.new.self.keys c.in_ok-text.text c.args.self.now.strings c.insert_full.ensures.keys c.insert_full.ensures.err }
+pub returns-in-Some-clause-ok : goal.returns-in-Some-clause-ok
+returns-in-Some-clause-ok c = found_text c.args.self.now.texts.keys c.in-Some.index c.args.text.now (sym c.in-Some.ensures.index)
 
-pub returns-clause-ok : goal.returns-clause-ok
-returns-clause-ok c =
-    let stored = c.in_ok-index.ensures.stored in
-    interned c.args.self.now.texts.keys c.insert_full.new.self.keys c.in_ok-text.text stored.0 c.in_ok-index.index c.args.text.now
-    c.in_ok-text.ensures.ok stored.1 stored.2 c.in_ok-index.ensures.keys
+pub returns-in-Some-clause-texts : goal.returns-in-Some-clause-texts
+returns-in-Some-clause-texts c = grows_equal (texts_of c.args.self.now) (texts_of c.args.self.now) refl
 
-pub returns-clause-texts : goal.returns-clause-texts
-returns-clause-texts c =
-    let stored = c.in_ok-index.ensures.stored in
-    let old = map string_bytes c.args.self.now.texts.keys in
-    let new = map string_bytes c.insert_full.new.self.keys in
-    interns_grows old new c.args.text.now c.in_ok-index.index (interned c.args.self.now.texts.keys c.insert_full.new.self.keys c.in_ok-text.text stored.0 c.in_ok-index.index c.args.text.now
-    c.in_ok-text.ensures.ok stored.1 stored.2 c.in_ok-index.ensures.keys)
+pub returns-in-None-clause-texts : goal.returns-in-None-clause-texts
+returns-in-None-clause-texts c = grows_interned c.add.result (texts_of c.args.self.now) (texts_of c.add.new.self) c.args.text.now c.add.ensures.ok c.add.ensures.err
+
+pub returns-in-None-clause-new : goal.returns-in-None-clause-new
+returns-in-None-clause-new c = on_err c.add.result (absent_text c.args.text.now c.args.self.now.texts.keys (sym c.in-None.ensures.found))
