@@ -2,6 +2,7 @@ pub mod AppendLemmas
 pub mod ArmPltLemmas
 pub mod CrcLemmas
 pub mod BoundaryLemmas
+pub mod ByteLemmas
 pub mod EntryLemmas
 pub mod KernelLineLemmas
 pub mod KernelSizeLemmas

@@ -1,11 +1,16 @@
 pub mod Crc
 pub mod Boundaries
+pub mod DebugLinks
 pub mod ElfFiles
+pub mod ElfImages
+pub mod Jit
 pub mod Kernel
 pub mod Layer
 pub mod Lines
+pub mod Notes
 pub mod Plt
 pub mod RankedLists
+pub mod SimpleperfSymbols
 pub mod Strings
 pub mod Symbols
 pub mod SymbolTable

@@ -1,5 +1,6 @@
 -- String tables of ELF files.
-use Rattle.std.specs.Prelude.{◌≡◌, ◌≢◌, ℕ, ◌<◌, List, All, slice_index}
+use Rattle.std.specs.Prelude.{◌≡◌, ◌≢◌, ℕ, ◌<◌, ◌==◌, List, All, drop, slice_index}
+use Rattle.std.specs.List.{before_first}
 use Rattle.std.specs.List.Sorted.{IsNonDecreasingBy}
 
 -- these are the indices of the NULs before an index, ascending
@@ -8,3 +9,7 @@ pub record AreNuls (bytes nuls : List ℕ) (at : ℕ) : Type 0 where
   pub before : All (λ n. n < at) nuls
   pub each : All (λ n. slice_index bytes n ≡ 0) nuls
   pub every : (i : ℕ) → i < at → slice_index bytes i ≡ 0 → ¬ All (λ n. n ≢ i) nuls
+
+-- the string that starts at an offset of a string table: the bytes before the next NUL, or all if there is none
+abbrev pub string_in : List ℕ → ℕ → List ℕ
+string_in bytes start = before_first (λ b. b == 0) (drop start bytes)

@@ -1,11 +1,11 @@
 //! ELF files: their segments, symbols, build id and debug link (System V ABI, chapter "Object files").
 
-ghost use Rattle.std.specs.Prelude.{◌≡◌};
+ghost use Rattle.std.specs.Prelude.{◌≡◌, ◌==◌, IfOk};
+ghost use Rattle.code_symbols.specs.DebugLinks.{IsAlternateLinkOf, IsDebugLinkOf};
 
 use crate::error::{ElfError, ElfTable};
 use crate::ranked::RankedSymbols;
 use bstr::ByteSlice;
-use memchr::memchr;
 use perfdata_base::raw::Endianness;
 use perfdata_base::source::PlacedSource;
 use std::alloc::{AllocError, Global};
@@ -30,7 +30,7 @@ use notes::{NoteRange, find_build_id};
 pub use plt_ranges::PltRange;
 pub use sections::{Compression, CompressionFormat, SectionBytes};
 use sections::{find_section, read_contents};
-use strings::Strings;
+use strings::{Strings, byte_offset};
 use symbols::{SymbolContext, add_symbols};
 
 // The largest part of a range of notes that is searched for the build id.
@@ -80,7 +80,7 @@ pub struct ElfFile<R> {
 }
 
 impl<R: PlacedSource + Drop> ElfFile<R> {
-    ghost use Rattle.code_symbols.specs.ElfFiles.{machine_of, segments_of};
+    ghost use Rattle.code_symbols.specs.ElfFiles.{endian_of, file_type_of, machine_of, segments_of};
 
     /// Reads the file header, the section headers with their names, and the program headers.
     ///
@@ -121,12 +121,16 @@ impl<R: PlacedSource + Drop> ElfFile<R> {
     }
 
     /// Returns the order of the bytes of numbers.
-    pub fn endian(&self) -> Endianness {
+    pub fn endian(&self) -> Endianness
+        ensures { result ≡ endian_of self.now }
+    {
         self.header.encoding.endian
     }
 
     /// Returns whether the file is relocatable (`ET_REL`): its code has no addresses yet.
-    pub fn is_relocatable(&self) -> bool {
+    pub fn is_relocatable(&self) -> bool
+        ensures { result ≡ (file_type_of self.now == 1) }
+    {
         self.header.file_type == header::RELOCATABLE
     }
 
@@ -374,11 +378,11 @@ fn parse_debug_link(
     alloc: Global,
     encoding: Encoding,
     bytes: &[u8],
-) -> Result<Option<DebugLink>, ElfError> {
-    let Some(name_len) = memchr(0, bytes) else {
-        return Ok(None);
-    };
-    let crc_at = (name_len + 4) & !3;
+) -> Result<Option<DebugLink>, ElfError>
+    ensures { IfOk result (IsDebugLinkOf encoding bytes.now) }
+{
+    let name_len = byte_offset(0, bytes);
+    let crc_at = (name_len + 4) / 4 * 4;
     if name_len == 0 || bytes.len() < 4 || bytes.len() - 4 < crc_at {
         return Ok(None);
     }
@@ -389,10 +393,10 @@ fn parse_debug_link(
 }
 
 // The alternate link in the bytes of its section: a path, a NUL and the build id.
-fn parse_alternate_link(alloc: Global, bytes: &[u8]) -> Result<Option<AlternateLink>, AllocError> {
-    let Some(path_len) = memchr(0, bytes) else {
-        return Ok(None);
-    };
+fn parse_alternate_link(alloc: Global, bytes: &[u8]) -> Result<Option<AlternateLink>, AllocError>
+    ensures { IfOk result (IsAlternateLinkOf bytes.now) }
+{
+    let path_len = byte_offset(0, bytes);
     if path_len == 0 || bytes.len() - path_len < 2 {
         return Ok(None);
     }

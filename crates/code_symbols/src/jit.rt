@@ -1,5 +1,7 @@
 //! The code that a jitdump describes, at a time.
 
+ghost use Rattle.std.specs.Prelude.{◌≡◌};
+
 use crate::error::JitSymbolsError;
 use crate::symbol::Symbol;
 use crate::table::SymbolTable;
@@ -127,6 +129,8 @@ fn add_next<R: Source>(
 }
 
 impl JitSymbols {
+    ghost use Rattle.code_symbols.specs.Jit.{jit_table_of};
+
     /// Reads the load and move records of a jitdump, up to its end or its first incomplete record.
     ///
     /// If the times are those of the processor (the flag `JITDUMP_FLAGS_ARCH_TIMESTAMP`), all code counts as
@@ -175,7 +179,9 @@ impl JitSymbols {
 
     /// Returns the code up to the time of the last `advance_to`. The last record that contains an address is
     /// preferred. Addresses are those of the process.
-    pub fn table(&self) -> &SymbolTable {
+    pub fn table(&self) -> &SymbolTable
+        ensures { result.now ≡ jit_table_of self.now }
+    {
         &self.table
     }
 }

@@ -1,5 +1,9 @@
 //! The symbols of a file in a recording by simpleperf.
 
+ghost use Rattle.std.specs.Prelude.{◌≡◌};
+ghost use Rattle.perfdata_simpleperf.specs.FileRecord.{record_value};
+ghost use Rattle.code_symbols.specs.SimpleperfSymbols.{shift_of};
+
 use crate::ranked::{RankedSymbol, RankedSymbols};
 use crate::symbol::Symbol;
 use crate::table::SymbolTable;
@@ -10,7 +14,9 @@ use std::alloc::{AllocError, Global};
 
 // What is added to the address of a symbol, modulo 2^64, for what it is found at: an offset in an ELF file,
 // an offset in the memory of a kernel module, and the address itself for other files.
-fn address_shift(record: &SimpleperfFileRecord) -> u64 {
+fn address_shift(record: &SimpleperfFileRecord) -> u64
+    ensures { result ≡ shift_of (record_value record.now) }
+{
     match &record.type_specific_msg {
         Some(SimpleperfTypeSpecificInfo::ElfFile(elf)) => {
             elf.file_offset_of_min_vaddr.wrapping_sub(record.min_vaddr)

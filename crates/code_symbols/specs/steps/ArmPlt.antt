@@ -1,6 +1,6 @@
 -- The entries of procedure linkage tables of 32-bit Arm, by their code.
 use Rattle.std.specs.Prelude.{◌≡◌, ℕ, ◌+◌, ◌/◌, ◌^◌, ◌==◌, ◌&&◌, Bool, List, [], ◌∷◌, Option, None, Some, bit_and, if◌then◌else◌}
-use Rattle.code_symbols.specs.steps.Elf.{number_at}
+use Rattle.code_symbols.specs.ElfImages.{number_at}
 use Rattle.code_symbols.specs.declared.elf.arm_plt.CodedEntries.{CodedEntries}
 use Rattle.code_symbols.specs.declared.elf.input.Encoding.{Encoding}
 use Rattle.code_symbols.specs.declared.elf.plt.PltEntry.{PltEntry}

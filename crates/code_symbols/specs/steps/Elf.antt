@@ -1,28 +1,17 @@
 -- The entries of the symbol tables of ELF files, and the offsets of their symbols.
-use Rattle.std.specs.Prelude.{◌≡◌, ◌≢◌, ◌⊎◌, ℕ, ◌+◌, ◌-◌, ◌*◌, ◌/◌, ◌%◌, ◌^◌, ◌<◌, ◌≤◌, ◌==◌, ◌&&◌, ◌||◌, Bool, false, List, ◌∷◌, ◌++◌, Option, None, Some, All, bit_and, drop, if◌then◌else◌, length, min, nat_le, slice_get, slice_index, slice_range}
+use Rattle.std.specs.Prelude.{◌≡◌, ◌≢◌, ◌⊎◌, ℕ, ◌+◌, ◌-◌, ◌*◌, ◌/◌, ◌%◌, ◌^◌, ◌<◌, ◌≤◌, ◌==◌, ◌&&◌, ◌||◌, Bool, false, true, List, [], ◌∷◌, ◌++◌, Option, None, Some, All, bit_and, if◌then◌else◌, length, min, nat_le, not, slice_get, slice_index, slice_index_or, slice_range}
 use Rattle.std.specs.Option.{option_and_then, option_map}
-use Rattle.perfdata_sources.specs.Endian.{number_in}
+use Rattle.code_symbols.specs.ElfImages.{by_class, number_at, word_at}
 use Rattle.code_symbols.specs.declared.elf.header.Section.{Section}
 use Rattle.code_symbols.specs.declared.elf.header.Segment.{Segment}
 use Rattle.code_symbols.specs.declared.elf.input.Encoding.{Encoding}
 use Rattle.code_symbols.specs.declared.elf.symbols.ElfSymbol.{ElfSymbol}
 use Rattle.code_symbols.specs.declared.elf.symbols.SymbolContext.{SymbolContext}
 use Rattle.code_symbols.specs.declared.ranked.RankedSymbol.{RankedSymbol}
+use Rattle.code_symbols.specs.Strings.{string_in}
 use Rattle.code_symbols.specs.steps.StringTable.{bytes_of}
 use Rattle.code_symbols.specs.steps.Strings.{IsStringAt}
-use Rattle.code_symbols.specs.steps.Versions.{IsOtherVersion}
-
--- the number of `size` bytes at an offset of an entry, or 0 if they aren't completely in it
-abbrev pub number_at : Encoding → List ℕ → ℕ → ℕ → ℕ
-number_at e bytes at size = if nat_le (at + size) (length bytes) then number_in e.endian size (drop at bytes) else 0
-
--- the first value in a 32-bit file, the second in a 64-bit file
-abbrev pub by_class : Encoding → ℕ → ℕ → ℕ
-by_class e value_32 value_64 = if e.is_64_bit then value_64 else value_32
-
--- the number of four bytes in a 32-bit file, and of eight bytes in a 64-bit file
-abbrev pub word_at : Encoding → List ℕ → ℕ → ℕ → ℕ
-word_at e bytes at_32 at_64 = if e.is_64_bit then number_at e bytes at_64 8 else number_at e bytes at_32 4
+use Rattle.code_symbols.specs.steps.Versions.{IsOtherVersion, printed_len}
 
 -- the symbol in an entry (`Elf32_Sym`, `Elf64_Sym`)
 abbrev pub elf_symbol_in : Encoding → List ℕ → ElfSymbol
@@ -84,6 +73,38 @@ pub record IsDefined (s : ElfSymbol) : Type 0 where
   pub here : s.section ≢ 0
   pub relative : s.section ≢ 0xfff1
 
+-- the same, as a test
+abbrev pub is_defined : ElfSymbol → Bool
+is_defined s = not (s.name == 0 || s.section == 0 || s.section == 0xfff1)
+
+-- a function (`STT_FUNC`), a function that chooses one (`STT_GNU_IFUNC`), or an object (`STT_OBJECT`)
+abbrev pub has_listed_type : ElfSymbol → Bool
+has_listed_type s = s.symbol_type == 2 || s.symbol_type == 10 || s.symbol_type == 1
+
+-- a name that begins with `$a`, `$d`, `$t` or `$x`: a mark between code and data in code for Arm and RISC-V
+abbrev pub is_mapping_name : List ℕ → Bool
+is_mapping_name n = nat_le 2 (length n) && slice_index n 0 == 36
+    && (slice_index n 1 == 97 || slice_index n 1 == 100 || slice_index n 1 == 116 || slice_index n 1 == 120)
+
+-- the name of a symbol in its string table
+abbrev pub name_in_table : SymbolContext → ElfSymbol → List ℕ
+name_in_table c s = string_in (bytes_of c.names.now) s.name
+
+-- what is in the section is visible (neither `STV_INTERNAL` nor `STV_HIDDEN`), in a section of code, and no such mark
+abbrev pub is_label : SymbolContext → ElfSymbol → Option ℕ → Bool
+is_label c s None = false
+is_label c s (Some i) = not (s.visibility == 1) && not (s.visibility == 2) && slice_index_or c.text_sections.now i false
+    && not (is_mapping_name (name_in_table c s))
+
+-- a symbol is listed: it is defined here, and of a function or an object, or a label without a type (`STT_NOTYPE`)
+abbrev pub is_listed : SymbolContext → ElfSymbol → Option ℕ → Bool
+is_listed c s section = is_defined s && (has_listed_type s || (s.symbol_type == 0 && is_label c s section))
+
+-- where a section ends, in the units of `start`, which is the offset of `address`; each end is at most 2^64 - 1
+abbrev pub end_of_section : Option Section → ℕ → ℕ → ℕ
+end_of_section None address start = 2 ^ 64 - 1
+end_of_section (Some s) address start = min (start + (min (s.address + s.size) (2 ^ 64 - 1) - address)) (2 ^ 64 - 1)
+
 -- the version of the symbol with this index isn't the default one of its name (bit 15 of its entry in `.gnu.version`)
 abbrev pub is_hidden : SymbolContext → ℕ → Bool
 is_hidden c i = nat_le 0x8000 (number_at c.header.encoding c.versions.now (min (i * 2) (2 ^ 64 - 1)) 2)
@@ -105,6 +126,19 @@ pub record IsRanked (c : SymbolContext) (s : ElfSymbol) (i : ℕ) (r : RankedSym
   pub of_file : r.is_made ≡ false
   pub compatibility : IsCompatibility c s i r.is_compatibility
 
+-- the entry with this index is listed, and the symbol has its name without a default version, its binding, and the end of its section
+pub record IsListed (c : SymbolContext) (s : ElfSymbol) (i : ℕ) (r : RankedSymbol) : Type 0 where
+  pub listed : is_listed c s (section_index_of c s i) ≡ true
+  pub name_end : r.symbol.name_end ≡ min (s.name + printed_len (name_in_table c s)) (2 ^ 64 - 1)
+  pub some_name : 0 < printed_len (name_in_table c s)
+  pub weak : r.is_weak ≡ (s.binding == 2)
+  pub global : r.is_global ≡ (s.binding == 1)
+  pub end : r.section_end ≡ end_of_section (section_of_symbol c s i) (symbol_address c.header.machine s) r.symbol.start
+
+-- the entry with this index has no symbol: it isn't listed, has no name, or is outside all segments and sections
+abbrev pub IsLeftOut : SymbolContext → ElfSymbol → ℕ → Type 0
+IsLeftOut c s i = (is_listed c s (section_index_of c s i) ≡ false) ⊎ (printed_len (name_in_table c s) ≡ 0) ⊎ IsSymbolOffset c s (section_of_symbol c s i) None
+
 -- the symbol is that of one of the entries of a table, each of `entry_size` bytes
 pub record IsOfEntry (c : SymbolContext) (entries : List ℕ) (entry_size : ℕ) (r : RankedSymbol) : Type 0 where
   pub index : ℕ
@@ -116,3 +150,28 @@ pub record AddsEntries (c : SymbolContext) (entries : List ℕ) (entry_size : �
   pub added : List RankedSymbol
   pub appended : new ≡ old ++ added
   pub each : All (IsOfEntry c entries entry_size) added
+
+-- the entry with an index of a table, each of `entry_size` bytes
+abbrev pub entry_at : Encoding → List ℕ → ℕ → ℕ → ElfSymbol
+entry_at e entries entry_size i = elf_symbol_in e (slice_range entries (i * entry_size) (i * entry_size + entry_size))
+
+-- the symbols of the first entries of a table, in their order
+pub data AreOfFirst (c : SymbolContext) (entries : List ℕ) (entry_size : ℕ) : ℕ → List RankedSymbol → Type 0 where
+  no_entry : AreOfFirst c entries entry_size 0 []
+  entry_left_out : (n : ℕ) (rs : List RankedSymbol) → AreOfFirst c entries entry_size n rs → IsLeftOut c (entry_at c.header.encoding entries entry_size n) n
+      → AreOfFirst c entries entry_size (n + 1) rs
+  entry_listed : (n : ℕ) (rs : List RankedSymbol) (r : RankedSymbol) → AreOfFirst c entries entry_size n rs
+      → IsRanked c (entry_at c.header.encoding entries entry_size n) n r
+      → IsListed c (entry_at c.header.encoding entries entry_size n) n r → AreOfFirst c entries entry_size (n + 1) (rs ++ r ∷ [])
+
+-- the symbols of the first entries are appended, in the order of the entries
+pub record AddsFirst (c : SymbolContext) (entries : List ℕ) (entry_size n : ℕ) (old new : List RankedSymbol) : Type 0 where
+  pub added : List RankedSymbol
+  pub appended : new ≡ old ++ added
+  pub of_first : AreOfFirst c entries entry_size n added
+
+-- the symbols of all complete entries are appended
+pub record AddsAll (c : SymbolContext) (entries : List ℕ) (entry_size : ℕ) (old new : List RankedSymbol) : Type 0 where
+  pub count : ℕ
+  pub adds : AddsFirst c entries entry_size count old new
+  pub complete : length entries < (count + 1) * entry_size

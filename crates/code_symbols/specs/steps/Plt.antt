@@ -1,7 +1,7 @@
 -- Steps of private functions: the entries of procedure linkage tables.
 use Rattle.std.specs.Prelude.{◌≡◌, ◌⊎◌, ℕ, zero, suc, ◌+◌, ◌*◌, ◌/◌, ◌%◌, ◌^◌, ◌≤◌, Bool, true, false, List, [], ◌∷◌, ◌++◌, All, Some, if◌then◌else◌, length, slice_get, slice_range}
 use Rattle.code_symbols.specs.steps.ArmPlt.{AreEntries}
-use Rattle.code_symbols.specs.steps.Elf.{word_at}
+use Rattle.code_symbols.specs.ElfImages.{word_at}
 use Rattle.code_symbols.specs.declared.elf.arm_plt.CodedEntries.{CodedEntries}
 use Rattle.code_symbols.specs.declared.elf.header.Section.{Section}
 use Rattle.code_symbols.specs.declared.elf.input.Encoding.{Encoding}

@@ -1,6 +1,7 @@
 //! The file header, the section headers and the program headers.
 
-ghost use Rattle.std.specs.Prelude.{◌≤◌, OnOk};
+ghost use Rattle.std.specs.Prelude.{◌≡◌, ◌≤◌, IfOk, OnOk};
+ghost use Rattle.code_symbols.specs.ElfImages.{header_in, section_in, segment_in};
 
 use crate::elf::input::{Encoding, TableEntry, read_table};
 use crate::elf::notes::NoteRange;
@@ -147,7 +148,9 @@ fn parse_encoding(start: &[u8]) -> Result<Encoding, ElfError> {
 }
 
 // The file header in these bytes.
-fn parse_file_header(bytes: &[u8]) -> Result<FileHeader, ElfError> {
+fn parse_file_header(bytes: &[u8]) -> Result<FileHeader, ElfError>
+    ensures { IfOk result (λ header. header ≡ header_in header.encoding bytes.now) }
+{
     let encoding = parse_encoding(bytes)?;
     if bytes.len() < encoding.select(HEADER_SIZE_32, MAX_HEADER_SIZE) {
         return Err(ElfError::Truncated(ElfTable::FileHeader));
@@ -199,7 +202,9 @@ fn read_headers<R: PlacedSource>(
     }
 }
 
-fn parse_section(entry: TableEntry<'_>) -> Section {
+fn parse_section(entry: TableEntry<'_>) -> Section
+    ensures { result ≡ section_in entry.entry.encoding entry.entry.bytes.now }
+{
     Section {
         name: entry.read_u32(0),
         section_type: entry.read_u32(4),
@@ -257,7 +262,9 @@ pub(crate) fn read_sections<R: PlacedSource>(
     Ok(sections)
 }
 
-fn parse_segment(entry: TableEntry<'_>) -> Segment {
+fn parse_segment(entry: TableEntry<'_>) -> Segment
+    ensures { result ≡ segment_in entry.entry.encoding entry.entry.bytes.now }
+{
     Segment {
         offset: entry.word(4, 8),
         address: entry.word(8, 16),

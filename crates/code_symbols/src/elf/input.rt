@@ -1,6 +1,6 @@
 //! Tables of an ELF file, and the numbers in their entries.
 ghost use Rattle.std.specs.Prelude.{◌≡◌, ◌≤◌, slice_index};
-ghost use Rattle.code_symbols.specs.steps.Elf.{by_class, number_at, word_at};
+ghost use Rattle.code_symbols.specs.ElfImages.{by_class, half_at, number_at, word_at};
 
 use crate::error::{ElfError, ElfTable};
 use perfdata_base::endian;
@@ -76,8 +76,7 @@ impl TableEntry<'_> {
 
     // A number of four bytes, at an offset that depends on the class.
     pub(crate) fn half(&self, at_32: usize, at_64: usize) -> u32
-        ensures { result
-            ≡ number_at self.now.encoding self.now.bytes.now (by_class self.now.encoding at_32 at_64) 4 }
+        ensures { result ≡ half_at self.now.encoding self.now.bytes.now at_32 at_64 }
     {
         self.read_u32(self.encoding.select(at_32, at_64))
     }

@@ -1,6 +1,8 @@
 //! Notes, and the build id in them.
 
-ghost use Rattle.std.specs.Prelude.{◌^◌, ◌<◌, ◌≤◌, IfSome, length};
+ghost use Rattle.std.specs.Prelude.{◌≡◌, ◌^◌, ◌<◌, ◌≤◌, IfNone, IfSome, length};
+ghost use Rattle.code_symbols.specs.Notes.{IsComplete, note_alignment, round_up};
+ghost use Rattle.code_symbols.specs.steps.Notes.{IsLayout};
 
 use crate::elf::header::{NOTE_SECTION, Section};
 use crate::elf::input::{Encoding, TableEntry};
@@ -45,7 +47,8 @@ pub(crate) fn add_note_sections(
 // The least multiple of the alignment that is at least `value`.
 fn aligned(value: usize, has_align_8: bool) -> usize
     requires { value < 2 ^ 63 }
-    ensures { value ≤ result }
+    ensures least { value ≤ result }
+    ensures is { result ≡ round_up value (note_alignment has_align_8) }
 {
     if has_align_8 {
         (value + 7) / 8 * 8
@@ -68,6 +71,10 @@ fn note_layout(entry: TableEntry<'_>, has_align_8: bool) -> Option<NoteLayout>
     ensures description { IfSome result (λ layout. layout.owner_end ≤ layout.description) }
     ensures order { IfSome result (λ layout. layout.description ≤ layout.description_end) }
     ensures within { IfSome result (λ layout. layout.description_end ≤ length entry.entry.bytes.now) }
+    ensures is { IfSome result
+        (IsLayout entry.entry.encoding (note_alignment has_align_8) entry.entry.bytes.now) }
+    ensures none { IfNone result
+        (¬ IsComplete entry.entry.encoding (note_alignment has_align_8) entry.entry.bytes.now) }
 {
     let owner_end = NOTE_HEADER_SIZE + entry.read_u32(0) as usize;
     let description = aligned(owner_end, has_align_8);

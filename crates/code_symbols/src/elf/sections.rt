@@ -1,5 +1,7 @@
 //! The contents of sections.
 
+ghost use Rattle.std.specs.Prelude.{◌≡◌, slice_get};
+
 use crate::elf::ElfFile;
 use crate::elf::header::{NOBITS, Section};
 use crate::elf::input::{Encoding, TableEntry, read_table};
@@ -62,7 +64,9 @@ struct CompressedParts {
 }
 
 // The section with this index.
-pub(crate) fn find_section(sections: &[Section], index: usize) -> Option<Section> {
+pub(crate) fn find_section(sections: &[Section], index: usize) -> Option<Section>
+    ensures { result ≡ slice_get sections.now index }
+{
     if index < sections.len() {
         Some(sections[index])
     } else {

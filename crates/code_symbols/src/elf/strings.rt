@@ -1,10 +1,12 @@
 //! String tables.
-ghost use Rattle.std.specs.Prelude.{◌≡◌, ◌≤◌, IfOk, length};
+ghost use Rattle.std.specs.List.{position_or_len};
+ghost use Rattle.std.specs.Prelude.{◌≡◌, ◌≤◌, ◌==◌, IfOk, length};
 ghost use Rattle.std.proofs.Props.{props};
-ghost use Rattle.code_symbols.specs.Strings.{AreNuls};
+ghost use Rattle.code_symbols.specs.Strings.{AreNuls, string_in};
 ghost use Rattle.code_symbols.specs.steps.Strings.{IsStringAt, IsStringEnd};
 
 use crate::text::part_end;
+use memchr::memchr;
 use std::alloc::{AllocError, Global};
 
 // The bytes of a string table, and the offsets of its NULs, so that the end of a name is found in logarithmic
@@ -14,6 +16,17 @@ pub(crate) struct Strings {
     bytes: Vec<u8>,
     nuls: Vec<usize>,
     ghost listed: { AreNuls bytes.items nuls.items (length bytes.items) } by { Prim.hlevel props },
+}
+
+// The offset of the first such byte, or the number of bytes if there is none.
+pub(crate) fn byte_offset(byte: u8, bytes: &[u8]) -> usize
+    ensures is { result ≡ position_or_len (λ b. b == byte) bytes.now }
+    ensures within { result ≤ length bytes.now }
+{
+    match memchr(byte, bytes) {
+        Some(at) => at,
+        None => bytes.len(),
+    }
 }
 
 // The offsets of the NULs.
@@ -58,7 +71,8 @@ impl Strings {
 
     // The string that starts at an offset. It is empty if the offset is not in the table.
     pub(crate) fn string(&self, start: usize) -> &[u8]
-        ensures { IsStringAt (bytes_of self.now) start result.now }
+        ensures at { IsStringAt (bytes_of self.now) start result.now }
+        ensures is { result.now ≡ string_in (bytes_of self.now) start }
     {
         if start > self.bytes.len() {
             return &self.bytes[..0];

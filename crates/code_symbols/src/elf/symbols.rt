@@ -1,17 +1,18 @@
 //! The entries of symbol tables.
 
 ghost use Rattle.std.specs.Option.{option_map};
-ghost use Rattle.std.specs.Prelude.{◌≡◌, ◌<◌, true, IfSome, slice_get, slice_index};
-ghost use Rattle.code_symbols.specs.steps.Elf.{AddsEntries, IsDefined, IsOffsetOfAddress, IsRanked};
-ghost use Rattle.code_symbols.specs.steps.Elf.{IsSymbolOffset};
+ghost use Rattle.std.specs.Prelude.{◌≡◌, ◌<◌, true, IfNone, IfSome, OnOk, slice_get, slice_index};
+ghost use Rattle.code_symbols.specs.steps.Elf.{AddsAll, AddsEntries, IsDefined, IsOffsetOfAddress, IsRanked};
+ghost use Rattle.code_symbols.specs.steps.Elf.{IsLeftOut, IsListed, IsSymbolOffset, section_of_symbol};
 ghost use Rattle.code_symbols.specs.steps.Elf.{elf_symbol_in, section_index_of, section_offset};
 ghost use Rattle.code_symbols.specs.steps.Elf.{symbol_address};
-ghost use Rattle.code_symbols.specs.steps.Elf.{IsCompatibility, is_hidden};
-ghost use Rattle.code_symbols.specs.steps.Versions.{IsOtherVersion};
+ghost use Rattle.code_symbols.specs.steps.Elf.{IsCompatibility, end_of_section, is_hidden, is_label};
+ghost use Rattle.code_symbols.specs.steps.Elf.{is_listed, is_mapping_name};
+ghost use Rattle.code_symbols.specs.steps.Versions.{IsOtherVersion, printed_len};
 
 use crate::elf::header::{FileHeader, RELOCATABLE, Section, Segment};
 use crate::elf::input::{Encoding, TableEntry};
-use crate::elf::strings::Strings;
+use crate::elf::strings::{Strings, byte_offset};
 use crate::error::{ElfError, ElfTable};
 use crate::ranked::RankedSymbol;
 use crate::symbol::Symbol;
@@ -109,7 +110,9 @@ pub(crate) fn parse_symbol(entry: TableEntry<'_>) -> ElfSymbol
 }
 
 // Whether a name is that of a mark between code and data in code for Arm and RISC-V.
-fn is_mapping_symbol(name: &[u8]) -> bool {
+fn is_mapping_symbol(name: &[u8]) -> bool
+    ensures { result ≡ is_mapping_name name.now }
+{
     name.len() >= 2 && name[0] == b'$' && matches!(name[1], b'a' | b'd' | b't' | b'x')
 }
 
@@ -131,10 +134,14 @@ fn is_other_version(name: &[u8]) -> bool
 }
 
 // The length of a name without its default version.
-fn printed_len(name: &[u8]) -> usize {
-    match memchr(VERSION_MARK, name) {
-        Some(at) if at > 0 && name_byte(name, at.saturating_add(1)) == VERSION_MARK => at,
-        _ => name.len(),
+fn printed_len(name: &[u8]) -> usize
+    ensures { result ≡ printed_len name.now }
+{
+    let end = byte_offset(VERSION_MARK, name);
+    if end > 0 && name_byte(name, end.saturating_add(1)) == VERSION_MARK {
+        end
+    } else {
+        name.len()
     }
 }
 
@@ -184,6 +191,16 @@ impl SymbolContext<'_> {
         Some(symbol.section as usize)
     }
 
+    // The section of the symbol with an index, or `None` if it has no section.
+    fn symbol_section(&self, symbol: &ElfSymbol, symbol_index: usize) -> Option<Section>
+        ensures { result ≡ section_of_symbol self.now symbol.now symbol_index }
+    {
+        match self.section_index(symbol, symbol_index) {
+            Some(index) => self.section(index),
+            None => None,
+        }
+    }
+
     fn section(&self, index: usize) -> Option<Section>
         ensures { result ≡ slice_get self.now.sections.now index }
     {
@@ -195,7 +212,9 @@ impl SymbolContext<'_> {
     }
 
     // Whether a symbol without a type is a label in code.
-    fn is_label(&self, symbol: &ElfSymbol, section: Option<usize>) -> bool {
+    fn is_label(&self, symbol: &ElfSymbol, section: Option<usize>) -> bool
+        ensures { result ≡ is_label self.now symbol.now section }
+    {
         let Some(index) = section else {
             return false;
         };
@@ -208,7 +227,8 @@ impl SymbolContext<'_> {
 
     // Whether a symbol is one of a function, an object or a label.
     fn is_listed(&self, symbol: &ElfSymbol, section: Option<usize>) -> bool
-        ensures { result ≡ true → IsDefined symbol.now }
+        ensures defined { result ≡ true → IsDefined symbol.now }
+        ensures is { result ≡ is_listed self.now symbol.now section }
     {
         if symbol.name == 0 || symbol.section == UNDEFINED || symbol.section == ABSOLUTE {
             return false;
@@ -263,7 +283,9 @@ impl SymbolContext<'_> {
 
     // The symbol of the entry with an index, if it is listed.
     fn ranked(&self, symbol: &ElfSymbol, symbol_index: usize) -> Option<RankedSymbol>
-        ensures { IfSome result (λ r. IsRanked self.now symbol.now symbol_index r) }
+        ensures ranked { IfSome result (λ r. IsRanked self.now symbol.now symbol_index r) }
+        ensures listed { IfSome result (λ r. IsListed self.now symbol.now symbol_index r) }
+        ensures none { IfNone result (IsLeftOut self.now symbol.now symbol_index) }
     {
         let section_index = self.section_index(symbol, symbol_index);
         if !self.is_listed(symbol, section_index) {
@@ -271,37 +293,36 @@ impl SymbolContext<'_> {
         }
         let name_start = symbol.name as usize;
         let name = self.names.string(name_start);
-        let name_end = name_start.saturating_add(printed_len(name));
-        if name_end <= name_start {
+        let name_len = printed_len(name);
+        if name_len == 0 {
             return None;
         }
-        let section = match section_index {
-            Some(index) => self.section(index),
-            None => None,
-        };
+        let section = self.symbol_section(symbol, symbol_index);
         let start = self.symbol_offset(symbol, section)?;
         Some(RankedSymbol {
             symbol: Symbol {
                 start,
                 size: symbol.size,
                 name_start,
-                name_end,
+                name_end: name_start.saturating_add(name_len),
             },
             is_made: false,
             is_compatibility: self.is_compatibility(symbol, symbol_index),
             is_weak: symbol.binding == WEAK,
             is_global: symbol.binding == GLOBAL,
-            section_end: section_end(section, symbol.value, start),
+            section_end: section_end(section, self.symbol_address(symbol), start),
         })
     }
 }
 
-// The end of a symbol's section, in the units of its start.
-fn section_end(section: Option<Section>, value: u64, start: u64) -> u64 {
+// The end of a section, in the units of `start`, which is the offset of `address`.
+fn section_end(section: Option<Section>, address: u64, start: u64) -> u64
+    ensures { result ≡ end_of_section section address start }
+{
     match section {
         Some(section) => {
             let end = section.address.saturating_add(section.size);
-            start.saturating_add(end.saturating_sub(value))
+            start.saturating_add(end.saturating_sub(address))
         }
         None => u64::MAX,
     }
@@ -314,7 +335,9 @@ pub(crate) fn add_symbols(
     entry_size: u64,
     symbols: &mut Vec<RankedSymbol>,
 ) -> Result<(), ElfError>
-    ensures { AddsEntries context.now entries.now entry_size symbols.old.items symbols.new.items }
+    ensures each { AddsEntries context.now entries.now entry_size symbols.old.items symbols.new.items }
+    ensures all { OnOk result
+        (AddsAll context.now entries.now entry_size symbols.old.items symbols.new.items) }
 {
     let encoding = context.header.encoding;
     if entry_size < min_symbol_size(encoding) as u64 {
