@@ -1,5 +1,5 @@
 -- A builder as it is given one more record.
-use Rattle.std.proofs.Common.{◌≡◌, ◌∙◌, ◌+◌, ◌<◌, inl, inr, ap, refl, sym, subst, ℕ, ℤ, Bool, true, false, List, [], ◌∷◌, ◌++◌, get_or, length, map, slice_get, take, Option, None, Some}
+use Rattle.std.proofs.Common.{◌≡◌, ◌∙◌, ◌+◌, ◌<◌, inl, inr, ap, refl, sym, subst, ℕ, ℤ, Bool, true, false, List, [], ◌∷◌, ◌++◌, get_or, length, map, slice_get, take, Option, None, Some, IfSome}
 use Rattle.std.proofs.lemmas.List.{append-nil, map-append, take_more}
 use Rattle.std.proofs.lemmas.List.Concat.{flat_map-append}
 use Rattle.std.proofs.lemmas.Option.{get_or_from_slice_get, slice_get_within}
@@ -17,6 +17,7 @@ use Rattle.perfdata_profile.specs.steps.Locating.{IsTime, LocatorGrows}
 use Rattle.perfdata_profile.specs.Profiles.{lists_of, valued_entry, valued_sample}
 use Rattle.perfdata_profile.specs.Names.{number_of}
 use Rattle.perfdata_profile.specs.Resolving.{IsIdOf, Meaning}
+use Rattle.perfdata_profile.specs.SampleLists.{IsEntryOf, IsListed, ListsIfSome, ListsSamples, listed_in, selected_times}
 use Rattle.perfdata_profile.specs.SampleSums.{TalliesSamples, entries_of, then_counted}
 use Rattle.perfdata_profile.specs.Samples.{AreCounted, AreRelated, IsSample, IsThread, Locates, passed, sample, Given, applied_as, applied_by, applied_in, is_selected, is_selected_as, sample_task}
 use Rattle.perfdata_profile.specs.Interned.{stack_number}
@@ -33,7 +34,9 @@ use Rattle.perfdata_profile.specs.declared.options.ProfileOptions.{ProfileOption
 use Rattle.perfdata_profile.specs.declared.options.ThreadIds.{ThreadIds}
 use Rattle.perfdata_profile.specs.declared.profile.Profile.{Profile}
 use Rattle.perfdata_profile.specs.declared.stacks.StackId.{StackId}
+use Rattle.perfdata_profile.specs.declared.sample_list.SampleList.{SampleList}
 use Rattle.perfdata_profile.specs.declared.sums.SampleKey.{SampleKey}
+use Rattle.perfdata_profile.specs.declared.sums.SampleSums.{SampleSums}
 use Rattle.perfdata_profile.specs.declared.sums.SampleWeight.{SampleWeight}
 use Rattle.perfdata_profile.specs.declared.sums.Sums.{Sums}
 use Rattle.perfdata_profile.specs.declared.sums.Thread.{Thread}
@@ -41,6 +44,7 @@ use Rattle.perfdata_profile.specs.declared.interned.Interned.{Interned}
 use Rattle.perfdata_profile.proofs.Counting.{counted_keys, counted_map, counted_number, counted_weaker, related_push}
 use Rattle.perfdata_profile.proofs.Elements.{old_or_last}
 use Rattle.perfdata_profile.proofs.Growing.{key_kept, key_within, lists_trans, locations_kept, locations_within, none_at, stack_within, stack_kept as stack_value_kept}
+use Rattle.perfdata_profile.proofs.Listing.{related_map, times_push, times_stay}
 use Rattle.perfdata_profile.proofs.Looking.{cached_mapped}
 use Rattle.perfdata_profile.proofs.Valuing.{tallies_values, value_is}
 use Rattle.perfdata_spaces.specs.AddressSpaces.{Follows, mapping_values, name_effects}
@@ -175,8 +179,8 @@ module _ (meaning : Meaning) where
   }
 
   module _ {R : Type 0} (options : ProfileOptions) (given : List Given) (old new : ProfileBuilder R) (builds : Builds meaning options given old) where
-    pub builds_counted : (misc : ℕ) (s : SampleRecord) (weight : SampleWeight) (key : SampleKey) → options_of new ≡ options_of old → new.spaces ≡ old.spaces → LocatorGrows old.locator new.locator → CacheHolds meaning options.detail (mapping_values old.spaces) new.locator → ChainsHold meaning options.detail (located_lists new.locator) (applied_in given) new.chains → HasKey meaning (located_lists new.locator) options (applied_in given) misc s weight.column key → ((counted : List (Counted SampleKey)) → TalliesSamples counted old.sums → TalliesSamples (then_counted counted key weight.weight) new.sums) → Builds meaning options (given ++ record { misc = misc; event = Sample s; weight = Some weight } ∷ []) new
-    builds_counted misc s weight key same_options spaces grows cache chains has tallies =
+    pub builds_counted : (misc : ℕ) (s : SampleRecord) (weight : SampleWeight) (key : SampleKey) → options_of new ≡ options_of old → new.spaces ≡ old.spaces → LocatorGrows old.locator new.locator → CacheHolds meaning options.detail (mapping_values old.spaces) new.locator → ChainsHold meaning options.detail (located_lists new.locator) (applied_in given) new.chains → HasKey meaning (located_lists new.locator) options (applied_in given) misc s weight.column key → ((counted : List (Counted SampleKey)) → TalliesSamples counted old.sums → TalliesSamples (then_counted counted key weight.weight) new.sums) → ((times : List (Option ℕ)) (counted : List (Counted SampleKey)) → ListsIfSome times counted (entries_of old.sums) old.samples → ListsIfSome (times ++ s.timestamp ∷ []) (then_counted counted key weight.weight) (entries_of new.sums) new.samples) → Builds meaning options (given ++ record { misc = misc; event = Sample s; weight = Some weight } ∷ []) new
+    builds_counted misc s weight key same_options spaces grows cache chains has tallies lists =
         let last : Given = record { misc = misc; event = Sample s; weight = Some weight } in
         let same = applied_push given last ∙ append-nil (applied_in given) in
         let kept = counted_weaker (HasKey meaning (located_lists old.locator) options) (HasKey meaning (located_lists new.locator) options) (key_stays options (located_lists old.locator) (located_lists new.locator) grows.lists old.locator.tables.within) given builds.counted builds.are in
@@ -188,10 +192,11 @@ module _ (meaning : Meaning) where
           counted = then_counted builds.counted key weight.weight;
           are = sample (given ++ last ∷ []) given (then_counted builds.counted key weight.weight) builds.counted misc s weight key refl refl has kept;
           sums = tallies builds.counted builds.sums;
+          listed = subst (λ (times : List (Option ℕ)). ListsIfSome times (then_counted builds.counted key weight.weight) (entries_of new.sums) new.samples) (sym (times_push given last)) (lists (selected_times given) builds.counted builds.listed);
         }
 
-    pub builds_applied : (last : Given) → is_selected last ≡ false → options_of new ≡ options_of old → new.locator ≡ old.locator → new.sums ≡ old.sums → Grows (mapping_values old.spaces) (mapping_values new.spaces) → Follows (applied_in given ++ applied_by last) new.spaces → ChainsHold meaning options.detail (located_lists new.locator) (applied_in given ++ applied_by last) new.chains → Builds meaning options (given ++ last ∷ []) new
-    builds_applied last not same_options locator sums grows follows chains = record {
+    pub builds_applied : (last : Given) → is_selected last ≡ false → options_of new ≡ options_of old → new.locator ≡ old.locator → new.sums ≡ old.sums → new.samples ≡ old.samples → Grows (mapping_values old.spaces) (mapping_values new.spaces) → Follows (applied_in given ++ applied_by last) new.spaces → ChainsHold meaning options.detail (located_lists new.locator) (applied_in given ++ applied_by last) new.chains → Builds meaning options (given ++ last ∷ []) new
+    builds_applied last not same_options locator sums samples grows follows chains = record {
       has_options = same_options ∙ builds.has_options;
       follows = subst (λ (r : List Applied). Follows r new.spaces) (sym (applied_push given last)) follows;
       cache = subst (CacheHolds meaning options.detail (mapping_values new.spaces)) (sym locator) (cached_mapped meaning options.detail (located_lists old.locator) (mapping_values old.spaces) (mapping_values new.spaces) grows old.locator.cache builds.cache);
@@ -199,22 +204,26 @@ module _ (meaning : Meaning) where
       counted = builds.counted;
       are = passed (given ++ last ∷ []) given builds.counted last refl not (subst (λ (l : Locator). AreCounted (HasKey meaning (located_lists l) options) given builds.counted) (sym locator) builds.are);
       sums = subst (TalliesSamples builds.counted) (sym sums) builds.sums;
+      listed =
+          let kept = subst (λ (s : SampleSums). ListsIfSome (selected_times given) builds.counted (entries_of s) old.samples) (sym sums) builds.listed in
+          let same = subst (ListsIfSome (selected_times given) builds.counted (entries_of new.sums)) (sym samples) kept in
+          subst (λ (times : List (Option ℕ)). ListsIfSome times builds.counted (entries_of new.sums) new.samples) (sym (times_stay given last not)) same;
     }
 
   -- A sample that isn't selected changes nothing.
   pub builds_unselected : {R : Type 0} → (options : ProfileOptions) (given : List Given) (builder : ProfileBuilder R) (misc : ℕ) (s : SampleRecord) → Builds meaning options given builder → Builds meaning options (given ++ record { misc = misc; event = Sample s; weight = None } ∷ []) builder
-  builds_unselected options given builder misc s builds = builds_applied options given builder builder builds (record { misc = misc; event = Sample s; weight = None }) refl refl refl refl ([], sym (append-nil (mapping_values builder.spaces))) (subst (λ (r : List Applied). Follows r builder.spaces) (sym (append-nil (applied_in given))) builds.follows) (subst (λ (r : List Applied). ChainsHold meaning options.detail (located_lists builder.locator) r builder.chains) (sym (append-nil (applied_in given))) builds.chains)
+  builds_unselected options given builder misc s builds = builds_applied options given builder builder builds (record { misc = misc; event = Sample s; weight = None }) refl refl refl refl refl ([], sym (append-nil (mapping_values builder.spaces))) (subst (λ (r : List Applied). Follows r builder.spaces) (sym (append-nil (applied_in given))) builds.follows) (subst (λ (r : List Applied). ChainsHold meaning options.detail (located_lists builder.locator) r builder.chains) (sym (append-nil (applied_in given))) builds.chains)
 
   once_of : (tables : Interned) → AreOnce (lists_of tables)
   once_of tables = record { names = tables.names.once; ranges = tables.mappings.once; lines = tables.lines.once; locations = tables.locations.once; stacks = tables.stacks.once }
 
-  pub profile_of : {R : Type 0} → (options : ProfileOptions) (given : List Given) (builder : ProfileBuilder R) (profile : Profile) → Builds meaning options given builder → profile.tables ≡ builder.locator.tables → profile.sums ≡ builder.sums → IsProfileOf meaning options given profile
-  profile_of options given builder profile builds tables sums =
+  pub profile_of : {R : Type 0} → (options : ProfileOptions) (given : List Given) (builder : ProfileBuilder R) (profile : Profile) → Builds meaning options given builder → profile.tables ≡ builder.locator.tables → profile.sums ≡ builder.sums → profile.samples ≡ builder.samples → IsProfileOf meaning options given profile
+  profile_of options given builder profile builds tables sums samples =
       let lists = located_lists builder.locator in
       let keys : (index : ℕ) (one : Counted SampleKey) → slice_get builds.counted index ≡ Some one → IsKey lists one.key = counted_keys (HasKey meaning lists options) (IsKey lists) (λ before misc s column key has. has.within) given builds.counted builds.are in
       let tallies = tallies_values lists builds.counted (entries_of builder.sums) (once_of builder.locator.tables) builder.locator.tables.within keys builds.sums.entries in
       let valued = counted_map (sample_value lists) (HasKey meaning lists options) (IsSample meaning options) (λ before misc s column key has. has.is) given builds.counted builds.are in
-      let both : (record { tables = builder.locator.tables; sums = builder.sums }) ≡ profile = sym (λ i. record { tables = tables i; sums = sums i }) in
+      let both : (record { tables = builder.locator.tables; sums = builder.sums; samples = builder.samples }) ≡ profile = sym (λ i. record { tables = tables i; sums = sums i; samples = samples i }) in
       record {
         counted = map (valued_sample lists) builds.counted;
         are = valued;
@@ -224,3 +233,26 @@ module _ (meaning : Meaning) where
             let c = builds.sums.entries.only index key sums at in
             subst (IsKey lists) c.3 (keys c.0 c.1 c.2));
       }
+
+  module _ {R : Type 0} (options : ProfileOptions) (given : List Given) (builder : ProfileBuilder R) (builds : Builds meaning options given builder) where
+    abbrev built : Profile
+    built = record { tables = builder.locator.tables; sums = builder.sums; samples = builder.samples }
+
+    lists_samples : (samples : Option SampleList) → ListsIfSome (selected_times given) builds.counted (entries_of builder.sums) samples → IfSome samples (ListsSamples meaning options given built)
+    unfolding profile_of
+    lists_samples None lists = tt
+    lists_samples (Some list) lists =
+        let lists_there = located_lists builder.locator in
+        let is = profile_of options given builder built builds refl refl refl in
+        record {
+          counted = map (valued_sample lists_there) builds.counted;
+          are = is.are;
+          listed = related_map (IsEntryOf (entries_of builder.sums)) (IsListed built) (valued_sample lists_there) (λ listed one at. record { key = one.key; sums = at.sums; entry = at.entry; value = refl; weight = at.weight }) (listed_in list) builds.counted lists.listed;
+          times = lists.times;
+          sums = is.sums;
+        }
+
+    pub list_of : (profile : Profile) → profile.tables ≡ builder.locator.tables → profile.sums ≡ builder.sums → profile.samples ≡ builder.samples → IfSome profile.samples (ListsSamples meaning options given profile)
+    list_of profile tables sums samples =
+        let both : built ≡ profile = sym (λ i. record { tables = tables i; sums = sums i; samples = samples i }) in
+        subst (λ (p : Profile). IfSome p.samples (ListsSamples meaning options given p)) both (lists_samples builder.samples builds.listed)

@@ -39,6 +39,14 @@ set_elsewhere (e ∷ es) zero (suc other) new apart = refl
 set_elsewhere (e ∷ es) (suc index) zero new apart = refl
 set_elsewhere (e ∷ es) (suc index) (suc other) new apart = set_elsewhere es index other new (λ is. apart (ap suc is))
 
+-- An entry keeps its key as the value of one is set.
+pub set_keeps : {K X : Type 0} → (es : List (K × X)) (index : ℕ) (new : X) (other : ℕ) (key : K) (old : X) → slice_get es other ≡ Some (key, old) → ((now : X) × (slice_get (set_value_at es index new) other ≡ Some (key, now)))
+set_keeps [] index new other key old is = cc
+set_keeps {K} {X} (e ∷ es) zero new zero key old is = (new, ap (λ (o : Option (K × X)). Some ((unwrap_or o e).0, new)) is)
+set_keeps (e ∷ es) zero new (suc other) key old is = (old, is)
+set_keeps (e ∷ es) (suc index) new zero key old is = (old, is)
+set_keeps (e ∷ es) (suc index) new (suc other) key old is = set_keeps es index new other key old is
+
 pub sum_set : {K X : Type 0} → (f : X → ℕ) (es : List (K × X)) (index : ℕ) (key : K) (old new : X) → slice_get es index ≡ Some (key, old) → sum_by (λ (e : K × X). f e.1) (set_value_at es index new) + f old ≡ sum_by (λ (e : K × X). f e.1) es + f new
 sum_set f [] index key old new is = cc
 sum_set {K} {X} f (e ∷ es) zero key old new is =

@@ -7,6 +7,7 @@ mod Deciding
 mod Erasing
 pub mod Elements
 pub mod Growing
+mod Listing
 mod Looking
 mod Merging
 mod Resolving

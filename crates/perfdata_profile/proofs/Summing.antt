@@ -1,5 +1,5 @@
 -- Sums of samples as one more is counted.
-use Rattle.std.proofs.Common.{◌≡◌, ◌∙◌, ◌+◌, ◌<◌, ◌≤◌, ◌^◌, ap, refl, sym, subst, arith, ℕ, List, [], ◌∷◌, ◌++◌, length, length-append, slice_get, position, None, Some}
+use Rattle.std.proofs.Common.{◌≡◌, ◌∙◌, ◌+◌, ◌<◌, ◌≤◌, ◌^◌, inl, inr, ap, refl, sym, subst, arith, ℕ, List, [], ◌∷◌, ◌++◌, length, length-append, slice_get, position, None, Some}
 use Rattle.std.specs.List.{sum_by}
 use Rattle.std.specs.Bool.{Decides}
 use Rattle.indexmap.specs.IndexMap.{set_value_at}
@@ -7,14 +7,14 @@ use Rattle.std.specs.Map.{keys_of, lookup}
 use Rattle.std.proofs.Common.{true≢false}
 use Rattle.std.proofs.lemmas.List.Sums.{sum_by-cons, sum_by_push}
 use Rattle.std.specs.Prelude.{Bool}
-use Rattle.perfdata_profile.specs.SampleSums.{TalliesSamples, entries_of, then_counted, total_of}
+use Rattle.perfdata_profile.specs.SampleSums.{IsEntryIndex, KeepsKeys, TalliesSamples, entries_of, then_counted, total_of}
 use Rattle.perfdata_profile.specs.Sums.{entry_samples, entry_weight, sums_after}
 use Rattle.perfdata_profile.specs.Tallies.{Counted, IsUnder, Tallies, one_sample, weight_of}
 use Rattle.perfdata_profile.specs.declared.sums.SampleKey.{SampleKey}
 use Rattle.perfdata_profile.specs.declared.sums.SampleSums.{SampleSums}
 use Rattle.perfdata_profile.specs.declared.sums.Sums.{Sums}
 use Rattle.perfdata_profile.proofs.Adding.{sum_at_most, tally_first, tally_raised}
-use Rattle.perfdata_profile.proofs.Elements.{sum_set}
+use Rattle.perfdata_profile.proofs.Elements.{slice_get_last, slice_get_more, sum_set}
 use Rattle.perfdata_profile.proofs.Searching.{found_at, map_at, none_found}
 
 sum_of_ones : {K : Type 0} → (counted : List (Counted K)) → sum_by one_sample counted ≡ length counted
@@ -76,13 +76,21 @@ module _ (es : List (SampleKey × Sums)) (index : ℕ) (key : SampleKey) (old : 
       let without : sum_by entry_weight (set_value_at es index none) + old.weight ≡ sum_by entry_weight es + 0 = sum_set (λ (s : Sums). s.weight) es index key old none at in
       omega (arith, without)
 
+  pub raised_is : (new : List (SampleKey × Sums)) (before total : Sums) (weight : ℕ) → before.samples ≡ sum_by entry_samples es → before.weight ≡ sum_by entry_weight es → total ≡ sums_after before weight → total.samples < 2 ^ 63 → total.weight < 2 ^ 63
+      → ((sums_after old weight).samples < 2 ^ 63 → (sums_after old weight).weight < 2 ^ 63 → new ≡ set_value_at es index (sums_after old weight))
+      → new ≡ set_value_at es index (sums_after old weight)
+  raised_is new before total weight samples_are weight_is total_is samples_fit weight_fits raises =
+      let samples_total : total.samples ≡ before.samples + 1 = ap (λ (s : Sums). s.samples) total_is in
+      let weight_total : total.weight ≡ before.weight + weight = ap (λ (s : Sums). s.weight) total_is in
+      raises (omega (arith, within_samples)) (omega (arith, within_weight))
+
   pub raised_totals : (new : List (SampleKey × Sums)) (before total : Sums) (weight : ℕ) → before.samples ≡ sum_by entry_samples es → before.weight ≡ sum_by entry_weight es → total ≡ sums_after before weight → total.samples < 2 ^ 63 → total.weight < 2 ^ 63
       → ((sums_after old weight).samples < 2 ^ 63 → (sums_after old weight).weight < 2 ^ 63 → new ≡ set_value_at es index (sums_after old weight))
       → (total.samples ≡ sum_by entry_samples new) × (total.weight ≡ sum_by entry_weight new)
   raised_totals new before total weight samples_are weight_is total_is samples_fit weight_fits raises =
       let samples_total : total.samples ≡ before.samples + 1 = ap (λ (s : Sums). s.samples) total_is in
       let weight_total : total.weight ≡ before.weight + weight = ap (λ (s : Sums). s.weight) total_is in
-      let is = raises (omega (arith, within_samples)) (omega (arith, within_weight)) in
+      let is = raised_is new before total weight samples_are weight_is total_is samples_fit weight_fits raises in
       let samples_after : sum_by entry_samples (set_value_at es index (sums_after old weight)) + old.samples ≡ sum_by entry_samples es + (old.samples + 1) = sum_set (λ (s : Sums). s.samples) es index key old (sums_after old weight) at in
       let weight_after : sum_by entry_weight (set_value_at es index (sums_after old weight)) + old.weight ≡ sum_by entry_weight es + (old.weight + weight) = sum_set (λ (s : Sums). s.weight) es index key old (sums_after old weight) at in (
         omega (arith, samples_after, ap (sum_by entry_samples) is),
@@ -110,3 +118,21 @@ pushed_totals es new key sums before total samples_are weight_is samples_total w
       omega (arith, samples_are, samples_total, sum_by_push entry_samples es one, ap (sum_by entry_samples) is),
       omega (arith, weight_is, weight_total, sum_by_push entry_weight es one, ap (sum_by entry_weight) is),
     )
+
+-- Entries after one more sample: those that were there keep their keys, and the key of the sample has the entry with its index.
+module _ (es new : List (SampleKey × Sums)) (key : SampleKey) where
+  pub raised_entry : KeepsKeys es new → (at : ℕ) (sums : Sums) → slice_get es at ≡ Some (key, sums) → (index : ℕ) → IsEntryIndex es key index → ((now : Sums) × (slice_get new index ≡ Some (key, now)))
+  raised_entry keeps at sums found index is = elim is [
+    | inl there ↦ keeps index key there.0 there.1
+    | inr none ↦ absurd (none.0 at sums found)
+  ]
+
+  module _ (sums : Sums) (longer : new ≡ es ++ (key, sums) ∷ []) where
+    pub first_keeps : KeepsKeys es new
+    first_keeps = λ index other old at. (old, ap (λ l. slice_get l index) longer ∙ slice_get_more es ((key, sums) ∷ []) index (other, old) at)
+
+    pub first_entry : (index : ℕ) → IsEntryIndex es key index → ((now : Sums) × (slice_get new index ≡ Some (key, now)))
+    first_entry index is = elim is [
+      | inl there ↦ first_keeps index key there.0 there.1
+      | inr none ↦ (sums, ap (λ l. slice_get l index) longer ∙ ap (slice_get (es ++ (key, sums) ∷ [])) none.1 ∙ slice_get_last es (key, sums))
+    ]

@@ -9,6 +9,7 @@ pub mod Names
 pub mod Profiles
 pub mod Resolving
 pub mod SampleSums
+pub mod SampleLists
 pub mod Samples
 pub mod Sums
 pub mod Interned

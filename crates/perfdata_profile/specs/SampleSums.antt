@@ -1,5 +1,5 @@
 -- The samples that are counted, and their sums.
-use Rattle.std.specs.Prelude.{◌≡◌, ℕ, ◌≤◌, ◌^◌, ◌⊎◌, List, [], ◌∷◌, ◌++◌, length}
+use Rattle.std.specs.Prelude.{◌≡◌, ℕ, ◌≤◌, ◌^◌, ◌⊎◌, List, [], ◌∷◌, ◌++◌, length, slice_get, Some}
 use Rattle.std.specs.List.{sum_by}
 use Rattle.perfdata_profile.specs.Sums.{sums_after}
 use Rattle.perfdata_profile.specs.Tallies.{Counted, Tallies, weight_of}
@@ -40,3 +40,13 @@ IsCause total weight Memory = Unit {0}
 pub record KeepsSums (old new : SampleSums) : Type 0 where
   pub entries : entries_of new ≡ entries_of old
   pub total : total_of new ≡ total_of old
+
+-- Each entry keeps its key and its index.
+abbrev pub KeepsKeys : List (SampleKey × Sums) → List (SampleKey × Sums) → Type 0
+KeepsKeys old new = (index : ℕ) (key : SampleKey) (sums : Sums) → slice_get old index ≡ Some (key, sums)
+    → ((now : Sums) × (slice_get new index ≡ Some (key, now)))
+
+-- The index of the entry of a key, or the one after all entries if the key has none.
+abbrev pub IsEntryIndex : List (SampleKey × Sums) → SampleKey → ℕ → Type 0
+IsEntryIndex entries key index = ((sums : Sums) × (slice_get entries index ≡ Some (key, sums)))
+    ⊎ (((other : ℕ) (sums : Sums) → slice_get entries other ≡ Some (key, sums) → ⊥) × (index ≡ length entries))

@@ -1,14 +1,19 @@
 //! Counts the samples of a recording.
 
-ghost use Rattle.std.specs.Prelude.{◌≡◌, [], ◌∷◌, ◌++◌, ℕ, true, List, Option, Some, OnErr, OnOk, IfOk};
+ghost use Rattle.std.specs.Prelude.{◌≡◌, [], ◌∷◌, ◌++◌, ℕ, true, List, Option, Some};
+ghost use Rattle.std.specs.Prelude.{OnErr, OnOk, IfOk, IfSome};
 ghost use Rattle.perfdata_profile.specs.Chains.{ChainsHold, IsStackOf};
 ghost use Rattle.perfdata_profile.specs.Samples.{sample_task};
 ghost use Rattle.perfdata_profile.specs.Values.{AreLocations, IsKey, IsName};
-ghost use Rattle.perfdata_profile.specs.Building.{HasKey};
+ghost use Rattle.perfdata_profile.specs.Building.{HasKey, has_list};
 ghost use Rattle.perfdata_profile.specs.steps.Building.{HasStack, HasThread};
 ghost use Rattle.perfdata_profile.specs.Locating.{CacheHolds, located_lists};
 ghost use Rattle.perfdata_profile.specs.steps.Locating.{IsTime, LocatorGrows};
-ghost use Rattle.perfdata_profile.specs.SampleSums.{KeepsSums};
+ghost use Rattle.perfdata_profile.specs.SampleLists.{ListsCounted, ListsIfSome, listed_in};
+ghost use Rattle.perfdata_profile.specs.SampleSums.{KeepsSums, TalliesSamples, entries_of, then_counted};
+ghost use Rattle.perfdata_profile.specs.Tallies.{Counted};
+ghost use Rattle.perfdata_profile.specs.declared.sums.SampleKey.{SampleKey};
+ghost use Rattle.perfdata_profile.specs.declared.sums.Sums.{Sums};
 ghost use Rattle.perfdata_spaces.specs.AddressSpaces.{Follows, mapping_values};
 ghost use Rattle.perfdata_spaces.specs.Effects.{Applied};
 
@@ -20,6 +25,7 @@ use crate::locations::LocationId;
 use crate::options::{ProfileOptions, ThreadIds};
 use crate::profile::Profile;
 use crate::resolver::Resolver;
+use crate::sample_list::{ListedSample, SampleList};
 use crate::stacks::StackId;
 use crate::sums::{SampleKey, SampleSums, SampleWeight, Thread};
 use perfdata_events::event::EventRecord;
@@ -40,6 +46,7 @@ pub struct ProfileBuilder<R> {
     spaces: AddressSpaces,
     locator: Locator,
     sums: SampleSums,
+    samples: Option<SampleList>,
     chains: ChainCache,
     frames: Vec<SampleFrame>,
     stack: Vec<LocationId>,
@@ -119,9 +126,54 @@ fn sample_thread<R: Resolver>(
     })
 }
 
+// Returns a list without samples, if samples are listed.
+fn new_list(alloc: Global, times: bool) -> Option<SampleList>
+    ensures has { has_list result ≡ times }
+    ensures list { (entries : List (SampleKey × Sums)) → ListsIfSome [] [] entries result }
+{
+    if times {
+        Some(SampleList::new(alloc))
+    } else {
+        None
+    }
+}
+
+// Counts a sample with a key, and lists it.
+fn count_listed(
+    sums: &mut SampleSums,
+    samples: &mut SampleList,
+    key: SampleKey,
+    time: Option<u64>,
+    weight: u64,
+) -> Result<(), ProfileError>
+    ensures ok { OnOk result ((counted : List (Counted SampleKey)) → TalliesSamples counted sums.old →
+        TalliesSamples (then_counted counted key weight) sums.new) }
+    ensures list { OnOk result ((times : List (Option ℕ)) (counted : List (Counted SampleKey)) →
+        ListsCounted times counted (entries_of sums.old) samples.old →
+        ListsCounted (times ++ time ∷ []) (then_counted counted key weight) (entries_of sums.new)
+        samples.new) }
+    ensures err { OnErr result (KeepsSums sums.old sums.new) }
+    ensures same { OnErr result (listed_in samples.new ≡ listed_in samples.old) }
+{
+    let entry = sums.entry_index(&key);
+    samples.push(ListedSample {
+        time,
+        entry,
+        weight,
+    })?;
+    match sums.add(key, weight) {
+        Ok(()) => Ok(()),
+        Err(error) => {
+            samples.remove_last();
+            Err(error)
+        }
+    }
+}
+
 impl<R: Resolver> ProfileBuilder<R> {
     ghost use Rattle.perfdata_events.specs.declared.event.EventRecord.TheVariants.{Sample};
     ghost use Rattle.perfdata_profile.specs.Building.{Builds, IsProfileOf, options_of};
+    ghost use Rattle.perfdata_profile.specs.SampleLists.{ListsSamples};
     ghost use Rattle.perfdata_profile.specs.Samples.{Given, applied_as, applied_in};
     ghost use Rattle.perfdata_profile.specs.declared.options.ProfileOptions.{ProfileOptions};
     ghost use Rattle.perfdata_profile.specs.declared.sums.SampleWeight.{SampleWeight};
@@ -136,6 +188,7 @@ impl<R: Resolver> ProfileBuilder<R> {
             spaces: AddressSpaces::new(alloc),
             locator: Locator::new(alloc, options.detail),
             sums: SampleSums::new(alloc),
+            samples: new_list(alloc, options.times),
             chains: ChainCache::new(alloc),
             frames: Vec::new(alloc),
             stack: Vec::new(alloc),
@@ -148,6 +201,7 @@ impl<R: Resolver> ProfileBuilder<R> {
         ensures options { options_of self.new ≡ options_of self.old }
         ensures spaces { self.new.spaces ≡ self.old.spaces }
         ensures sums { self.new.sums ≡ self.old.sums }
+        ensures samples { self.new.samples ≡ self.old.samples }
         ensures frames { self.new.frames ≡ self.old.frames }
         ensures chains { self.new.chains ≡ self.old.chains }
         ensures grows { LocatorGrows self.old.locator self.new.locator }
@@ -177,6 +231,7 @@ impl<R: Resolver> ProfileBuilder<R> {
         ensures options { options_of self.new ≡ options_of self.old }
         ensures spaces { self.new.spaces ≡ self.old.spaces }
         ensures sums { self.new.sums ≡ self.old.sums }
+        ensures samples { self.new.samples ≡ self.old.samples }
         ensures frames { self.new.frames ≡ self.old.frames }
         ensures grows { LocatorGrows self.old.locator self.new.locator }
         ensures cache { OnOk result ((before : List Applied) → Follows before self.old.spaces →
@@ -217,6 +272,7 @@ impl<R: Resolver> ProfileBuilder<R> {
         ensures options { options_of self.new ≡ options_of self.old }
         ensures spaces { self.new.spaces ≡ self.old.spaces }
         ensures sums { self.new.sums ≡ self.old.sums }
+        ensures samples { self.new.samples ≡ self.old.samples }
         ensures grows { LocatorGrows self.old.locator self.new.locator }
         ensures cache { OnOk result ((before : List Applied) → Follows before self.old.spaces →
             CacheHolds R.meaning self.old.locator.detail (mapping_values self.old.spaces) self.old.locator →
@@ -257,6 +313,32 @@ impl<R: Resolver> ProfileBuilder<R> {
         })
     }
 
+    // Counts a sample with a key, and lists it if samples are listed.
+    fn count_key(
+        &mut self,
+        key: SampleKey,
+        time: Option<u64>,
+        weight: u64,
+    ) -> Result<(), ProfileError>
+        ensures options { options_of self.new ≡ options_of self.old }
+        ensures spaces { self.new.spaces ≡ self.old.spaces }
+        ensures locator { self.new.locator ≡ self.old.locator }
+        ensures chains { self.new.chains ≡ self.old.chains }
+        ensures ok { OnOk result ((counted : List (Counted SampleKey)) →
+            TalliesSamples counted self.old.sums →
+            TalliesSamples (then_counted counted key weight) self.new.sums) }
+        ensures list { OnOk result ((times : List (Option ℕ)) (counted : List (Counted SampleKey)) →
+            ListsIfSome times counted (entries_of self.old.sums) self.old.samples →
+            ListsIfSome (times ++ time ∷ []) (then_counted counted key weight) (entries_of self.new.sums)
+            self.new.samples) }
+        ensures err { OnErr result (KeepsSums self.old.sums self.new.sums) }
+    {
+        let Some(samples) = &mut self.samples else {
+            return self.sums.add(key, weight);
+        };
+        count_listed(&mut self.sums, samples, key, time, weight)
+    }
+
     // Counts a sample.
     fn count(
         &mut self,
@@ -273,7 +355,7 @@ impl<R: Resolver> ProfileBuilder<R> {
         ensures err { OnErr result (KeepsSums self.old.sums self.new.sums) }
     {
         match self.key(misc, sample, weight.column) {
-            Ok(key) => self.sums.add(key, weight.weight),
+            Ok(key) => self.count_key(key, sample.timestamp, weight.weight),
             Err(AllocError) => Err(ProfileError::Memory),
         }
     }
@@ -406,15 +488,26 @@ impl<R: Resolver> ProfileBuilder<R> {
     pub fn finish(self) -> (Profile, R)
         ensures profile { (options : ProfileOptions) (given : List Given) →
             Builds R.meaning options given self → IsProfileOf R.meaning options given result.0 }
+        ensures list { (options : ProfileOptions) (given : List Given) →
+            Builds R.meaning options given self →
+            IfSome result.0.samples (λ list. ListsSamples R.meaning options given result.0 list) }
+        ensures times { (options : ProfileOptions) (given : List Given) →
+            Builds R.meaning options given self → has_list result.0.samples ≡ options.times }
         ensures resolver { result.1 ≡ self.resolver }
     {
         let ProfileBuilder {
             resolver,
             locator,
             sums,
+            samples,
             ..
         } = self;
         let tables = locator.into_tables();
-        (Profile { tables, sums }, resolver)
+        let profile = Profile {
+            tables,
+            sums,
+            samples,
+        };
+        (profile, resolver)
     }
 }

@@ -31,6 +31,8 @@ pub struct ProfileOptions {
     pub detail: Detail,
     /// Which ids threads have.
     pub thread_ids: ThreadIds,
+    /// Whether the samples are listed, with their times.
+    pub times: bool,
 }
 
 impl ThreadIds {

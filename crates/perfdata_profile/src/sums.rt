@@ -1,7 +1,7 @@
 //! The sums of the samples of each thread, stack and event.
 
 ghost use Rattle.std.specs.Prelude.{◌≡◌, ◌+◌, ◌≤◌, ◌<◌, ◌^◌, ◌∷◌, [], ◌++◌, None, Some, List, slice_get};
-ghost use Rattle.std.specs.Prelude.{length, IfErr, IfSome, IfNone, OnErr, OnOk};
+ghost use Rattle.std.specs.Prelude.{ℕ, length, IfErr, IfSome, IfNone, OnErr, OnOk};
 ghost use Rattle.indexmap.specs.IndexMap.{set_value_at};
 ghost use Rattle.indexmap.specs.IndexMap.{get, index_map_len};
 ghost use Rattle.std.specs.List.{sum_by};
@@ -126,9 +126,11 @@ fn raise(entries: &mut IndexMap<SampleKey, Sums>, index: usize, weight: u64)
 }
 
 impl SampleSums {
-    ghost use Rattle.perfdata_profile.specs.SampleSums.{IsCause, KeepsSums, TalliesSamples};
+    ghost use Rattle.perfdata_profile.specs.SampleSums.{IsCause, IsEntryIndex, KeepsKeys, KeepsSums};
+    ghost use Rattle.perfdata_profile.specs.SampleSums.{TalliesSamples};
     ghost use Rattle.perfdata_profile.specs.SampleSums.{entries_of, then_counted, total_of};
     ghost use Rattle.perfdata_profile.specs.Tallies.{Counted};
+    ghost use Rattle.perfdata_profile.specs.declared.sums.Sums.{Sums};
 
     /// Creates sums without samples.
     pub fn new(alloc: Global) -> SampleSums
@@ -151,6 +153,9 @@ impl SampleSums {
     pub fn add(&mut self, key: SampleKey, weight: u64) -> Result<(), ProfileError>
         ensures ok { OnOk result ((counted : List (Counted SampleKey)) → TalliesSamples counted self.old →
             TalliesSamples (then_counted counted key weight) self.new) }
+        ensures keys { OnOk result (KeepsKeys (entries_of self.old) (entries_of self.new)) }
+        ensures entry { OnOk result ((index : ℕ) → IsEntryIndex (entries_of self.old) key index →
+            (sums : Sums) × (slice_get (entries_of self.new) index ≡ Some (key, sums))) }
         ensures err { OnErr result (KeepsSums self.old self.new) }
         ensures cause { IfErr result (λ error. IsCause (total_of self.old) weight error) }
     {
@@ -189,6 +194,16 @@ impl SampleSums {
         }
     }
 
+    // Returns the index of a key, or the one that it gets when it is counted first.
+    pub(crate) fn entry_index(&self, key: &SampleKey) -> usize
+        ensures { IsEntryIndex (entries_of self.now) key.now result }
+    {
+        match self.entries.get_index_of(key) {
+            Some(index) => index,
+            None => self.entries.len(),
+        }
+    }
+
     // Adds a key that wasn't counted before, with its sums.
     fn add_entry(&mut self, key: SampleKey, sums: Sums) -> Result<(), ProfileError> {
         let Some(total) = self.total.checked_sum(sums) else {
@@ -206,10 +221,8 @@ impl SampleSums {
         }
     }
 
-    /// Returns the sums of the keys whose index is marked, in their order. Keys beyond the marks aren't.
-    ///
-    /// Fails if memory runs out.
-    pub fn marked(&self, alloc: Global, marks: &[bool]) -> Result<SampleSums, ProfileError> {
+    // Returns the sums of the keys whose index is marked, in their order. Keys beyond the marks aren't.
+    pub(crate) fn marked(&self, alloc: Global, marks: &[bool]) -> Result<SampleSums, ProfileError> {
         let mut marked = SampleSums::new(alloc);
         for (index, is_marked) in marks.iter().enumerate() {
             if let (true, Some((key, sums))) = (*is_marked, self.get(index)) {

@@ -99,6 +99,7 @@ impl<'a> SampleCounter<'a> {
         let profile_options = ProfileOptions {
             detail,
             thread_ids: options.thread_ids,
+            times: false,
         };
         let mut events = EventTable::new(alloc, options.events);
         events.add_events(perf_file)?;
@@ -335,7 +336,7 @@ impl<'a> SampleCounter<'a> {
             kept.map_err(|_| ProfileError::Memory)?;
         }
         if marks.contains(&false) {
-            profile.sums = profile.sums.marked(alloc, marks.as_slice())?;
+            profile.keep_marked(alloc, marks.as_slice())?;
         }
         let counted = CountedSamples {
             profile,
