@@ -107,6 +107,27 @@ fn index_map_keeps_the_order_of_insertion() {
     assert_eq!(set.into_iter().collect::<Vec<_>>(), order);
 }
 
+// Keys are found by slices of them, the empty one too.
+#[test]
+fn index_sets_are_searched_by_slices() {
+    let (mut lists, mut texts) = (IndexSet::new(Global), IndexSet::new(Global));
+    for number in 0..300_usize {
+        let bytes = vec![b'a' + (number % 3) as u8; number];
+        let text = str::from_utf8(&bytes).expect("text");
+        assert_eq!((lists.get_index_of(bytes.as_slice()), texts.contains(text)), (None, false), "{number}");
+        for is_new in [true, false] {
+            let list = ShimVec::from_slice(Global, &bytes).expect("memory");
+            assert_eq!(lists.insert_full(list).expect("memory"), (number, is_new));
+            let copy = ShimString::from_str(Global, text).expect("memory");
+            assert_eq!(texts.insert(copy).expect("memory"), is_new);
+        }
+        assert_eq!((lists.get_index_of(bytes.as_slice()), texts.get_index_of(text)), (Some(number), Some(number)));
+        let list = ShimVec::from_slice(Global, &bytes).expect("memory");
+        assert_eq!((lists.get_index_of(&list), &lists[number]), (Some(number), &list));
+        assert!(number == 0 || list != lists[number - 1]);
+    }
+}
+
 // Keys of a type that differ in one place have different hashes, and maps have different secrets.
 #[test]
 fn hashes_of_other_keys_are_others() {

@@ -2,7 +2,8 @@
 
 use super::hasher::HashSecrets;
 use super::std::alloc::{AllocError, AllocFailed, Global};
-use ::std::borrow::Borrow;
+use super::std::string::String;
+use super::std::vec::Vec;
 use ::std::fmt;
 use ::std::hash::{BuildHasher, Hash};
 use ::std::ops::{Index, IndexMut};
@@ -10,6 +11,34 @@ use ::std::slice;
 
 /// The fewest places of a table.
 const FIRST_PLACES: usize = 8;
+
+/// What can be looked up among keys: it has the hash of the key that it is equivalent to.
+pub trait Equivalent<K>: Hash {
+    /// Whether it stands for a key.
+    fn is_equivalent(&self, key: &K) -> bool;
+}
+
+impl<K: Eq + Hash> Equivalent<K> for K {
+    #[inline]
+    fn is_equivalent(&self, key: &K) -> bool {
+        self == key
+    }
+}
+
+// As for vectors, no elements aren't compared.
+impl<T: Eq + Hash> Equivalent<Vec<T>> for [T] {
+    #[inline]
+    fn is_equivalent(&self, key: &Vec<T>) -> bool {
+        self.len() == key.len() && (self.is_empty() || *self == **key)
+    }
+}
+
+impl Equivalent<String> for str {
+    #[inline]
+    fn is_equivalent(&self, key: &String) -> bool {
+        self.len() == key.len() && (self.is_empty() || *self == **key)
+    }
+}
 
 // The positions of entries by the hashes of their keys: a table with open addressing. Entries aren't removed.
 struct Table {
@@ -98,10 +127,7 @@ impl<K: Eq + Hash, V> IndexMap<K, V> {
     }
 
     /// The position of a key.
-    pub fn get_index_of<Q: Eq + Hash + ?Sized>(&self, key: &Q) -> Option<usize>
-    where
-        K: Borrow<Q>,
-    {
+    pub fn get_index_of<Q: Equivalent<K> + ?Sized>(&self, key: &Q) -> Option<usize> {
         if self.entries.is_empty() {
             return None;
         }
@@ -110,37 +136,25 @@ impl<K: Eq + Hash, V> IndexMap<K, V> {
 
     // The position of a key with this hash.
     #[inline]
-    fn position<Q: Eq + ?Sized>(&self, hash: u32, key: &Q) -> Option<usize>
-    where
-        K: Borrow<Q>,
-    {
+    fn position<Q: Equivalent<K> + ?Sized>(&self, hash: u32, key: &Q) -> Option<usize> {
         if self.entries.is_empty() {
             return None;
         }
-        self.table.find(hash, |at| self.entries[at].0.borrow() == key).ok()
+        self.table.find(hash, |at| key.is_equivalent(&self.entries[at].0)).ok()
     }
 
     /// The value of a key.
-    pub fn get<Q: Eq + Hash + ?Sized>(&self, key: &Q) -> Option<&V>
-    where
-        K: Borrow<Q>,
-    {
+    pub fn get<Q: Equivalent<K> + ?Sized>(&self, key: &Q) -> Option<&V> {
         self.get_index_of(key).map(|at| &self.entries[at].1)
     }
 
     /// The value of a key, to be changed.
-    pub fn get_mut<Q: Eq + Hash + ?Sized>(&mut self, key: &Q) -> Option<&mut V>
-    where
-        K: Borrow<Q>,
-    {
+    pub fn get_mut<Q: Equivalent<K> + ?Sized>(&mut self, key: &Q) -> Option<&mut V> {
         self.get_index_of(key).map(|at| &mut self.entries[at].1)
     }
 
     /// Whether a key has a value.
-    pub fn contains_key<Q: Eq + Hash + ?Sized>(&self, key: &Q) -> bool
-    where
-        K: Borrow<Q>,
-    {
+    pub fn contains_key<Q: Equivalent<K> + ?Sized>(&self, key: &Q) -> bool {
         self.get_index_of(key).is_some()
     }
 
@@ -307,18 +321,12 @@ impl<T: Eq + Hash> IndexSet<T> {
     }
 
     /// The position of a value.
-    pub fn get_index_of<Q: Eq + Hash + ?Sized>(&self, value: &Q) -> Option<usize>
-    where
-        T: Borrow<Q>,
-    {
+    pub fn get_index_of<Q: Equivalent<T> + ?Sized>(&self, value: &Q) -> Option<usize> {
         self.0.get_index_of(value)
     }
 
     /// Whether the set contains a value.
-    pub fn contains<Q: Eq + Hash + ?Sized>(&self, value: &Q) -> bool
-    where
-        T: Borrow<Q>,
-    {
+    pub fn contains<Q: Equivalent<T> + ?Sized>(&self, value: &Q) -> bool {
         self.0.contains_key(value)
     }
 }

@@ -6,11 +6,12 @@ use super::iter::FromIteratorIn;
 use super::vec::Vec;
 use ::std::borrow::Borrow;
 use ::std::fmt;
+use ::std::hash::{Hash, Hasher};
 use ::std::ops::Deref;
 use ::std::str::Utf8Error;
 
 /// Rust's string. Each method that allocates returns an error when memory runs out.
-#[derive(PartialEq, Eq, PartialOrd, Ord, Hash)]
+#[derive(Eq, PartialOrd, Ord)]
 pub struct String(::std::string::String);
 
 /// Bytes that aren't UTF-8.
@@ -181,6 +182,21 @@ impl fmt::Write for String {
 impl TryClone for String {
     fn try_clone(&self) -> Result<String, AllocError> {
         String::from_str(Global, self)
+    }
+}
+
+// As for vectors, no bytes aren't compared.
+impl PartialEq for String {
+    #[inline]
+    fn eq(&self, other: &String) -> bool {
+        self.len() == other.len() && (self.is_empty() || self.0 == other.0)
+    }
+}
+
+impl Hash for String {
+    #[inline]
+    fn hash<H: Hasher>(&self, state: &mut H) {
+        self.0.hash(state);
     }
 }
 

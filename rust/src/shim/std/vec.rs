@@ -7,12 +7,13 @@ use super::sort;
 use ::std::borrow::Borrow;
 use ::std::cmp::Ordering;
 use ::std::fmt;
+use ::std::hash::{Hash, Hasher};
 use ::std::io;
 use ::std::ops::{Deref, DerefMut};
 use ::std::slice;
 
 /// Rust's vector. Each method that allocates returns an error when memory runs out.
-#[derive(PartialEq, Eq, PartialOrd, Ord, Hash)]
+#[derive(Eq, PartialOrd, Ord)]
 pub struct Vec<T>(::std::vec::Vec<T>);
 
 impl<T> Vec<T> {
@@ -251,6 +252,22 @@ impl<T: TryClone> TryClone for Vec<T> {
             vec.push(item.try_clone()?)?;
         }
         Ok(vec)
+    }
+}
+
+// Without elements no memory is compared: where processors have AVX-512, glibc reads none of the bytes under a mask, and
+// to suppress the fault at the address that Rust gives an empty slice takes the processor hundreds of cycles.
+impl<T: PartialEq> PartialEq for Vec<T> {
+    #[inline]
+    fn eq(&self, other: &Vec<T>) -> bool {
+        self.len() == other.len() && (self.is_empty() || self.0 == other.0)
+    }
+}
+
+impl<T: Hash> Hash for Vec<T> {
+    #[inline]
+    fn hash<H: Hasher>(&self, state: &mut H) {
+        self.0.hash(state);
     }
 }
 
