@@ -1,3 +1,4 @@
 pub mod Demangler
 pub mod Prefix
+pub mod Texts
 pub mod steps

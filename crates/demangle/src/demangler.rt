@@ -1,10 +1,11 @@
 //! The demangler of all names.
-ghost use Rattle.std.specs.Prelude.{◌≡◌, ◌↔◌, ◌+◌, ◌*◌, ◌<◌, ◌≤◌, [], false, Ok, IfOk, OnErr, IsTrue, length};
+ghost use Rattle.std.specs.Prelude.{◌≡◌, ◌↔◌, ◌+◌, ◌*◌, ◌<◌, ◌≤◌, [], false, Ok, IfOk, OnErr, OnOk, IsTrue, length};
 ghost use Rattle.demangle.specs.Prefix.{IsMangled};
+ghost use Rattle.demangle.specs.Texts.{IsSymbolText, IsTextOf};
 
-use crate::prefix::{is_mangled, is_suffix, without_suffix};
+use crate::prefix::{is_mangled, legacy_name, without_suffix};
 use demangle_cpp::{CppDemangler, Style};
-use demangle_text::{Failure, RustNames, Text, split_legacy_name};
+use demangle_text::{Failure, RustNames, Text};
 use std::alloc::{AllocError, Global};
 
 /// The greatest length of a name in bytes.
@@ -55,6 +56,7 @@ impl Demangler {
     /// Fails if memory runs out. Then there is no text, and the next call starts anew.
     pub fn demangle(&mut self, name: &[u8], style: Style) -> Result<bool, AllocError>
         ensures some { IfOk result (λ some. IsTrue some ↔ (0 < length (text_in self.new))) }
+        ensures text { IfOk result (λ some. IsTrue some → IsTextOf name.now (text_in self.new)) }
         ensures err { OnErr result (text_in self.new ≡ []) }
         ensures proportionate { length (text_in self.new) ≤ 128 * length name.now }
         ensures most { length (text_in self.new) ≤ 65536 }
@@ -81,7 +83,8 @@ impl Demangler {
 
     // Writes the text of a name.
     fn write(&mut self, name: &[u8], style: Style) -> Result<(), Failure>
-        ensures { limit_in self.new ≡ limit_in self.old }
+        ensures limit { limit_in self.new ≡ limit_in self.old }
+        ensures text { OnOk result (text_in self.old ≡ [] → IsTextOf name.now (text_in self.new)) }
     {
         let Some(symbol) = name.strip_suffix(PLT) else {
             return self.write_symbol(name, style);
@@ -92,17 +95,14 @@ impl Demangler {
 
     // Writes the text of a name without `@plt`.
     fn write_symbol(&mut self, name: &[u8], style: Style) -> Result<(), Failure>
-        ensures { limit_in self.new ≡ limit_in self.old }
+        ensures limit { limit_in self.new ≡ limit_in self.old }
+        ensures text { OnOk result (text_in self.old ≡ [] → IsSymbolText name.now (text_in self.new)) }
     {
+        if let Some(legacy) = legacy_name(name) {
+            return legacy.write(&mut self.text);
+        }
         if let Some(path) = name.strip_prefix(b"_R") {
             return self.rust.demangle(without_suffix(path), &mut self.text);
-        }
-        if let Some(parts) = name.strip_prefix(b"_ZN") {
-            if let Ok(legacy) = split_legacy_name(parts) {
-                if is_suffix(legacy.suffix) {
-                    return legacy.write(&mut self.text);
-                }
-            }
         }
         let Some(encoding) = name.strip_prefix(b"_Z") else {
             return Err(Failure::Grammar);
