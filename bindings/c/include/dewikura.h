@@ -1027,7 +1027,7 @@ DEWIKURA_NONNULL DEWIKURA_NODISCARD dewikura_status dewikura_read_jit_debug_info
     uint64_t *total);
 
 // Returns DEWIKURA_TRACING_DATA if a pipe has the record HEADER_TRACING_DATA, as `perf record -o -` writes it for
-// tracepoint events: what follows it isn't records, though the other calls read it as such. Record to a file instead.
+// tracepoint events. The bytes after it aren't records, but the other calls parse them as records. Record to a file.
 // Otherwise returns DEWIKURA_OK, also if the pipe has an error, which the other calls return.
 DEWIKURA_NONNULL DEWIKURA_NODISCARD dewikura_status dewikura_check_tracing_data(const void *data, size_t size);
 
