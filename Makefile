@@ -30,7 +30,7 @@ install: lib programs ## installs the library, header, dewikura.pc, programs, ma
 dist: lib programs ## a tarball of what install installs, for machines without the kit
 	scripts/dist
 
-wheel: lib ## the Python package with the library, for machines without the kit
+wheel: lib programs ## the Python package with the library, for machines without the kit
 	cd bindings/python && python3 -B -c 'import build_backend; print(build_backend.build_wheel(".."))'
 
 clean: ## removes what rt and cargo built

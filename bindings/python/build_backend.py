@@ -3,7 +3,8 @@
 The static libraries are found in the folder DEWIKURA_DIR: libdewikura.a, and liblibc_c.a unless the first contains it, as an installed one
 does. Without this variable they are those of the repository (crates/dewikura/out/libdewikura.a, and liblibc_c.a of the kit whose `rt` is on
 PATH), or of the installation whose share/dewikura/python this folder is. Without the kit, cargo builds the shared library and the programs,
-from the repository or from the sources in a source distribution, and the wheel contains the programs too."""
+from the repository or from the sources in a source distribution. The wheel contains the programs too: those that cargo builds, or that are beside
+the library (DIR/bin of DIR/lib, crates/NAME/out in the repository)."""
 
 import ast
 import base64
@@ -25,6 +26,8 @@ REPOSITORY = TOP.parent.parent
 PACKAGE = TOP / "src/dewikura"
 LICENSES = ("LICENSE-MIT", "LICENSE-APACHE", "NOTICE")
 PROGRAMS = ("perflist", "perfinfo", "perfjson", "perffold")
+# That of the oldest glibc that tags of wheels name today.
+OLDEST_GLIBC_MINOR = 17
 
 
 def version():
@@ -144,14 +147,19 @@ def package_files():
     return sorted(PACKAGE.glob("*.py")) + [PACKAGE / "py.typed"]
 
 
-def tag():
-    return "py3-none-" + re.sub(r"[-.]", "_", sysconfig.get_platform())
+def tag(contents):
+    """The tag of a wheel of this machine with these library and programs. Under glibc it says the oldest version that has all symbols that they use."""
+    platform = re.sub(r"[-.]", "_", sysconfig.get_platform())
+    minors = [int(minor) for data in contents for minor in re.findall(rb"(?<=\0)GLIBC_2\.(\d+)(?:\.\d+)?(?=\0)", data)]
+    if minors and platform.startswith("linux_"):
+        platform = f"manylinux_2_{max(OLDEST_GLIBC_MINOR, *minors)}_{platform.removeprefix('linux_')}"
+    return "py3-none-" + platform
 
 
-def information(folder):
+def information(folder, wheel_tag):
     """The names and the bytes of the files that describe the wheel, but for RECORD."""
     files = {f"{folder}/METADATA": metadata()}
-    files[f"{folder}/WHEEL"] = f"Wheel-Version: 1.0\nGenerator: dewikura\nRoot-Is-Purelib: false\nTag: {tag()}\n".encode()
+    files[f"{folder}/WHEEL"] = f"Wheel-Version: 1.0\nGenerator: dewikura\nRoot-Is-Purelib: false\nTag: {wheel_tag}\n".encode()
     files.update((f"{folder}/licenses/{name}", license_file(name)) for name in LICENSES)
     return files
 
@@ -166,17 +174,24 @@ def wheel_files():
     return files
 
 
+def program_paths():
+    """The programs by name: those that cargo builds, of the installation (`bin` beside the folder of the library), or of the repository."""
+    if cargo_folder():
+        return {path.stem: path for path in cargo_build("build", "--bins")}
+    installed = library_folder()
+    paths = {name: installed.parent / "bin" / name if installed else REPOSITORY / "crates" / name / "out" / name for name in PROGRAMS}
+    return {name: path for name, path in paths.items() if path.exists()}
+
+
 def programs(folder):
-    """The names and the bytes of the programs, if cargo builds them."""
-    if not cargo_folder():
-        return {}
-    made = {path.stem: path for path in cargo_build("build", "--bins")}
-    return {f"{folder}/scripts/{made[name].name}": made[name].read_bytes() for name in PROGRAMS}
+    """The names and the bytes of the programs that are there. `dewikura.profile` needs perffold."""
+    made = program_paths()
+    return {f"{folder}/scripts/{made[name].name}": made[name].read_bytes() for name in PROGRAMS if name in made}
 
 
 def prepare_metadata_for_build_wheel(metadata_directory, config_settings=None):
     folder = f"dewikura-{version()}.dist-info"
-    for name, data in information(folder).items():
+    for name, data in information(folder, tag([])).items():
         path = pathlib.Path(metadata_directory) / name
         path.parent.mkdir(parents=True, exist_ok=True)
         path.write_bytes(data)
@@ -185,10 +200,11 @@ def prepare_metadata_for_build_wheel(metadata_directory, config_settings=None):
 
 def build_wheel(wheel_directory, config_settings=None, metadata_directory=None):
     folder, lines = f"dewikura-{version()}.dist-info", []
-    name = f"dewikura-{version()}-{tag()}.whl"
-    files = {**wheel_files(), **information(folder)}
+    files, scripts = wheel_files(), programs(f"dewikura-{version()}.data")
+    wheel_tag = tag([files["dewikura/libdewikura.so"], *scripts.values()])
+    name = f"dewikura-{version()}-{wheel_tag}.whl"
+    files.update(information(folder, wheel_tag))
     files.update((f"{folder}/licenses/{path}", data) for path, data in other_licenses().items())
-    scripts = programs(f"dewikura-{version()}.data")
     with zipfile.ZipFile(pathlib.Path(wheel_directory) / name, "w", zipfile.ZIP_DEFLATED) as wheel:
         for path, data in {**files, **scripts}.items():
             digest = base64.urlsafe_b64encode(hashlib.sha256(data).digest()).rstrip(b"=").decode()
@@ -213,7 +229,7 @@ def cargo_sources():
 
 def build_sdist(sdist_directory, config_settings=None):
     """Packs the package without the library, which its installation takes from DEWIKURA_DIR or builds by cargo."""
-    own = [TOP / name for name in ("pyproject.toml", "build_backend.py", "README.md")] + package_files() + sorted(TOP.glob("examples/*.py"))
+    own = [TOP / name for name in ("pyproject.toml", "build_backend.py", "README.md")] + package_files() + sorted(TOP.glob("examples/*.*"))
     files = {str(path.relative_to(TOP)): path.read_bytes() for path in own}
     files.update((name, license_file(name)) for name in LICENSES)
     files["PKG-INFO"] = metadata()

@@ -4,6 +4,7 @@
 //! profile ([`boxes::boxes`]) that is wide enough to be seen ([`boxes::drawn_boxes`]), as wide as its share
 //! of the samples, below that of its caller, in a hue that says what code it is.
 pub mod boxes;
+mod changes;
 mod colors;
 mod script;
 pub mod span;

@@ -28,6 +28,7 @@ ghost use Rattle.pprof.specs.Tables.{no_rows};
 
 use crate::entries::{find_entry, find_name, find_stack};
 use crate::flame::xml_text::XmlText;
+use crate::sample_times::{SamplePlace, sample_times};
 use indexmap::IndexSet;
 use perfdata_profile::interned::Interned;
 use perfdata_profile::lines::{Line as ProfileLine, LinesId};
@@ -710,6 +711,29 @@ impl<'a> Converter<'a> {
         }
     }
 
+    // Returns the index of the sample of a key, if it was added.
+    fn sample_index(&mut self, key: SampleKey) -> Result<Option<usize>, AllocError> {
+        let labels = add_labels(&mut self.builder, self.tables, key.thread)?;
+        let location_ids = self.stack(key.stack)?;
+        Ok(self.builder.sample_index(labels, location_ids))
+    }
+
+    // Returns where the samples of each key were added. `values` has the index of the values of each column.
+    fn places(
+        &mut self,
+        sums: &SampleSums,
+        values: &[usize],
+    ) -> Result<Vec<SamplePlace>, AllocError> {
+        let mut places = Vec::new(self.alloc);
+        for index in 0..sums.len() {
+            let (key, _sums) = find_entry(sums, index);
+            let sample = self.sample_index(key)?.unwrap_or(0);
+            let column = values.get(key.column).copied().unwrap_or(0);
+            places.push(SamplePlace { sample, column })?;
+        }
+        Ok(places)
+    }
+
     // Adds all samples. `values` has the index of the values of each column.
     fn add_samples(&mut self, sums: &SampleSums, values: &[usize]) -> Result<(), AllocError>
         ensures { OnOk result (AddsEntries self.old values.now
@@ -763,6 +787,21 @@ pub fn convert(
     converter.builder.finish(summary)
 }
 
+// Makes the profile that pprof reads. Returns it, and where the samples of each key are in it.
+fn convert_with_places(
+    alloc: Global,
+    profile: &Profile,
+    description: Description<'_>,
+) -> Result<(PprofProfile, Vec<SamplePlace>), AllocError> {
+    let mut builder = Builder::new(alloc)?;
+    let values = add_heading(alloc, &mut builder, profile, description)?;
+    let mut converter = Converter::new(alloc, &profile.tables, builder)?;
+    converter.add_samples(&profile.sums, values.as_slice())?;
+    let places = converter.places(&profile.sums, values.as_slice())?;
+    let summary = add_summary(&mut converter.builder, description, values.as_slice())?;
+    Ok((converter.builder.finish(summary)?, places))
+}
+
 // Returns the bytes of a profile.
 fn profile_bytes(
     alloc: Global,
@@ -794,12 +833,17 @@ pub fn write_page<W: Write>(
     caption: PageCaption<'_>,
     out: &mut W,
 ) -> io::Result<()> {
-    let bytes = profile_bytes(alloc, profile, description)?;
+    let (made, places) = convert_with_places(alloc, profile, description)?;
+    let bytes = encode(alloc, &made)?;
+    let times = match &profile.samples {
+        Some(samples) => sample_times(alloc, samples, places.as_slice())?,
+        None => Vec::new(alloc),
+    };
     let title = format!(in alloc; "{}", XmlText::whole(caption.title))?;
     let heading = format!(in alloc; "{}", XmlText::whole(caption.heading))?;
     let texts = PageTexts {
         title: title.as_str(),
         heading: heading.as_str(),
     };
-    out.write_all(profile_page(alloc, texts, bytes.as_slice())?.as_bytes())
+    out.write_all(profile_page(alloc, texts, bytes.as_slice(), times.as_slice())?.as_bytes())
 }

@@ -78,8 +78,8 @@ fn is_start(byte: u8) -> bool {
     byte & 0xc0 != 0x80
 }
 
-// Returns the number of characters of a text.
-fn character_count(text: &[u8]) -> usize {
+/// Returns the number of characters of a text.
+pub(crate) fn character_count(text: &[u8]) -> usize {
     text.iter().filter(|byte| is_start(**byte)).count()
 }
 
@@ -105,8 +105,8 @@ pub(crate) fn write_line<W: Write>(
     out.write_all(b"\n")
 }
 
-// Appends a name in the column of functions, and two blanks.
-fn push_name(line: &mut Vec<u8>, name: &[u8], width: usize) -> Result<(), AllocError> {
+/// Appends a name in the column of functions, and two blanks.
+pub(crate) fn push_name(line: &mut Vec<u8>, name: &[u8], width: usize) -> Result<(), AllocError> {
     line.extend_from_slice(name)?;
     for _ in character_count(name)..width {
         line.push(b' ')?;

@@ -22,7 +22,7 @@ use perfdata_overview::sample_summary::SampleSummary;
 use perfdata_overview::weight::WeightKind;
 use perfdata_profile::builder::ProfileBuilder;
 use perfdata_profile::error::ProfileError;
-use perfdata_profile::options::{Detail, ProfileOptions};
+use perfdata_profile::options::ProfileOptions;
 use perfdata_profile::profile::Profile;
 use perfdata_profile::sums::SampleWeight;
 use perfdata_resolver::{FormatData, FrameResolver};
@@ -64,6 +64,13 @@ pub(crate) struct CountedSamples<'a> {
     pub(crate) main_file: Option<MainFile>,
 }
 
+/// What was read of a recording that another one is compared with.
+#[derive(Clone, Copy)]
+pub(crate) struct OldSamples<'a> {
+    pub(crate) perf_file: &'a PerfFile,
+    pub(crate) counted: &'a CountedSamples<'a>,
+}
+
 impl<'a> CountedSamples<'a> {
     /// Returns what was counted, beside the profile.
     pub(crate) fn counted_events(&'a self, perf_file: &'a PerfFile) -> CountedEvents<'a> {
@@ -91,16 +98,11 @@ impl<'a> SampleCounter<'a> {
         alloc: Global,
         perf_file: &PerfFile,
         options: &Options<'a>,
-        detail: Detail,
+        profile_options: ProfileOptions,
         resolver: FrameResolver<'a>,
         filter: SampleFilter<'a>,
         patterns: &'a FocusPatterns,
     ) -> Result<SampleCounter<'a>, AllocError> {
-        let profile_options = ProfileOptions {
-            detail,
-            thread_ids: options.thread_ids,
-            times: false,
-        };
         let mut events = EventTable::new(alloc, options.events);
         events.add_events(perf_file)?;
         let has_all = events.part_without_event(perf_file).is_none();

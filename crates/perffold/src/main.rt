@@ -2,6 +2,7 @@
 #![tactic(auto)]
 
 mod counter;
+mod json_output;
 mod messages;
 mod options;
 mod output;
@@ -9,7 +10,7 @@ mod pprof_output;
 
 use clap::{ArgMatches, Command};
 use code_files::PathError;
-use counter::{CountedSamples, SampleCounter};
+use counter::{CountedSamples, OldSamples, SampleCounter};
 use linux_perf_data::PerfFile;
 use messages::print_messages;
 use options::{
@@ -24,14 +25,15 @@ use perfdata_cli::progress::Progress;
 use perfdata_cli::recording::{Recording, RecordingRecords};
 use perfdata_cli::text_output::TextOutput;
 use perfdata_focus::FocusPatterns;
+use perfdata_profile::options::ProfileOptions;
 use perfdata_resolver::{FrameResolver, ResolverOptions};
 use perfdata_selection::error::SelectionError;
 use perfdata_selection::options::FilterOptions;
 use regex::bytes::Regex;
 use std::alloc::{AllocError, Global};
-use std::io;
 use std::io::IsTerminal;
 use std::process::ExitCode;
+use std::{io, mem};
 
 // The program's name.
 const NAME: &str = "perffold";
@@ -41,6 +43,16 @@ const NAME: &str = "perffold";
 struct Selection<'a> {
     filter: FilterOptions<'a>,
     patterns: FocusPatterns,
+}
+
+// What was read of an input.
+#[derive(Drop)]
+struct ReadInput<'a> {
+    perf_file: PerfFile,
+    counted: CountedSamples<'a>,
+    resolver: FrameResolver<'a>,
+    /// Why the records ended.
+    read: Result<Result<(), InputError>, FoldError<'a>>,
 }
 
 // Returns the error of writing the output.
@@ -78,14 +90,18 @@ fn write_read<'a>(
     rt: &HostRuntime,
     arguments: &Arguments<'a>,
     format: OutputFormat,
-    perf_file: &PerfFile,
-    counted: (CountedSamples<'a>, FrameResolver<'a>),
+    old: Option<OldSamples<'_>>,
+    input: ReadInput<'a>,
     output: TextOutput<'a>,
-    read: Result<Result<(), InputError>, FoldError<'a>>,
 ) -> Result<(), FoldError<'a>> {
-    let (counted, mut resolver) = counted;
+    let ReadInput {
+        perf_file,
+        counted,
+        mut resolver,
+        read,
+    } = input;
     let read = read?;
-    let reason = no_output_reason(rt.alloc(), perf_file, &counted, arguments, format);
+    let reason = no_output_reason(rt.alloc(), &perf_file, &counted, arguments, format);
     let reason = reason.map_err(|_| InputError::OutOfMemory)?;
     if counted.notes.lacks_cpu {
         output.remove();
@@ -103,26 +119,28 @@ fn write_read<'a>(
     let written = match resolver.data.text() {
         Some(text) => output.finish(text.as_slice()),
         None => {
-            let bytes = profile_bytes(rt, arguments, format, perf_file, &counted, &resolver.data);
+            let data = &resolver.data;
+            let bytes = profile_bytes(rt, arguments, format, &perf_file, &counted, data, old);
             output.finish(bytes.map_err(|_| InputError::OutOfMemory)?.as_slice())
         }
     };
     written.map_err(|error| output_error(arguments, error))?;
     if !arguments.is_quiet {
-        print_messages(rt, NAME, perf_file, &counted, &resolver);
+        print_messages(rt, NAME, &perf_file, &counted, &resolver);
     }
     Ok(read?)
 }
 
-// Writes the profile of the input at a path.
-fn fold<'a>(
+// Counts the samples of the input at a path. A text of samples is written as it comes.
+fn read_input<'a>(
     rt: &'a HostRuntime,
     arguments: &Arguments<'a>,
     filter: FilterOptions<'a>,
     patterns: &'a FocusPatterns,
     format: OutputFormat,
     path: &str,
-) -> Result<(), FoldError<'a>> {
+    output: &mut TextOutput<'a>,
+) -> Result<ReadInput<'a>, FoldError<'a>> {
     let data = format.data(rt.alloc());
     let names = arguments.options.names;
     let names = ResolverOptions {
@@ -141,22 +159,25 @@ fn fold<'a>(
         weight: format.weight(arguments.options.weight),
         ..arguments.options
     };
-    let detail = format.detail(patterns.is_given());
+    let profile_options = ProfileOptions {
+        detail: format.detail(patterns.is_given()),
+        thread_ids: options.thread_ids,
+        times: format.has_times(),
+    };
     let mut counter = SampleCounter::new(
         rt.alloc(),
         &perf_file,
         &options,
-        detail,
+        profile_options,
         resolver,
         filter,
         patterns,
     )?;
-    let mut output = TextOutput::new(rt, arguments.output);
     let read = add_all(
         &mut counter,
         &mut records,
         &mut perf_file,
-        &mut output,
+        output,
         &mut progress,
     );
     progress.finish();
@@ -164,9 +185,101 @@ fn fold<'a>(
         Ok(read) => Ok(read.and_then(|records| kind.check_end(records))),
         Err(error) => Err(output_error(arguments, error)),
     };
-    match counter.finish(&perf_file) {
-        Ok(counted) => write_read(rt, arguments, format, &perf_file, counted, output, read),
-        Err(_) => Err(InputError::OutOfMemory.into()),
+    let Ok((counted, resolver)) = counter.finish(&perf_file) else {
+        return Err(InputError::OutOfMemory.into());
+    };
+    Ok(ReadInput {
+        perf_file,
+        counted,
+        resolver,
+        read,
+    })
+}
+
+// Counts the samples of the recording that another one is compared with.
+fn read_old<'a>(
+    rt: &'a HostRuntime,
+    arguments: &Arguments<'a>,
+    filter: FilterOptions<'a>,
+    patterns: &'a FocusPatterns,
+    format: OutputFormat,
+    path: &str,
+) -> Result<ReadInput<'a>, FoldError<'a>> {
+    let mut output = TextOutput::new(rt, arguments.output);
+    let mut input = read_input(rt, arguments, filter, patterns, format, path, &mut output)?;
+    let read = mem::replace(&mut input.read, Ok(Ok(())));
+    read??;
+    if let Some(error) = input.resolver.take_kernel_list_error() {
+        return Err(error.into());
+    }
+    let ReadInput {
+        perf_file,
+        counted,
+        ..
+    } = &input;
+    let reason = no_output_reason(rt.alloc(), perf_file, counted, arguments, format);
+    if let Some(reason) = reason.map_err(|_| InputError::OutOfMemory)? {
+        return Err(FoldError::NoOutput(reason));
+    }
+    if !arguments.is_quiet {
+        print_messages(rt, NAME, perf_file, counted, &input.resolver);
+    }
+    Ok(input)
+}
+
+// Writes the profile of the input at a path, or how it differs from another one.
+fn fold<'a>(
+    rt: &'a HostRuntime,
+    arguments: &Arguments<'a>,
+    filter: FilterOptions<'a>,
+    patterns: &'a FocusPatterns,
+    format: OutputFormat,
+    path: &str,
+    old: Option<OldSamples<'_>>,
+) -> Result<(), FoldError<'a>> {
+    let mut output = TextOutput::new(rt, arguments.output);
+    let input = read_input(rt, arguments, filter, patterns, format, path, &mut output)?;
+    write_read(rt, arguments, format, old, input, output)
+}
+
+// Writes the profile of the input at a path, or how it differs from what was read of an old one. Returns the
+// exit status.
+fn write_selected<'a>(
+    rt: &'a HostRuntime,
+    arguments: &Arguments<'a>,
+    selection: Selection<'a>,
+    format: OutputFormat,
+    path: &str,
+    old: Option<&ReadInput<'_>>,
+) -> u8 {
+    let old = match old {
+        Some(input) => Some(OldSamples {
+            perf_file: &input.perf_file,
+            counted: &input.counted,
+        }),
+        None => None,
+    };
+    let Selection { filter, patterns } = selection;
+    match fold(rt, arguments, filter, &patterns, format, path, old) {
+        Ok(()) => SUCCESS,
+        Err(error) => print_fold_error(rt, path, error),
+    }
+}
+
+// Writes the differences of the input at a path from the one at an old path. Returns the exit status.
+fn compare<'a>(
+    rt: &'a HostRuntime,
+    arguments: &Arguments<'a>,
+    old_selection: Selection<'a>,
+    selection: Selection<'a>,
+    format: OutputFormat,
+    paths: (&str, &str),
+) -> u8 {
+    let (old_path, path) = paths;
+    let Selection { filter, patterns } = old_selection;
+    match read_old(rt, arguments, filter, &patterns, format, old_path) {
+        Ok(old) => write_selected(rt, arguments, selection, format, path, Some(&old)),
+        Err(error) => print_fold_error(rt, old_path, error),
     }
 }
 
@@ -276,14 +389,17 @@ impl Program for Perffold {
             let _ = eprintln!(rt; "{NAME}: --{option} has no meaning for this format");
             return USAGE_ERROR;
         }
-        let Selection { filter, patterns } = match parse_selection(rt, matches) {
+        let selection = match parse_selection(rt, matches) {
             Ok(selection) => selection,
             Err(status) => return status,
         };
         let path = input_path(rt, arguments.options.file);
-        match fold(rt, &arguments, filter, &patterns, format, path) {
-            Ok(()) => SUCCESS,
-            Err(error) => print_fold_error(rt, path, error),
+        let Some(old_path) = arguments.diff else {
+            return write_selected(rt, &arguments, selection, format, path, None);
+        };
+        match parse_selection(rt, matches) {
+            Ok(old) => compare(rt, &arguments, old, selection, format, (old_path, path)),
+            Err(status) => status,
         }
     }
 }

@@ -77,6 +77,9 @@ const OUTPUT: &str = "output";
 
 const MIN_PERCENT: &str = "min-percent";
 
+/// The option of the recording that another one is compared with.
+const DIFF: &str = "diff";
+
 // The values of the option of the weight.
 const PERIOD: &str = "period";
 
@@ -98,7 +101,9 @@ const FRAMES: &str = "frames";
 
 const SCRIPT: &str = "script";
 
-const FORMATS: &[&str] = &["folded", SVG, PPROF, HTML, TOP, TREE, FRAMES, SCRIPT];
+const JSON: &str = "json";
+
+const FORMATS: &[&str] = &["folded", SVG, PPROF, HTML, TOP, TREE, FRAMES, SCRIPT, JSON];
 
 // The options: of the output, of what is counted, of where symbols are, and of the names in lines.
 const OPTIONS: &[OptionText] = &[
@@ -114,8 +119,9 @@ const OPTIONS: &[OptionText] = &[
         conflicts: &[],
         help: concat!(
             "Write lines, a flame graph, a profile for pprof, a page that shows it, the functions ",
-            "with the most samples, the call tree, the frames of each sample or the text of perf ",
-            "script [default: top on a terminal, that of a FILE.svg, FILE.pb or FILE.html, else folded]"
+            "with the most samples, the call tree, the frames of each sample, the text of perf script ",
+            "or the tables of the profile as JSON [default: top on a terminal, that of a FILE.svg, ",
+            "FILE.pb, FILE.html or FILE.json, else folded]"
         ),
     },
     OptionText {
@@ -123,6 +129,15 @@ const OPTIONS: &[OptionText] = &[
         value: Some("FILE"),
         conflicts: &[],
         help: "Write FILE in place of standard output",
+    },
+    OptionText {
+        name: DIFF,
+        value: Some("OLD"),
+        conflicts: &[],
+        help: concat!(
+            "Compare FILE with the recording OLD: the functions whose shares differ, lines with two ",
+            "counts, or a flame graph of FILE with the differences"
+        ),
     },
     OptionText {
         name: MIN_PERCENT,
@@ -284,6 +299,8 @@ pub(crate) enum OutputFormat {
     Frames,
     /// The text of `perf script`.
     Script,
+    /// The tables of a profile, as JSON.
+    Json,
 }
 
 /// What the arguments select.
@@ -307,6 +324,8 @@ pub(crate) struct Arguments<'a> {
     pub(crate) format: Option<OutputFormat>,
     /// The file that is written instead of standard output.
     pub(crate) output: Option<&'a str>,
+    /// The recording that the input is compared with, if there is one.
+    pub(crate) diff: Option<&'a str>,
     /// The number of rows of the table, if an argument says it.
     pub(crate) rows: Option<usize>,
     /// The options that select samples, if they are given.
@@ -448,6 +467,7 @@ fn parse_format(matches: &ArgMatches<'_>) -> Option<OutputFormat> {
         TREE => Some(OutputFormat::Tree),
         FRAMES => Some(OutputFormat::Frames),
         SCRIPT => Some(OutputFormat::Script),
+        JSON => Some(OutputFormat::Json),
         _ => Some(OutputFormat::Lines),
     }
 }
@@ -462,6 +482,13 @@ pub(crate) fn meaningless_option(
     }
     if format != OutputFormat::Top && matches.get_one::<usize>(ROWS).is_some() {
         return Some(ROWS);
+    }
+    let compares = matches!(
+        format,
+        OutputFormat::Lines | OutputFormat::Top | OutputFormat::Svg
+    );
+    if !compares && matches.get_str(DIFF).is_some() {
+        return Some(DIFF);
     }
     let names_lines = matches!(format, OutputFormat::Lines | OutputFormat::Top);
     if !names_lines && matches.get_flag(LINES) {
@@ -498,6 +525,7 @@ impl<'a> Arguments<'a> {
             },
             format: parse_format(matches),
             output: matches.get_str(OUTPUT),
+            diff: matches.get_str(DIFF),
             rows: matches.get_one::<usize>(ROWS),
             filters: given_filters(matches),
             is_quiet: is_quiet(matches),

@@ -1,6 +1,7 @@
 //! Writes a profile.
 
-use crate::counter::CountedSamples;
+use crate::counter::{CountedSamples, OldSamples};
+use crate::json_output::write_json;
 use crate::options::{Arguments, OutputFormat};
 use crate::pprof_output::{ProfileInput, write_page, write_pprof};
 use code_files::PathError;
@@ -14,7 +15,8 @@ use perfdata_profile::mapping_order::MappingOrder;
 use perfdata_profile::options::Detail;
 use perfdata_resolver::{FormatData, FrameListing, ScriptListing, SourceOptions};
 use perfdata_views::call_tree::{MinShare, TreeOptions, write_call_tree};
-use perfdata_views::flame::svg::{Caption, write_svg};
+use perfdata_views::differences::{write_differences, write_paired_lines};
+use perfdata_views::flame::svg::{Caption, write_changes, write_svg};
 use perfdata_views::lines::write_lines;
 use perfdata_views::pprof_profile::PageCaption;
 use perfdata_views::top::{TableOptions, write_top};
@@ -26,10 +28,11 @@ use std::{env, io};
 const TERMINAL_WIDTH: usize = 80;
 
 // The format of files by the end of their names.
-const FORMATS: [(&str, OutputFormat); 3] = [
+const FORMATS: [(&str, OutputFormat); 4] = [
     (".svg", OutputFormat::Svg),
     (".pb", OutputFormat::Pprof),
     (".html", OutputFormat::Html),
+    (".json", OutputFormat::Json),
 ];
 
 /// Why a profile isn't written.
@@ -85,9 +88,12 @@ impl OutputFormat {
         }
     }
 
-    // Returns whether the format is that of a profile for pprof.
+    // Returns whether the format has the tables of a profile: both the number of samples and their weights.
     fn is_profile(self) -> bool {
-        matches!(self, OutputFormat::Pprof | OutputFormat::Html)
+        matches!(
+            self,
+            OutputFormat::Pprof | OutputFormat::Html | OutputFormat::Json
+        )
     }
 
     /// Returns what a sample counts.
@@ -116,16 +122,24 @@ impl OutputFormat {
         }
     }
 
+    /// Returns whether the profile has the list of its samples.
+    pub(crate) fn has_times(self) -> bool {
+        matches!(self, OutputFormat::Json | OutputFormat::Html)
+    }
+
     /// Returns what is looked up in debugging information. Formats that don't write source lines into names
     /// have them beside these, unless inlined functions aren't wanted.
     pub(crate) fn source(self, source: SourceOptions) -> SourceOptions {
         match self {
             OutputFormat::Lines | OutputFormat::Top => source,
-            OutputFormat::Svg | OutputFormat::Pprof | OutputFormat::Html | OutputFormat::Frames =>
-                SourceOptions {
-                    has_lines: source.has_inlined,
-                    ..source
-                },
+            OutputFormat::Svg
+            | OutputFormat::Pprof
+            | OutputFormat::Html
+            | OutputFormat::Json
+            | OutputFormat::Frames => SourceOptions {
+                has_lines: source.has_inlined,
+                ..source
+            },
             OutputFormat::Tree => SourceOptions {
                 has_lines: false,
                 ..source
@@ -141,7 +155,7 @@ impl OutputFormat {
     pub(crate) fn data(self, alloc: Global) -> FormatData {
         match self {
             OutputFormat::Frames => FormatData::Listing(FrameListing::new(alloc)),
-            OutputFormat::Pprof | OutputFormat::Html => {
+            OutputFormat::Pprof | OutputFormat::Html | OutputFormat::Json => {
                 FormatData::Mappings(MappingOrder::new(alloc))
             }
             OutputFormat::Svg => FormatData::Kinds(FunctionKinds::new(alloc)),
@@ -219,9 +233,45 @@ fn write_profile<W: Write>(
         (OutputFormat::Lines, _) => write_lines(alloc, profile, out)?,
         (OutputFormat::Pprof, _) => write_pprof(alloc, recorded, out)?,
         (OutputFormat::Html, _) => write_page(alloc, recorded, page_caption, out)?,
+        (OutputFormat::Json, _) => {
+            write_json(alloc, recorded, overview, arguments.options.weight, out)?
+        }
         (OutputFormat::Top, _) => write_table(rt, folded, unit, out)?,
     }
     Ok(())
+}
+
+// Writes how a profile differs from that of an old recording.
+fn write_comparison<W: Write>(
+    rt: &HostRuntime,
+    folded: FoldResult<'_>,
+    old: OldSamples<'_>,
+    out: &mut W,
+) -> io::Result<()> {
+    let alloc = rt.alloc();
+    let before = Overview::new(alloc, old.counted.counted_events(old.perf_file), false)?;
+    let mut heading = before.heading;
+    heading.extend_from_slice(b" -> ")?;
+    heading.extend_from_slice(folded.overview.heading.as_slice())?;
+    let (profile, old) = (&folded.recorded.counted.profile, &old.counted.profile);
+    let unit = folded.arguments.options.weight.unit();
+    let caption = Caption {
+        title: heading.as_slice(),
+        unit,
+    };
+    let options = TableOptions {
+        heading: heading.as_slice(),
+        unit,
+        rows: folded.arguments.shown_rows(),
+        width: line_width(rt, folded.arguments),
+    };
+    match (folded.format, folded.recorded.data) {
+        (OutputFormat::Svg, FormatData::Kinds(kinds)) => {
+            write_changes(alloc, old, profile, Some(kinds), caption, out)
+        }
+        (OutputFormat::Top, _) => write_differences(alloc, old, profile, options, out),
+        _ => write_paired_lines(alloc, old, profile, out),
+    }
 }
 
 /// Returns why nothing is written: an event isn't there, no sample was counted, or weights have no sum.
@@ -244,7 +294,7 @@ pub(crate) fn no_output_reason(
     Ok(Some(reason.to_vec(alloc)?))
 }
 
-/// Returns the bytes of what was counted in a format.
+/// Returns the bytes of what was counted in a format, or of how it differs from an old recording.
 pub(crate) fn profile_bytes(
     rt: &HostRuntime,
     arguments: &Arguments<'_>,
@@ -252,6 +302,7 @@ pub(crate) fn profile_bytes(
     perf_file: &PerfFile,
     counted: &CountedSamples<'_>,
     data: &FormatData,
+    old: Option<OldSamples<'_>>,
 ) -> io::Result<Vec<u8>> {
     let shows_first = format == OutputFormat::Html
         && counted.events.selection() == EventSelection::All
@@ -271,6 +322,9 @@ pub(crate) fn profile_bytes(
         arguments,
     };
     let mut bytes = Vec::new(rt.alloc());
-    write_profile(rt, folded, &mut bytes)?;
+    match old {
+        Some(old) => write_comparison(rt, folded, old, &mut bytes)?,
+        None => write_profile(rt, folded, &mut bytes)?,
+    }
     Ok(bytes)
 }

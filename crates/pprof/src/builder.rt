@@ -1,6 +1,7 @@
 //! Builds a profile of mappings, functions, locations and samples.
 ghost use Rattle.std.specs.Prelude.{◌≡◌, ◌≢◌, ◌<◌, ◌||◌, [], ◌∷◌, ◌++◌, List, length, map, replicate};
-ghost use Rattle.std.specs.Prelude.{slice_get, slice_index_or, false, Some, IfOk, IsOk, OnErr, OnOk};
+ghost use Rattle.std.specs.Prelude.{slice_get, slice_index_or, false, Some, IfOk, IfSome, IsOk, OnErr};
+ghost use Rattle.std.specs.Prelude.{OnOk};
 ghost use Rattle.std.specs.List.{list_any};
 ghost use Rattle.std.specs.Str.Lossy.{utf8_lossy};
 ghost use Rattle.std.specs.Str.{IsUtf8};
@@ -305,6 +306,16 @@ impl Builder {
         let values = take_values(self.alloc, type_count, weight)?;
         self.rows.insert(key, values)?;
         Ok(())
+    }
+
+    /// Returns the index of the sample with labels and a stack of locations, if such samples were added.
+    pub fn sample_index(&self, labels: Vec<Label>, location_ids: Vec<u64>) -> Option<usize>
+        ensures { IfSome result (λ index. index < length (tables_of self.now).samples) }
+    {
+        self.rows.get_index_of(&RowKey {
+            location_ids,
+            labels,
+        })
     }
 
     /// Returns the profile.

@@ -6,7 +6,7 @@ ghost use Rattle.pprof.specs.Pages.{Embeds};
 mod page;
 
 use base64::engine::general_purpose::STANDARD;
-use page::{BODY, END, START, STYLE};
+use page::{BODY, END, START, STYLE, TIMES};
 use std::alloc::{AllocError, Global};
 
 // Returns the bytes of a profile in base64 between two texts.
@@ -20,6 +20,15 @@ fn page_between(alloc: Global, start: &str, profile: &[u8], end: &str) -> Result
     Ok(page)
 }
 
+// Returns the end of a page, with the bytes of its samples in base64.
+fn page_end(alloc: Global, times: &[u8]) -> Result<String, AllocError> {
+    let mut end = String::new(alloc);
+    end.push_str(TIMES)?;
+    STANDARD.encode_string(times, &mut end)?;
+    end.push_str(END)?;
+    Ok(end)
+}
+
 /// What a page says of its profile, as text of HTML, in which `<`, `>`, `&` and quotes are escaped.
 #[derive(Clone, Copy)]
 pub struct PageTexts<'a> {
@@ -29,14 +38,15 @@ pub struct PageTexts<'a> {
     pub heading: &'a str,
 }
 
-/// Returns a page that shows a profile, whose bytes [`encode`](crate::encode::encode) returns. The page loads
-/// nothing else.
+/// Returns a page that shows a profile, whose bytes [`encode`](crate::encode::encode) returns. `times` has
+/// its samples in order, if they are known. The page loads nothing else.
 ///
 /// Fails if memory runs out.
 pub fn profile_page(
     alloc: Global,
     texts: PageTexts<'_>,
     profile: &[u8],
+    times: &[u8],
 ) -> Result<String, AllocError>
     ensures { IfOk result (λ page. Embeds profile.now (string_bytes page)) }
 {
@@ -44,5 +54,6 @@ pub fn profile_page(
     for part in [START, texts.title, STYLE, texts.heading, BODY] {
         start.push_str(part)?;
     }
-    page_between(alloc, start.as_str(), profile, END)
+    let end = page_end(alloc, times)?;
+    page_between(alloc, start.as_str(), profile, end.as_str())
 }

@@ -4,7 +4,11 @@ from .constants import Status
 from ._native import status_text
 
 
-class PerfDataError(Exception):
+class DewikuraError(Exception):
+    """The base of the package's errors. That of a profile has the text that perffold prints."""
+
+
+class PerfDataError(DewikuraError):
     """The input has an error.
 
     `status` is the status of the call, `text` its text, and `record_count` the number of records before the error.

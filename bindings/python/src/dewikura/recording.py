@@ -185,7 +185,10 @@ def _names(symbols: Optional[elf.Symbols], offsets: List[int]) -> Iterable[Optio
 
 
 class Stacks(StructSequence[Stack]):
-    """The samples of a recording in order of time, as stacks, with their `frames` and the `mappings` of these."""
+    """The samples of a recording in order of time, as stacks, with their `frames` and the `mappings` of these.
+
+    Frames are those of the call chains. Copies of stacks (`--call-graph dwarf`) aren't unwound, but by `dewikura.profile`.
+    """
 
     _struct = Stack
 

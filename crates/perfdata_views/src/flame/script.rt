@@ -31,6 +31,11 @@ pub(crate) const LEGEND: &str = r##"<text x="100%" dx="-10" y="43" text-anchor="
 <tspan class="generated">&#9632;</tspan> generated <tspan class="unknown">&#9632;</tspan> unknown</text>
 "##;
 
+/// What colors and signs mean where a profile is compared with another one.
+pub(crate) const CHANGES_LEGEND: &str = r##"<text x="100%" dx="-10" y="43" text-anchor="end">
+<tspan fill="#f52d2d">&#9632;</tspan> + more <tspan fill="#2d2df5">&#9632;</tspan> - less than before</text>
+"##;
+
 /// Zooms, searches and says what a box is. It reads names as text, and makes elements without markup.
 pub(crate) const SCRIPT: &str = r##"
 "use strict";

@@ -2,12 +2,15 @@
 ghost use Rattle.std.specs.Prelude.{ℕ, List, OnOk};
 ghost use Rattle.std.specs.Io.KnownBytes.{Appends};
 
+use crate::counts::LineCounts;
 use crate::entry_tree::{EntryTree, entry_tree};
 use crate::flame::boxes::{DrawnBoxes, FlameBox, GRAPH_WIDTH, drawn_boxes};
+use crate::flame::changes::{OldLines, ShareChange};
 use crate::flame::colors::{frame_color, lighter};
-use crate::flame::script::{LEGEND, SCRIPT, START, STYLE};
+use crate::flame::script::{CHANGES_LEGEND, LEGEND, SCRIPT, START, STYLE};
 use crate::flame::span::{WidthSpan, share};
 use crate::flame::xml_text::XmlText;
+use crate::lines::lines;
 use crate::share::Share;
 use bstr::ByteSlice;
 use perfdata_profile::function_kinds::{FrameKind, FunctionKinds, LineRange};
@@ -92,6 +95,17 @@ struct Picture<'a> {
     total: u64,
     /// What is counted.
     unit: &'a str,
+    /// The profile that this one is compared with, if there is one.
+    old: Option<OldProfile<'a>>,
+}
+
+// The lines of an old profile.
+#[derive(Clone, Copy)]
+struct OldProfile<'a> {
+    alloc: Global,
+    lines: &'a OldLines,
+    /// The sum of all weights.
+    total: u64,
 }
 
 // What is written in a box, and of it.
@@ -146,16 +160,42 @@ impl<'a> Picture<'a> {
         }
     }
 
+    // Returns how the share of a box changed, if there is an old profile.
+    fn change(&self, flame_box: &FlameBox) -> io::Result<Option<ShareChange>> {
+        let Some(old) = self.old else {
+            return Ok(None);
+        };
+        let before = Share {
+            part: old.lines.box_weight(old.alloc, self.tree, flame_box)?,
+            total: old.total,
+        };
+        let now = Share {
+            part: flame_box.span.weight(),
+            total: self.total,
+        };
+        Ok(Some(ShareChange::of_weights(before, now)))
+    }
+
     // Writes what is shown for a box under the pointer: its name, its weight, its share of all weights and
     // its file.
-    fn write_title(&self, label: Label<'_>, weight: u64, out: &mut Vec<u8>) -> io::Result<()> {
+    fn write_title(
+        &self,
+        label: Label<'_>,
+        change: Option<ShareChange>,
+        weight: u64,
+        out: &mut Vec<u8>,
+    ) -> io::Result<()> {
         let text = XmlText::whole(label.text);
         let percent = Share {
             part: weight,
             total: self.total,
         };
         let unit = self.unit;
-        write!(out, "<g><title>{text}\n{weight} {unit}, {percent}")?;
+        let sign = change.map_or("", |change| change.sign());
+        write!(out, "<g><title>{sign}{text}\n{weight} {unit}, {percent}")?;
+        if let Some(change) = change {
+            change.push_text(out)?;
+        }
         if !label.file.is_empty() {
             let file = XmlText::whole(label.file);
             write!(out, ", {file}")?;
@@ -168,20 +208,16 @@ impl<'a> Picture<'a> {
     fn write_box(
         &self,
         label: Label<'_>,
+        change: Option<ShareChange>,
         span: WidthSpan,
         row: u64,
         out: &mut Vec<u8>,
     ) -> io::Result<()> {
         let place = self.place(span, row);
-        self.write_title(label, span.weight(), out)?;
-        let color = frame_color(label.kind, label.text);
-        let color = if label.is_inlined {
-            lighter(color)
-        } else {
-            color
-        };
-        write_rectangle(place, color, out)?;
-        write_name(place, label.text, out)?;
+        self.write_title(label, change, span.weight(), out)?;
+        write_rectangle(place, box_color(label, change), out)?;
+        let sign = change.map_or("", |change| change.sign());
+        write_name(place, sign, label.text, out)?;
         out.write_all(b"</g>\n")
     }
 
@@ -192,13 +228,24 @@ impl<'a> Picture<'a> {
             end: self.total,
         };
         if self.total != 0 {
-            self.write_box(ALL, all, 0, out)?;
+            self.write_box(ALL, None, all, 0, out)?;
         }
         for flame_box in boxes {
             let row = (flame_box.depth as u64).saturating_add(1);
-            self.write_box(self.label(flame_box), flame_box.span, row, out)?;
+            let change = self.change(flame_box)?;
+            self.write_box(self.label(flame_box), change, flame_box.span, row, out)?;
         }
         Ok(())
+    }
+}
+
+// Returns the color of a box: that of its change, or that of its code.
+fn box_color(label: Label<'_>, change: Option<ShareChange>) -> [u8; 3] {
+    let color = frame_color(label.kind, label.text);
+    match change {
+        Some(change) => change.color(),
+        None if label.is_inlined => lighter(color),
+        None => color,
     }
 }
 
@@ -262,22 +309,23 @@ fn character_count(place: BoxGeometry) -> u64 {
     hundredths.saturating_sub(2 * NAME_MARGIN * 100) / CHARACTER_WIDTH
 }
 
-// Writes as much of the name of a box as fits, if that is enough.
-fn write_name(place: BoxGeometry, name: &[u8], out: &mut Vec<u8>) -> io::Result<()> {
-    let limit = character_count(place);
+// Writes a sign and as much of the name of a box as fits, if that is enough.
+fn write_name(place: BoxGeometry, sign: &str, name: &[u8], out: &mut Vec<u8>) -> io::Result<()> {
+    let limit = character_count(place).saturating_sub(sign.len() as u64);
     if limit < MIN_CHARACTERS {
         return Ok(());
     }
     let length = name.chars().count() as u64;
     if length <= limit {
-        return write_text(place, name, length, "", out);
+        return write_text(place, sign, name, length, "", out);
     }
-    write_text(place, name, limit.saturating_sub(2), "..", out)
+    write_text(place, sign, name, limit.saturating_sub(2), "..", out)
 }
 
-// Writes the first characters of a name, and what follows them.
+// Writes a sign, the first characters of a name, and what follows them.
 fn write_text(
     place: BoxGeometry,
+    sign: &str,
     name: &[u8],
     length: u64,
     end: &str,
@@ -291,12 +339,12 @@ fn write_text(
     let y = box_top(place.row).saturating_add(13);
     write!(
         out,
-        r#"<text x="{x}" dx="{NAME_MARGIN}" y="{y}">{text}{end}</text>"#
+        r#"<text x="{x}" dx="{NAME_MARGIN}" y="{y}">{sign}{text}{end}</text>"#
     )
 }
 
 // Writes what precedes the boxes: the size of the picture, its title and its look.
-fn write_start(title: &[u8], height: u64, out: &mut Vec<u8>) -> io::Result<()> {
+fn write_start(title: &[u8], legend: &str, height: u64, out: &mut Vec<u8>) -> io::Result<()> {
     let title = XmlText::whole(title);
     let width = GRAPH_WIDTH + 2 * MARGIN;
     out.write_all(START.as_bytes())?;
@@ -307,7 +355,7 @@ fn write_start(title: &[u8], height: u64, out: &mut Vec<u8>) -> io::Result<()> {
     writeln!(out, r#" aria-label="Flame graph of {title}">"#)?;
     out.write_all(STYLE.as_bytes())?;
     writeln!(out, r#"<text x="{MARGIN}" y="18">{title}</text>"#)?;
-    out.write_all(LEGEND.as_bytes())
+    out.write_all(legend.as_bytes())
 }
 
 // Writes the graph: its place, and the boxes.
@@ -340,6 +388,7 @@ fn flame_graph(
     alloc: Global,
     profile: &Profile,
     function_kinds: Option<&FunctionKinds>,
+    old: Option<OldProfile<'_>>,
     caption: Caption<'_>,
 ) -> io::Result<Vec<u8>> {
     let tree = entry_tree(alloc, profile)?;
@@ -350,11 +399,16 @@ fn flame_graph(
         function_kinds,
         total: drawn.total,
         unit: caption.unit,
+        old,
+    };
+    let legend = match old {
+        Some(_) => CHANGES_LEGEND,
+        None => LEGEND,
     };
     let graph_height = box_top(row_count(drawn.boxes.as_slice()));
     let height = graph_height.saturating_add(TOP + BOTTOM);
     let mut out = Vec::new(alloc);
-    write_start(caption.title, height, &mut out)?;
+    write_start(caption.title, legend, height, &mut out)?;
     write_graph(&picture, &drawn, graph_height, &mut out)?;
     write_end(height, &mut out)?;
     Ok(out)
@@ -374,5 +428,40 @@ pub fn write_svg<W: Write>(
 ) -> io::Result<()>
     ensures { OnOk result ((picture : List ℕ) × Appends (W.contents out.old) (W.contents out.new) picture) }
 {
-    out.write_all(flame_graph(alloc, profile, function_kinds, caption)?.as_slice())
+    out.write_all(flame_graph(alloc, profile, function_kinds, None, caption)?.as_slice())
+}
+
+// Returns the flame graph of a profile with the changes since another one, whose lines have counts.
+fn changed_graph(
+    alloc: Global,
+    counts: &LineCounts,
+    profile: &Profile,
+    function_kinds: Option<&FunctionKinds>,
+    caption: Caption<'_>,
+) -> io::Result<Vec<u8>> {
+    let old_lines = OldLines::of_counts(alloc, counts)?;
+    let old = OldProfile {
+        alloc,
+        lines: &old_lines,
+        total: counts.total(),
+    };
+    flame_graph(alloc, profile, function_kinds, Some(old), caption)
+}
+
+/// Writes the flame graph of a new profile as an SVG file, in which the color of a box and the sign before
+/// its name say how its share changed since an old profile: red and `+` for more, blue and `-` for less.
+///
+/// Fails if memory runs out or if the output can't be written.
+pub fn write_changes<W: Write>(
+    alloc: Global,
+    old: &Profile,
+    new: &Profile,
+    function_kinds: Option<&FunctionKinds>,
+    caption: Caption<'_>,
+    out: &mut W,
+) -> io::Result<()>
+    ensures { OnOk result ((picture : List ℕ) × Appends (W.contents out.old) (W.contents out.new) picture) }
+{
+    let counts = lines(alloc, old)?;
+    out.write_all(changed_graph(alloc, &counts, new, function_kinds, caption)?.as_slice())
 }

@@ -22,9 +22,14 @@ pub(crate) const STYLE: &str = r##"</title>
 }
 * { box-sizing: border-box; }
 body { margin: 0; height: 100vh; display: grid;
- grid: auto minmax(0, 1fr) auto / minmax(0, 2fr) minmax(0, 1fr);
+ grid: auto auto minmax(0, 1fr) auto / minmax(0, 2fr) minmax(0, 1fr);
  background: var(--back); color: var(--ink); font: 14px sans-serif; }
-header, footer { grid-column: 1 / 3; padding: 6px 10px; display: flex; gap: 10px; align-items: center; }
+header, footer, #times { grid-column: 1 / 3; }
+#times { border-bottom: 1px solid var(--edge); }
+#times[hidden] { display: none; }
+#strip { display: block; width: 100%; cursor: crosshair; touch-action: none; outline-offset: -2px; }
+input[aria-invalid=true] { outline: 2px dashed; }
+header, footer { padding: 6px 10px; display: flex; gap: 10px; align-items: center; }
 header { flex-wrap: wrap; border-bottom: 1px solid var(--edge); }
 h1 { font-size: 15px; margin: 0; }
 footer { border-top: 1px solid var(--edge); height: 48px; overflow: auto;
@@ -40,9 +45,16 @@ td:nth-child(n+3) { text-align: left; }
 tr.chosen { background: var(--mark); }
 td button { all: unset; cursor: pointer; }
 td button:focus-visible { outline: 2px solid; }
-@media (max-width: 700px) {
- body { grid: auto minmax(0, 1fr) minmax(0, 1fr) auto / minmax(0, 1fr); }
- header, footer { grid-column: 1; }
+@media (max-height: 500px) {
+ body { grid-template-columns: minmax(0, 1fr) minmax(0, 1fr); }
+ header { gap: 2px 8px; padding: 2px 6px; }
+ footer { height: 34px; padding: 2px 6px; }
+ #rows { display: none; }
+}
+@media (max-width: 700px) and (min-height: 501px) {
+ body { grid: auto auto minmax(0, 2fr) minmax(0, 3fr) auto / minmax(0, 1fr); }
+ header, footer, #times { grid-column: 1; }
+ header { gap: 4px 10px; padding: 3px 6px; }
  aside { border-left: 0; border-top: 1px solid var(--edge); }
 }
 </style>
@@ -58,10 +70,13 @@ pub(crate) const BODY: &str = r##"</h1>
 <label>Count <select id="column"></select></label>
 <label>View
  <select id="view"><option value="">callers first</option><option>leaves first</option></select></label>
-<input id="search" type="search" placeholder="Search names ( / )" aria-label="Search names">
+<input id="search" type="search" placeholder="Search names ( / )" aria-label="Search names, a regular expression">
 <output id="found"></output>
+<input id="range" size="31" placeholder="Time: from,to in seconds" aria-label="Times in seconds: from,to">
 <button id="all" disabled>Show all (Esc)</button>
 </header>
+<div id="times" hidden><canvas id="strip" tabindex="0" role="application"></canvas>
+<button id="rows" hidden>All threads</button></div>
 <div id="scroll"><canvas id="graph" tabindex="0" role="application"></canvas><div id="space"></div></div>
 <aside>
 <table id="callers"></table><table id="callees"></table>
@@ -73,6 +88,11 @@ pub(crate) const BODY: &str = r##"</h1>
 <script id="profile" type="text/plain">
 "##;
 
+/// What is between the profile and its samples in order.
+pub(crate) const TIMES: &str = r##"</script>
+<script id="samples" type="text/plain">
+"##;
+
 /// The end of the page: the script that reads the profile. It sets names as text alone.
 pub(crate) const END: &str = r##"</script>
 <script>
@@ -80,8 +100,12 @@ pub(crate) const END: &str = r##"</script>
 (() => {
   const ROW = 18, ROWS = 1000, NARROWEST = 0.4, decoder = new TextDecoder("utf-8", { ignoreBOM: true });
   const element = id => document.getElementById(id);
-  const text = atob(element("profile").textContent.trim()), bytes = new Uint8Array(text.length);
-  for (let i = 0; i < text.length; i++) bytes[i] = text.charCodeAt(i);
+  function decode(id) {
+    const text = atob(element(id).textContent.trim()), decoded = new Uint8Array(text.length);
+    for (let i = 0; i < text.length; i++) decoded[i] = text.charCodeAt(i);
+    return decoded;
+  }
+  let bytes = decode("profile");
 
   // The messages of the profile. A field with bytes is the range at which they are.
   // `low` is the last number modulo 2 ** 32 and signed, which doesn't lose the bits of a negative one.
@@ -207,6 +231,86 @@ pub(crate) const END: &str = r##"</script>
     return sample;
   }
   const samples = ranges.map(readSample);
+  samples.forEach((sample, id) => { sample.id = id; });
+
+  // The samples in order: of each its index above, its time in nanoseconds from the first one, its weight and
+  // the index of its values. `start` is the time of the first one, by the clock of perf.
+  let start = 0n;
+  function longNumber() {
+    let sum = 0n, shift = 0n, byte;
+    do {
+      byte = bytes[at++];
+      sum |= BigInt(byte & 127) << shift;
+      shift += 7n;
+    } while (byte > 127);
+    return sum;
+  }
+  function readOrder() {
+    bytes = decode("samples");
+    at = 0;
+    const count = bytes.length ? number() : 0, all = {
+      count, index: new Int32Array(count), time: new Float64Array(count), weight: new Float64Array(count),
+      column: new Uint16Array(count), first: 0, last: 0
+    };
+    let known = 0, time = NaN, weight = 0, kind = 0;
+    for (let i = 0; i < count; i++) {
+      const first = number(), code = Math.floor(first / 8);
+      all.index[i] = code ? known - code : known++;
+      if (first & 1 && isNaN(time)) {
+        start = longNumber() >> 1n;
+        time = 0;
+      } else if (first & 1) {
+        const step = number();
+        time += step % 2 ? (1 - step) / 2 : step / 2;
+      }
+      all.time[i] = first & 1 ? time : NaN;
+      if (first & 2) weight = number();
+      if (first & 4) kind = number();
+      all.weight[i] = weight;
+      all.column[i] = kind;
+      if (time < all.first) all.first = time;
+      if (time > all.last) all.last = time;
+    }
+    return all;
+  }
+  const order = readOrder();
+  for (const sample of samples) sample.all = sample.values;
+  // The times that are selected, both included, or null.
+  let range = null;
+  function selectTimes() {
+    for (const sample of samples) {
+      if (range && !sample.part) sample.part = new Float64Array(types.length);
+      if (range) sample.part.fill(0);
+      sample.values = range ? sample.part : sample.all;
+    }
+    for (let i = 0; range && i < order.count; i++) {
+      if (!(order.time[i] >= range[0] && order.time[i] <= range[1])) continue;
+      const { values } = samples[order.index[i]];
+      values[0]++;
+      if (order.column[i]) values[order.column[i]] += order.weight[i];
+    }
+  }
+  // A time as text: seconds with nine decimals, as `--time` takes them.
+  function timeText(time) {
+    const all = start + BigInt(Math.round(time));
+    return all / 1000000000n + "." + String(all % 1000000000n).padStart(9, "0");
+  }
+  function timeOf(text, missing) {
+    if (text === "") return missing;
+    const found = /^(\d+)(?:\.(\d{0,9}))?$/.exec(text);
+    if (!found) return NaN;
+    return Number(BigInt(found[1]) * 1000000000n + BigInt((found[2] || "").padEnd(9, "0")) - start);
+  }
+  // The times of a text A,B: null for an empty one, or undefined if it isn't one.
+  function parseRange(text) {
+    const ends = text.split(",");
+    if (text.trim() === "") return null;
+    if (ends.length !== 2) return undefined;
+    const from = timeOf(ends[0].trim(), order.first), to = timeOf(ends[1].trim(), order.last);
+    return from <= to ? [from, to] : undefined;
+  }
+  const rangeText = () => range ? timeText(range[0]) + "," + timeText(range[1]) : "";
+  const seconds = time => (time / 1e9).toFixed(3) + " s";
 
   // The samples of the chosen thread, what they add up to, and their tree: nodes by number, the root is 0.
   let column = 0, chosen = [], total = 0, tree, self, sums;
@@ -224,36 +328,54 @@ pub(crate) const END: &str = r##"</script>
       tree.code[node] = code;
       tree.parent[node] = parent;
       tree.depth[node] = tree.depth[parent] + 1;
-      tree.rows = Math.max(tree.rows, tree.depth[node] + 1);
+      let above = parent;
+      while (above && tree.code[above] !== code) above = tree.parent[above];
+      tree.isOuter[node] = above === 0;
       tree.next[node] = tree.first[parent];
       tree.first[parent] = node;
     }
     return slots[slot];
   }
-  function grow() {
+  // The trees of all samples, the callers first and the leaves first, are made once: of each node, whether no
+  // node above it is one of the same function, and of each sample the last node.
+  const trees = [];
+  function grow(leaves) {
     let size = 1;
-    for (const sample of chosen) size += sample.to - sample.from;
+    for (const sample of samples) size += sample.to - sample.from;
     tree = {
       code: new Int32Array(size), parent: new Int32Array(size), weight: new Float64Array(size),
-      first: new Int32Array(size), next: new Int32Array(size), depth: new Int32Array(size), count: 1, rows: 1
+      first: new Int32Array(size), next: new Int32Array(size), depth: new Int32Array(size),
+      own: new Float64Array(size), isOuter: new Uint8Array(size), ends: new Int32Array(samples.length),
+      count: 1, rows: 1
     };
     slots = new Int32Array(2 ** Math.ceil(Math.log2(size) + 1));
-    const leaves = element("view").value !== "";
-    for (const { from, to, values } of chosen) {
+    samples.forEach(({ from, to }, index) => {
       let node = 0;
-      tree.weight[0] += values[column];
-      for (let i = 0; i < to - from; i++) {
-        node = child(node, codes[leaves ? to - 1 - i : from + i]);
-        tree.weight[node] += values[column];
-      }
-    }
+      for (let i = 0; i < to - from; i++) node = child(node, codes[leaves ? to - 1 - i : from + i]);
+      tree.ends[index] = node;
+    });
     slots = new Int32Array(0);
-    zoomed = current = 0;
+    return tree;
+  }
+  // Sets the tree to that of the chosen samples. A node is after its parent.
+  function weigh(leaves) {
+    tree = trees[Number(leaves)] ||= grow(leaves);
+    tree.weight.fill(0);
+    tree.own.fill(0);
+    tree.rows = 1;
+    for (const { id, values } of chosen) tree.own[tree.ends[id]] += values[column];
+    for (let node = tree.count - 1; node >= 0; node--) {
+      tree.weight[node] += tree.own[node];
+      if (node) tree.weight[tree.parent[node]] += tree.weight[node];
+      if (tree.weight[node] && tree.depth[node] >= tree.rows) tree.rows = tree.depth[node] + 1;
+    }
   }
   const byName = (a, b) => functions[a].name < functions[b].name ? -1 : 1;
   function childrenOf(node) {
     const all = [];
-    for (let child = tree.first[node]; child; child = tree.next[child]) all.push(child);
+    for (let child = tree.first[node]; child; child = tree.next[child]) {
+      if (tree.weight[child]) all.push(child);
+    }
     return all.sort((a, b) => tree.weight[b] - tree.weight[a] || byName(tree.code[a], tree.code[b]));
   }
 
@@ -261,16 +383,12 @@ pub(crate) const END: &str = r##"</script>
   function add() {
     self = new Float64Array(functions.length);
     sums = new Float64Array(functions.length);
-    const last = new Int32Array(functions.length).fill(-1);
-    total = 0;
-    chosen.forEach(({ from, to, values }, index) => {
-      total += values[column];
-      if (to > from) self[codes[to - 1]] += values[column];
-      for (let i = from; i < to; i++) {
-        if (last[codes[i]] !== index) sums[codes[i]] += values[column];
-        last[codes[i]] = index;
-      }
-    });
+    weigh(false);
+    total = tree.weight[0];
+    for (let node = 1; node < tree.count; node++) {
+      self[tree.code[node]] += tree.own[node];
+      if (tree.isOuter[node]) sums[tree.code[node]] += tree.weight[node];
+    }
   }
   const share = weight =>
     (total ? Math.floor((20000 * weight + total) / (2 * total)) / 100 : 0).toFixed(2) + " %";
@@ -341,16 +459,17 @@ pub(crate) const END: &str = r##"</script>
     return Math.abs(sum);
   }
   function colour(code, dim) {
-    const one = functions[code], [hue, strength] = HUES[one.kind], spread = hash(one.name);
-    const light = (dark.matches ? 32 : 72) + spread % 7 + (one.inlined ? 11 : 0);
-    return "hsl(" + (hue - 18 + spread % 37) + "," + (dim ? 8 : strength) + "%," + light + "%)";
+    const one = functions[code], [hue, strength] = HUES[one.kind], kind = hash(one.name);
+    const light = (dark.matches ? 28 : 72) + kind % 7 + (one.inlined ? 11 : 0);
+    return "hsl(" + (hue - 18 + kind % 37) + "," + (dim ? 8 : strength) + "%," + light + "%)";
   }
-  function box(node, left, width, top) {
-    const code = tree.code[node], one = functions[code], searching = element("search").value !== "";
+  const box = (node, left, width, top) => drawBox(tree.code[node], left, width, top, node === current);
+  function drawBox(code, left, width, top, isCurrent) {
+    const one = functions[code], searching = element("search").value !== "";
     const dim = searching && !one.found || selected && code !== selected;
     context.fillStyle = colour(code, dim);
     context.fillRect(left, top, Math.max(width - (width > 3 ? 1 : 0), NARROWEST), ROW - 1);
-    if (node === current) {
+    if (isCurrent) {
       context.strokeStyle = ink;
       context.strokeRect(left + 1, top + 1, width - 3, ROW - 3);
     }
@@ -361,6 +480,136 @@ pub(crate) const END: &str = r##"</script>
     context.fillText(name, left + 4, top + 13);
   }
   let ink = "#000";
+  // The strip of time: a row a thread, the one with most samples first, and one for the others.
+  const strip = element("strip"), stripContext = strip.getContext("2d"), STRIP_ROW = 24;
+  let stripRows = [], isOpen = false;
+  function threadRows() {
+    const counts = new Map();
+    for (let i = 0; i < order.count; i++) {
+      const { thread } = samples[order.index[i]];
+      counts.set(thread, (counts.get(thread) || 0) + 1);
+    }
+    const sorted = [...counts].sort((a, b) => b[1] - a[1] || (a[0] < b[0] ? -1 : 1)).map(([name]) => name);
+    const most = innerHeight > 500 ? 5 : 1;
+    const shownCount = isOpen || sorted.length <= most + 1 ? sorted.length : most;
+    stripRows = sorted.slice(0, shownCount).map(name => [name]);
+    if (shownCount < sorted.length) stripRows.push(sorted.slice(shownCount));
+    element("rows").hidden = sorted.length <= most + 1;
+    element("rows").textContent = isOpen ? "Fewer threads" : "All " + sorted.length + " threads";
+  }
+  const spread = () => order.last - order.first || 1;
+  const timeAt = x => order.first + Math.max(0, Math.min(1, x / strip.clientWidth)) * spread();
+  function density(bins) {
+    const rowOf = new Map(), all = stripRows.map(() => new Float64Array(bins));
+    stripRows.forEach((names, row) => names.forEach(name => rowOf.set(name, row)));
+    const rows = samples.map(sample => rowOf.get(sample.thread));
+    for (let i = 0; i < order.count; i++) {
+      if (isNaN(order.time[i]) || column && order.column[i] !== column) continue;
+      const x = Math.floor((order.time[i] - order.first) / spread() * (bins - 1));
+      all[rows[order.index[i]]][x] += column ? order.weight[i] : 1;
+    }
+    return all;
+  }
+  function drawCurve(numbers, top, most, step) {
+    stripContext.beginPath();
+    stripContext.moveTo(0, top + STRIP_ROW);
+    numbers.forEach((number, x) => {
+      const height = number ? Math.max(1, (STRIP_ROW - 3) * number / most) : 0;
+      stripContext.lineTo(x * step, top + STRIP_ROW - height);
+      stripContext.lineTo((x + 1) * step, top + STRIP_ROW - height);
+    });
+    stripContext.lineTo(numbers.length * step, top + STRIP_ROW);
+    stripContext.fill();
+  }
+  let kept = { key: "", rows: [] };
+  function drawStrip(from, to) {
+    if (element("times").hidden) return;
+    const width = strip.parentElement.clientWidth, height = stripRows.length * STRIP_ROW;
+    const ratio = devicePixelRatio || 1, key = [width, column, stripRows.length].join();
+    strip.width = width * ratio;
+    strip.height = height * ratio;
+    strip.style.height = height + "px";
+    stripContext.scale(ratio, ratio);
+    stripContext.font = "12px monospace";
+    const colour = getComputedStyle(document.body).color, chosenThread = element("thread").value;
+    // A step has some samples, or is a pixel.
+    const bins = Math.max(1, Math.min(width, Math.max(50, Math.ceil(order.count / 4))));
+    if (kept.key !== key) kept = { key, rows: density(bins) };
+    stripRows.forEach((names, row) => {
+      const top = row * STRIP_ROW, numbers = kept.rows[row];
+      stripContext.fillStyle = dark.matches ? "hsl(42,45%,38%)" : "hsl(42,65%,66%)";
+      if (chosenThread && !names.includes(chosenThread)) stripContext.fillStyle = dark.matches ? "#444" : "#ccc";
+      drawCurve(numbers, top, numbers.reduce((most, number) => Math.max(most, number), 1), width / bins);
+    });
+    const ends = (from === undefined ? [] : [from, to]).map(time => (time - order.first) / spread() * width);
+    if (ends.length) {
+      stripContext.fillStyle = dark.matches ? "rgba(0,0,0,.55)" : "rgba(255,255,255,.7)";
+      stripContext.fillRect(0, 0, ends[0], height);
+      stripContext.fillRect(ends[1], 0, width - ends[1], height);
+    }
+    stripContext.fillStyle = colour;
+    for (const x of ends) stripContext.fillRect(Math.min(width - 1, Math.max(0, x - 0.5)), 0, 1, height);
+    stripRows.forEach((names, row) => {
+      const name = names.length > 1 ? names.length + " other threads" : names[0];
+      stripContext.fillText((names.includes(chosenThread) ? "\u25b8 " : "") + name, 4, row * STRIP_ROW + 13);
+    });
+  }
+  function setRange(wanted) {
+    range = wanted;
+    element("range").value = rangeText();
+    choose();
+  }
+
+  // The chart in order of time: boxes as wide as consecutive samples of one thread that share a frame.
+  const isChart = () => element("view").value === "order of time";
+  function chartStacks(width) {
+    const counted = new Map(), picked = [];
+    for (const { thread, values } of chosen) counted.set(thread, (counted.get(thread) || 0) + values[0]);
+    const thread = [...counted].sort((a, b) => b[1] - a[1]).map(([name]) => name)[0];
+    const [from, to] = range || [order.first, order.last], size = to - from || 1;
+    let last = -1, count = 0;
+    for (let i = 0; i < order.count; i++) {
+      const sample = samples[order.index[i]], time = order.time[i];
+      if (sample.thread !== thread || !(time >= from && time <= to)) continue;
+      if (column && order.column[i] !== column) continue;
+      const x = (time - from) / size * width;
+      count++;
+      if (last >= 0 && x - last < 1) continue;
+      picked.push([x, sample]);
+      last = x;
+    }
+    return { thread, picked, gap: Math.max(2, 5 * width / Math.max(1, count)) };
+  }
+  function chartBoxes(width) {
+    const { picked, gap } = chartStacks(width), all = [], open = [];
+    const close = (depth, x) => {
+      while (open.length > depth) {
+        const { code, left } = open.pop();
+        all.push({ code, left, width: Math.max(x - left, 1), depth: open.length });
+      }
+    };
+    let before = 0;
+    for (const [x, { from, to }] of picked) {
+      if (x - before > gap) close(0, before + gap / 5);
+      let same = 0;
+      while (same < open.length && same < to - from && open[same].code === codes[from + same]) same++;
+      close(same, x);
+      for (let i = from + same; i < to; i++) open.push({ code: codes[i], left: x });
+      before = x;
+    }
+    close(0, Math.min(width, before + gap / 5));
+    return all;
+  }
+  function drawChart(width, height, top) {
+    const all = chartBoxes(width);
+    tree.rows = all.reduce((most, one) => Math.max(most, one.depth + 1), 1);
+    for (const { code, left, width: size, depth } of all) {
+      const y = depth * ROW - top;
+      if (y >= height || y <= -ROW) continue;
+      drawBox(code, left, size, y, false);
+      boxes.push([-1 - code, left, size, y]);
+    }
+  }
   function draw() {
     const height = area.clientHeight, ratio = devicePixelRatio || 1;
     element("space").style.height = Math.max(0, tree.rows * ROW - height) + "px";
@@ -373,6 +622,9 @@ pub(crate) const END: &str = r##"</script>
     context.font = "12px monospace";
     ink = getComputedStyle(document.body).color;
     boxes = [];
+    drawStrip(...(range || []));
+    element("all").disabled = !zoomed && !selected && !range && !element("search").value;
+    if (isChart()) return drawChart(width, height, top);
     const path = [];
     for (let node = zoomed; node; node = tree.parent[node]) path.push(tree.parent[node]);
     const open = path.map(node => [node, 0, width]), start = open.length;
@@ -392,7 +644,6 @@ pub(crate) const END: &str = r##"</script>
         x += part;
       }
     }
-    element("all").disabled = !zoomed && !selected && !element("search").value;
   }
   function what() {
     const [, kind, unit] = types[column] || [];
@@ -411,15 +662,19 @@ pub(crate) const END: &str = r##"</script>
   function nodeAt({ offsetX: x, offsetY: y }) {
     const hit = boxes.find(([, left, width, top]) =>
       x >= left && x < left + width && y >= top && y < top + ROW);
-    return hit === undefined ? -1 : hit[0];
+    return hit === undefined ? NaN : hit[0];
   }
 
   // The search, which is kept in the address.
+  // What a name matches, or null for a text that isn't a regular expression.
+  function pattern() {
+    try { return new RegExp(element("search").value, "i"); } catch { return null; }
+  }
   function search() {
-    const wanted = element("search").value.toLowerCase();
+    const text = element("search").value, wanted = text !== "" && pattern();
     let count = 0, weight = 0;
     functions.forEach((one, code) => {
-      one.found = code > 0 && wanted !== "" && one.name.toLowerCase().includes(wanted);
+      one.found = code > 0 && Boolean(wanted) && wanted.test(one.name);
       if (one.found && sums[code] > 0) count++;
     });
     const found = functions.map(one => one.found);
@@ -429,33 +684,48 @@ pub(crate) const END: &str = r##"</script>
       if (i < to) weight += values[column];
     }
     const words = count + (count === 1 ? " function, " : " functions, ") + share(weight);
-    element("found").textContent = wanted ? words : "";
-    const address = "#" + (wanted ? "s=" + encodeURIComponent(element("search").value) : "");
+    element("found").textContent = wanted ? words : text ? "not a regular expression" : "";
+    element("search").setAttribute("aria-invalid", wanted === null);
+    const parts = text ? ["s=" + encodeURIComponent(text)] : [];
+    if (range) parts.push("t=" + rangeText());
+    const address = "#" + parts.join("&");
     if (address !== (location.hash || "#")) location.replace(address);
     list();
     draw();
   }
   function restore() {
-    const kept = /^#s=(.*)$/.exec(location.hash);
-    let wanted = "";
-    try { wanted = kept ? decodeURIComponent(kept[1]) : ""; } catch { wanted = ""; }
-    element("search").value = wanted;
+    const parts = new Map(location.hash.slice(1).split("&").map(part => [part.slice(0, 2), part.slice(2)]));
+    const keptPart = name => {
+      try { return decodeURIComponent(parts.get(name) || ""); } catch { return ""; }
+    };
+    element("search").value = keptPart("s=");
+    range = order.count ? parseRange(keptPart("t=")) || null : null;
+    element("range").value = rangeText();
+    element("range").removeAttribute("aria-invalid");
   }
   function choose() {
     const thread = element("thread").value;
     column = element("column").selectedIndex;
+    selectTimes();
     chosen = samples.filter(sample =>
       sample.values[column] > 0 && (thread === "" || sample.thread === thread));
     add();
-    grow();
-    canvas.setAttribute("aria-label", "Flame graph of " + chosen.length + " stacks, " + total + " " + what());
-    element("shown").textContent = total + " " + what();
+    if (element("view").value === "leaves first") weigh(true);
+    zoomed = current = 0;
+    const kind = isChart() ? "Chart in order of time, thread " + (chartStacks(1).thread || "none") + ", "
+      : "Flame graph of " + chosen.length + " stacks, ";
+    canvas.setAttribute("aria-label", kind + total + " " + what());
+    if (isChart()) element("details").textContent = kind + "most samples of those that are shown";
+    const times = range ? ", " + seconds(range[0]) + " to " + seconds(range[1]) + " from the start" : "";
+    element("shown").textContent = total + " " + what() + times;
+    strip.setAttribute("aria-label", "Samples over time, " + seconds(spread()) + ": drag to select a range, "
+      + "click a thread, arrows move the range, Escape shows all");
     search();
   }
   function showAll() {
     zoomed = selected = 0;
     element("search").value = "";
-    search();
+    setRange(null);
   }
   function move(key) {
     const parent = tree.parent[current], beside = current ? childrenOf(parent) : [0];
@@ -474,36 +744,90 @@ pub(crate) const END: &str = r##"</script>
   }
   canvas.onmousemove = event => {
     const node = nodeAt(event);
-    if (node >= 0 && node !== current) show(node);
+    if (node < 0) describe(-1 - node, sums[-1 - node]); else if (node >= 0 && node !== current) show(node);
   };
   canvas.onclick = event => {
     const node = nodeAt(event);
     if (node >= 0) zoom(node);
+    if (node >= 0 || isNaN(node)) return;
+    selected = selected === -1 - node ? 0 : -1 - node;
+    list();
+    draw();
   };
   canvas.onkeydown = event => {
-    if (event.key !== "Enter" && !event.key.startsWith("Arrow")) return;
+    if (isChart() || event.key !== "Enter" && !event.key.startsWith("Arrow")) return;
     event.preventDefault();
     if (event.key === "Enter") zoom(current); else move(event.key);
   };
   document.onkeydown = event => {
     if (event.ctrlKey || event.metaKey || event.altKey) return;
-    if (event.key === "Escape" && zoomed) zoom(0); else if (event.key === "Escape") showAll();
+    if (event.key === "Escape" && zoomed) zoom(0);
+    else if (event.key === "Escape" && range) setRange(null);
+    else if (event.key === "Escape") showAll();
     if (event.key !== "/" || document.activeElement === element("search")) return;
     event.preventDefault();
     element("search").focus();
+  };
+  let dragged = null;
+  strip.onpointerdown = event => {
+    dragged = event.offsetX;
+    strip.setPointerCapture(event.pointerId);
+  };
+  const rangeTo = x => [timeAt(Math.min(dragged, x)), timeAt(Math.max(dragged, x))].map(Math.round);
+  strip.onpointermove = event => {
+    if (dragged !== null) drawStrip(...rangeTo(event.offsetX));
+  };
+  strip.onpointerup = event => {
+    const ends = rangeTo(event.offsetX), isClick = Math.abs(event.offsetX - dragged) < 3;
+    dragged = null;
+    if (!isClick) return setRange(ends);
+    const names = stripRows[Math.floor(event.offsetY / STRIP_ROW)] || [];
+    if (names.length > 1) return openRows();
+    element("thread").value = element("thread").value === names[0] ? "" : names[0];
+    return choose();
+  };
+  strip.onkeydown = event => {
+    if (event.key !== "ArrowLeft" && event.key !== "ArrowRight") return;
+    event.preventDefault();
+    const [from, to] = range || [order.first, order.first + Math.round(spread() / 10)];
+    const step = range ? Math.max(1, Math.round((to - from) / 2)) * (event.key === "ArrowLeft" ? -1 : 1) : 0;
+    setRange([from + step, to + step]);
+  };
+  function openRows() {
+    isOpen = !isOpen;
+    threadRows();
+    draw();
+  }
+  element("rows").onclick = openRows;
+  element("range").onchange = () => {
+    const wanted = parseRange(element("range").value);
+    element("range").setAttribute("aria-invalid", wanted === undefined);
+    if (wanted !== undefined) setRange(wanted);
   };
   element("all").onclick = showAll;
   element("search").oninput = search;
   element("order").onchange = list;
   for (const id of ["thread", "column", "view"]) element(id).onchange = choose;
   area.onscroll = draw;
-  window.onresize = draw;
-  window.onhashchange = () => { restore(); search(); };
+  window.onresize = () => {
+    threadRows();
+    draw();
+  };
+  window.onhashchange = () => {
+    const before = rangeText();
+    restore();
+    if (rangeText() === before) search(); else choose();
+  };
   dark.onchange = draw;
   const threads = new Set(samples.map(sample => sample.thread));
   for (const thread of [...threads].sort()) element("thread").add(new Option(thread));
   for (const type of types) element("column").add(new Option(string(type[1])));
   element("column").selectedIndex = Math.max(0, types.findIndex(type => type[1] === shown));
+  if (order.count && order.last > order.first) {
+    element("times").hidden = false;
+    element("view").add(new Option("order of time"));
+  } else element("range").hidden = true;
+  threadRows();
   restore();
   choose();
 })();
