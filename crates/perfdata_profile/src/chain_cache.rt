@@ -51,7 +51,7 @@ fn chain_hash(pid: i32, frames: &[SampleFrame]) -> u64 {
 }
 
 // Returns the number of the slot of a hash.
-fn slot_of(hash: u64) -> usize {
+fn slot_number(hash: u64) -> usize {
     (hash >> (u64::BITS - SLOT_BITS)) as usize
 }
 
@@ -86,7 +86,7 @@ impl ChainCache {
         if self.chains.is_empty() {
             return None;
         }
-        let slot = self.slots.get(slot_of(chain_hash(pid, frames)))?;
+        let slot = self.slots.get(slot_number(chain_hash(pid, frames)))?;
         let chain = self.chains.get(slot.index)?;
         let kept = self.frames.get(chain.start..chain.end)?;
         if chain.pid == pid && kept == frames {
@@ -96,7 +96,7 @@ impl ChainCache {
         }
     }
 
-    // Removes all chains if one of so many frames more would be too many.
+    // Removes all chains if one of `count` frames more would be too many.
     fn make_space(&mut self, count: usize)
         ensures { AddsNoChain self.old self.new }
     {
@@ -128,7 +128,7 @@ impl ChainCache {
     {
         self.slots
             .resize(1 << SLOT_BITS, Slot { hash: 0, index: 0 })?;
-        let Some(slot) = self.slots.get_mut(slot_of(hash)) else {
+        let Some(slot) = self.slots.get_mut(slot_number(hash)) else {
             return Ok(false);
         };
         let is_repeated = slot.hash == hash;
@@ -141,7 +141,7 @@ impl ChainCache {
         ensures { chains_in self.new ≡ chains_in self.old }
     {
         let index = self.chains.len();
-        if let Some(slot) = self.slots.get_mut(slot_of(hash)) {
+        if let Some(slot) = self.slots.get_mut(slot_number(hash)) {
             slot.index = index;
         }
     }

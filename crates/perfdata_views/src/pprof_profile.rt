@@ -747,7 +747,7 @@ impl<'a> Converter<'a> {
     }
 }
 
-// Adds what comes before the samples: the sample types, the program and the mappings. Returns the index of
+// Adds what precedes the samples: the sample types, the program and the mappings. Returns the index of
 // the values of each column.
 fn add_heading(
     alloc: Global,

@@ -538,7 +538,7 @@ fn source_flags(
 }
 
 // Returns what the locations in the mapping with an index have.
-fn flags_at(flags: &[SourceFlags], index: usize) -> SourceFlags
+fn mapping_flags(flags: &[SourceFlags], index: usize) -> SourceFlags
     ensures { result ≡ slice_index_or flags.now index no_flags }
 {
     if index < flags.len() {
@@ -558,7 +558,7 @@ fn flagged_mappings(
 {
     let mut mappings = Vec::new(alloc);
     'rows: for file in files {
-        let flags = flags_at(flags, mappings.len());
+        let flags = mapping_flags(flags, mappings.len());
         mappings.push(Mapping {
             id: mappings.len() as u64 + 1,
             memory_start: file.memory_start,

@@ -13,7 +13,7 @@ rows-preserved c =
     let id = c.len-in-rows.result + 1 in
     let counted : c.len-in-rows.result ≡ length c.rows.mappings.items = omega arith in
     let index : c.len.result ≡ id - 1 = omega arith in
-    let value = c.flags_at-flags.ensures ∙ ap (λ (n : ℕ). slice_index_or flags n no_flags) index in
+    let value = c.mapping_flags-flags.ensures ∙ ap (λ (n : ℕ). slice_index_or flags n no_flags) index in
     let longer = c.in_ok-push.ensures.items ∙ ap (λ (f : SourceFlags). c.rows.mappings.items ++ row_with f id c.in-Some.file.now ∷ []) value in
     rows_more (flagged_row flags) deref c.rows.yielded c.in-Some.file c.rows.mappings.items c.push.new.self.items c.len-in-rows.result c.rows.invariant counted longer
 
