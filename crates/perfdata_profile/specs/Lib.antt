@@ -11,6 +11,7 @@ pub mod Resolving
 pub mod SampleSums
 pub mod SampleLists
 pub mod Samples
+pub mod Selecting
 pub mod Sums
 pub mod Interned
 pub mod Tallies

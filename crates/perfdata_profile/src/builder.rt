@@ -10,6 +10,7 @@ ghost use Rattle.perfdata_profile.specs.steps.Building.{HasStack, HasThread};
 ghost use Rattle.perfdata_profile.specs.Locating.{CacheHolds, located_lists};
 ghost use Rattle.perfdata_profile.specs.steps.Locating.{IsTime, LocatorGrows};
 ghost use Rattle.perfdata_profile.specs.SampleLists.{ListsCounted, ListsIfSome, listed_in};
+ghost use Rattle.perfdata_profile.specs.Selecting.{AddsSelected, FiltersWeight, IsOrigin, Selects};
 ghost use Rattle.perfdata_profile.specs.SampleSums.{KeepsSums, TalliesSamples, entries_of, then_counted};
 ghost use Rattle.perfdata_profile.specs.Tallies.{Counted};
 ghost use Rattle.perfdata_profile.specs.declared.sums.SampleKey.{SampleKey};
@@ -408,7 +409,10 @@ impl<R: Resolver> ProfileBuilder<R> {
     }
 
     // Returns what a filter compares of a sample.
-    fn origin<'a>(&'a self, sample: &SampleRecord<'_>) -> SampleOrigin<'a> {
+    fn origin<'a>(&'a self, sample: &SampleRecord<'_>) -> SampleOrigin<'a>
+        ensures { (before : List Applied) → Follows before self.now.spaces →
+            IsOrigin before sample.now result }
+    {
         let task = sample_task(sample);
         SampleOrigin {
             comm: self.spaces.comm(task.tid),
@@ -420,7 +424,10 @@ impl<R: Resolver> ProfileBuilder<R> {
     }
 
     // Returns whether a filter selects a sample.
-    fn selects(&self, filter: &SampleFilter<'_>, sample: &SampleRecord<'_>) -> bool {
+    fn selects(&self, filter: &SampleFilter<'_>, sample: &SampleRecord<'_>) -> bool
+        ensures { (before : List Applied) → Follows before self.now.spaces →
+            Selects before filter.now sample.now result }
+    {
         filter.selects(&self.origin(sample))
     }
 
@@ -430,7 +437,10 @@ impl<R: Resolver> ProfileBuilder<R> {
         filter: &SampleFilter<'_>,
         event: &EventRecord<'_>,
         weight: Option<SampleWeight>,
-    ) -> Option<SampleWeight> {
+    ) -> Option<SampleWeight>
+        ensures { (before : List Applied) → Follows before self.now.spaces →
+            FiltersWeight before filter.now event.now weight result }
+    {
         match event {
             EventRecord::Sample(sample) => {
                 if self.selects(filter, sample) {
@@ -456,6 +466,9 @@ impl<R: Resolver> ProfileBuilder<R> {
         event: &EventRecord<'_>,
         weight: Option<SampleWeight>,
     ) -> Result<bool, ProfileError>
+        ensures ok { IfOk result (λ counted. (options : ProfileOptions) (given : List Given) →
+            Builds R.meaning options given self.old →
+            AddsSelected R.meaning options given filter.now misc event.now weight counted self.new) }
         ensures err { OnErr result (KeepsSums self.old.sums self.new.sums) }
     {
         let selected = self.selected_weight(filter, event, weight);
