@@ -3,10 +3,12 @@ use crate::command_line::FAILURE;
 use crate::input::path_of_name;
 use crate::other_format::OtherFormat;
 use crate::position::Position;
+use crate::recording::RecordingKind;
 use linux_perf_data::Error;
 use linux_perf_data::jitdump::JitDumpError;
 use linux_perf_data::source::Counted;
-use linux_perf_data::truncation::{OpeningPart, find_truncated_part};
+use linux_perf_data::truncation::{Completeness, OpeningPart, find_truncated_part};
+use perfdata_compressed::ContentEnd;
 use std::fmt::{Display, Formatter, InlineText};
 use std::fs::File;
 use std::io::ErrorKind;
@@ -249,4 +251,23 @@ pub fn print_error(rt: &HostRuntime, program: &str, input: &str, error: &Program
         }
         ProgramError::Output(cause) => print_output_error(rt, program, cause),
     }
+}
+
+/// Prints where the compressed data of a file end, if they end in a record or in a block: perf drops the end
+/// of what it compressed last, which is no error. Also prints why the content of a file whose end is missing
+/// can't be read. In other files the record there has this error.
+pub fn print_content_end(rt: &HostRuntime, program: &str, input: &str, kind: RecordingKind) {
+    let _ = match kind.content_end {
+        ContentEnd::Whole => Ok(()),
+        ContentEnd::InBlock => {
+            eprintln!(rt; "{program}: {input}: the compressed data end in a block")
+        }
+        ContentEnd::InRecord(size) => {
+            eprintln!(rt;
+                "{program}: {input}: the compressed data end in a record, after {size} bytes of it"
+            )
+        }
+        ContentEnd::Error(_) if kind.completeness == Completeness::Complete => Ok(()),
+        ContentEnd::Error(error) => eprintln!(rt; "{program}: {input}: {error}"),
+    };
 }

@@ -5,12 +5,13 @@ ghost use Rattle.perfdata_sources.specs.Source.{opaque_source};
 ghost use Rattle.perfdata_cli.specs.Inputs.{OpensInMemory};
 
 use crate::error::InputError;
-use crate::input_bytes::{InputBytes, Unread};
+use crate::input_bytes::{InputBytes, RawBytes, Unread};
 use crate::other_format::OtherFormat;
 use linux_perf_data::in_memory::InMemoryReader;
 pub use linux_perf_data::input_kind::InputKind;
 use linux_perf_data::input_kind::START_SIZE;
 use perfdata_base::source::CountedBuffer;
+use perfdata_compressed::{ContentEnd, DecompressedFile, DecompressedPipe, is_compressed_file};
 use std::alloc::Global;
 use std::fs::File;
 use std::io::{BufReader, Cursor, Input as StandardInput, Read, Result, Seek, copy};
@@ -170,8 +171,8 @@ impl OpenInput {
         }
     }
 
-    /// Reads the input into memory.
-    pub fn into_bytes(self) -> Result<Vec<u8>> {
+    // Reads the input as it is into memory.
+    fn into_raw_vec(self) -> Result<Vec<u8>> {
         let OpenInput {
             mut start,
             mut unread,
@@ -181,9 +182,9 @@ impl OpenInput {
         Ok(start)
     }
 
-    // Returns the bytes of the input from its start. A regular file is sought, a pipe is read as a stream,
-    // and other inputs are read into memory.
-    fn into_input_bytes(self) -> Result<InputBytes> {
+    // Returns the bytes of the input as they are, from its start. A regular file is sought, a pipe is read as
+    // a stream, and other inputs are read into memory.
+    fn into_raw_bytes(self) -> Result<RawBytes> {
         match self {
             OpenInput {
                 unread: Unread::File(mut file),
@@ -191,27 +192,60 @@ impl OpenInput {
                 ..
             } => {
                 file.rewind()?;
-                Ok(InputBytes::File(file))
+                Ok(RawBytes::File(file))
             }
             OpenInput {
                 kind: Some(InputKind::Pipe),
                 start,
                 unread,
                 ..
-            } => Ok(InputBytes::Stream(Cursor::new(start).chain(unread))),
-            input => Ok(InputBytes::Memory(Cursor::new(input.into_bytes()?))),
+            } => Ok(RawBytes::Stream(Cursor::new(start).chain(unread))),
+            input => Ok(RawBytes::Memory(Cursor::new(input.into_raw_vec()?))),
         }
     }
 
-    /// Returns the input from its start as a source with a buffer of `BUFFER_SIZE` bytes.
+    // Returns the bytes of the input from its start. Those of a recording are without compression.
+    pub(crate) fn into_input_bytes(self, alloc: Global) -> Result<InputBytes> {
+        let kind = self.kind;
+        let bytes = self.into_raw_bytes()?;
+        match kind {
+            Some(InputKind::Pipe) => Ok(InputBytes::Pipe(DecompressedPipe::new(alloc, bytes)?)),
+            Some(InputKind::File) => file_bytes(alloc, bytes),
+            Some(InputKind::JitDump) | None => Ok(InputBytes::Raw(bytes)),
+        }
+    }
+
+    /// Reads the input into memory, a recording without compression. Returns its bytes, and where the content
+    /// of a file's compressed records ends.
+    ///
+    /// Fails if a read fails, if content can't be read, or if memory runs out.
+    pub fn into_bytes(self, alloc: Global) -> Result<(Vec<u8>, ContentEnd)> {
+        let mut bytes = self.into_input_bytes(alloc)?;
+        let end = bytes.content_end();
+        let mut all = Vec::new(alloc);
+        bytes.read_to_end(&mut all)?;
+        Ok((all, end))
+    }
+
+    /// Returns the input from its start as a source with a buffer of `BUFFER_SIZE` bytes. A recording is
+    /// without compression.
     ///
     /// The buffer is empty, and the counts of I/O errors and of empty reads are 0.
     pub fn into_source(self, alloc: Global) -> Result<CountedBuffer<InputBytes>>
         ensures counts { IfOk result (λ s. buffered_state s ≡ opaque_source 0 0) }
         ensures empty { IfOk result (λ s. counted_buffer_bytes s ≡ []) }
     {
-        with_buffer(alloc, self.into_input_bytes()?)
+        with_buffer(alloc, self.into_input_bytes(alloc)?)
     }
+}
+
+// Returns the bytes of a perf.data file, without compression.
+fn file_bytes(alloc: Global, mut bytes: RawBytes) -> Result<InputBytes> {
+    if is_compressed_file(alloc, &mut bytes)? {
+        return Ok(InputBytes::File(DecompressedFile::new(alloc, bytes)?));
+    }
+    bytes.rewind()?;
+    Ok(InputBytes::Raw(bytes))
 }
 
 /// Opens a pipe or a perf.data file in memory. Fails with `Metadata` if its metadata can't be read.

@@ -1,5 +1,7 @@
-//! The bytes of an input: a file, a stream after its first bytes, or bytes in memory.
+//! The bytes of an input: a file, a stream after its first bytes, or bytes in memory; those of a recording
+//! without compression.
 use perfdata_base::source::CountedBuffer;
+use perfdata_compressed::{ContentEnd, DecompressedFile, DecompressedPipe};
 use std::fs::File;
 use std::io::{Chain, Cursor, ErrorKind, Read, Result, Seek, SeekFrom};
 use std::rt::Stdin;
@@ -25,9 +27,9 @@ impl Read for Unread {
 /// The bytes of an input in a buffer.
 pub type Source = CountedBuffer<InputBytes>;
 
-/// The bytes of an input from its start.
+/// The bytes of an input from its start, as they are.
 #[derive(Drop)]
-pub enum InputBytes {
+pub enum RawBytes {
     /// A file that can be sought.
     File(File),
     /// A stream, whose first bytes are in memory.
@@ -36,23 +38,65 @@ pub enum InputBytes {
     Memory(Cursor<Vec<u8>>),
 }
 
+impl Read for RawBytes {
+    fn read(&mut self, buf: &mut [u8]) -> Result<usize> {
+        match self {
+            RawBytes::File(file) => file.read(buf),
+            RawBytes::Stream(stream) => stream.read(buf),
+            RawBytes::Memory(bytes) => bytes.read(buf),
+        }
+    }
+}
+
+impl Seek for RawBytes {
+    // Fails for a stream.
+    fn seek(&mut self, to: SeekFrom) -> Result<u64> {
+        match self {
+            RawBytes::File(file) => file.seek(to),
+            RawBytes::Stream(_) => Err(ErrorKind::NotSeekable.into()),
+            RawBytes::Memory(bytes) => bytes.seek(to),
+        }
+    }
+}
+
+/// The bytes of an input from its start. Those of a recording are without compression.
+#[derive(Drop)]
+pub enum InputBytes {
+    /// A file without compressed records, or an input that is no recording.
+    Raw(RawBytes),
+    /// A file with compressed records.
+    File(DecompressedFile<RawBytes>),
+    /// A pipe.
+    Pipe(DecompressedPipe<RawBytes>),
+}
+
+impl InputBytes {
+    /// Returns where the content of a file's compressed records ends.
+    pub fn content_end(&self) -> ContentEnd {
+        match self {
+            InputBytes::File(file) => file.content_end(),
+            InputBytes::Raw(_) | InputBytes::Pipe(_) => ContentEnd::Whole,
+        }
+    }
+}
+
 impl Read for InputBytes {
     fn read(&mut self, buf: &mut [u8]) -> Result<usize> {
         match self {
+            InputBytes::Raw(bytes) => bytes.read(buf),
             InputBytes::File(file) => file.read(buf),
-            InputBytes::Stream(stream) => stream.read(buf),
-            InputBytes::Memory(bytes) => bytes.read(buf),
+            InputBytes::Pipe(pipe) => pipe.read(buf),
         }
     }
 }
 
 impl Seek for InputBytes {
-    // Fails for a stream.
+    // Fails for a pipe, and for a stream.
     fn seek(&mut self, to: SeekFrom) -> Result<u64> {
         match self {
+            InputBytes::Raw(bytes) => bytes.seek(to),
             InputBytes::File(file) => file.seek(to),
-            InputBytes::Stream(_) => Err(ErrorKind::NotSeekable.into()),
-            InputBytes::Memory(bytes) => bytes.seek(to),
+            InputBytes::Pipe(_) => Err(ErrorKind::NotSeekable.into()),
         }
     }
 }

@@ -89,8 +89,8 @@ impl<'a> Progress<'a> {
         let mut out = self.rt.stderr();
         let records = self.records;
         let _ = match self.size {
-            Some(size) => write!(out, "\r{end} of {size} bytes, {records} records"),
-            None => write!(out, "\r{end} bytes, {records} records"),
+            Some(size) if end <= size => write!(out, "\r{end} of {size} bytes, {records} records"),
+            _ => write!(out, "\r{end} bytes, {records} records"),
         };
     }
 

@@ -2,7 +2,7 @@
 
 use crate::error::InputError;
 use crate::input::{OpenInput, with_buffer};
-use crate::input_bytes::{InputBytes, Source};
+use crate::input_bytes::{InputBytes, RawBytes, Source};
 use linux_perf_data::in_memory::InMemoryReader;
 use linux_perf_data::truncation::{Completeness, find_whole_parts};
 use linux_perf_data::{
@@ -10,6 +10,7 @@ use linux_perf_data::{
 };
 use perfdata_base::header::PerfHeader;
 use perfdata_base::source::PlacedSource;
+use perfdata_compressed::ContentEnd;
 use perfdata_order::records::Records;
 use std::alloc::Global;
 use std::io;
@@ -27,6 +28,8 @@ pub struct RecordingKind {
     pub completeness: Completeness,
     /// Whether the header of the file names features.
     pub has_features: bool,
+    /// Where the content of the file's compressed records ends.
+    pub content_end: ContentEnd,
 }
 
 impl RecordingKind {
@@ -35,6 +38,7 @@ impl RecordingKind {
         is_pipe: true,
         completeness: Completeness::Complete,
         has_features: false,
+        content_end: ContentEnd::Whole,
     };
 
     // Returns the kind of a file.
@@ -46,7 +50,15 @@ impl RecordingKind {
             is_pipe: false,
             completeness,
             has_features: header.features.iter().next().is_some(),
+            content_end: ContentEnd::Whole,
         })
+    }
+
+    /// Returns the kind of a recording whose content ends there.
+    pub fn with_content_end(self, content_end: ContentEnd) -> RecordingKind {
+        let mut kind = self;
+        kind.content_end = content_end;
+        kind
     }
 
     /// Returns the error of a recording whose end is missing, after its records were read.
@@ -108,18 +120,22 @@ impl Recording {
     /// Opens an input of this kind, a file or a pipe. Fails with `Metadata` if its metadata can't be read.
     pub fn open(alloc: Global, input: OpenInput) -> Result<Recording, InputError> {
         let is_pipe = input.is_pipe()?;
-        let source = input.into_source(alloc).map_err(InputError::Io)?;
+        let bytes = input.into_input_bytes(alloc).map_err(InputError::Io)?;
+        let content_end = bytes.content_end();
+        let source = with_buffer(alloc, bytes).map_err(InputError::Io)?;
         let opened = if is_pipe {
             open_pipe(alloc, source)
         } else {
             open_file(alloc, source)
         };
-        opened.map_err(InputError::Metadata)
+        let Recording { reader, kind } = opened.map_err(InputError::Metadata)?;
+        let kind = kind.with_content_end(content_end);
+        Ok(Recording { reader, kind })
     }
 
     /// Opens a file with these bytes. Fails with `Metadata` if its metadata can't be read.
     pub fn open_bytes(alloc: Global, bytes: Vec<u8>) -> Result<Recording, InputError> {
-        let bytes = InputBytes::Memory(Cursor::new(bytes));
+        let bytes = InputBytes::Raw(RawBytes::Memory(Cursor::new(bytes)));
         let source = with_buffer(alloc, bytes).map_err(InputError::Io)?;
         open_file(alloc, source).map_err(InputError::Metadata)
     }

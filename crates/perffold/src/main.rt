@@ -19,7 +19,7 @@ use options::{
 use output::{FoldError, no_output_reason, profile_bytes};
 use perfdata_cli::arguments::{parse_filter, recording_filter};
 use perfdata_cli::command_line::{FAILURE, Program, SUCCESS, USAGE_ERROR, run_program};
-use perfdata_cli::error::{InputError, ProgramError, print_error};
+use perfdata_cli::error::{InputError, ProgramError, print_content_end, print_error};
 use perfdata_cli::input::{OpenInput, display_name, input_path};
 use perfdata_cli::progress::Progress;
 use perfdata_cli::recording::{Recording, RecordingRecords};
@@ -151,6 +151,9 @@ fn read_input<'a>(
     let input = OpenInput::open_recording(rt, path)?;
     let mut progress = Progress::start(rt, input.size).unless_quiet(arguments.is_quiet);
     let Recording { reader, kind } = Recording::open(rt.alloc(), input)?;
+    if !arguments.is_quiet {
+        print_content_end(rt, NAME, display_name(path), kind);
+    }
     let mut perf_file = reader.perf_file;
     let mut records = RecordingRecords::new(rt.alloc(), kind, &perf_file, reader.record_iter);
     let filter = recording_filter(filter, &perf_file)?;

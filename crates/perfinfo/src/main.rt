@@ -27,7 +27,7 @@ use perfdata_cli::arguments::{
 use perfdata_cli::command_line::{
     Program, RECORDING_OR_JITDUMP_HELP, SUCCESS, command, run_program,
 };
-use perfdata_cli::error::{InputError, ProgramError, print_error};
+use perfdata_cli::error::{InputError, ProgramError, print_content_end, print_error};
 use perfdata_cli::input::{InputKind, OpenInput, display_name, input_path};
 use perfdata_cli::input_bytes::Source;
 use perfdata_cli::progress::Progress;
@@ -151,7 +151,11 @@ fn report_input(
         return report_jitdump(rt, JitDumpReader::new(rt.alloc(), source));
     }
     let size = input.size;
-    report_records(rt, arguments, Recording::open(rt.alloc(), input)?, size)
+    let recording = Recording::open(rt.alloc(), input)?;
+    if !arguments.is_quiet {
+        print_content_end(rt, NAME, display_name(path), recording.kind);
+    }
+    report_records(rt, arguments, recording, size)
 }
 
 // The program.

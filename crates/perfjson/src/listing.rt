@@ -1,11 +1,12 @@
 //! Lists an input on standard output.
+use crate::NAME;
 use crate::options::Options;
 use crate::record_line::RecordLine;
 use crate::selected::list_selected;
 use crate::tracked_line::TrackedLine;
 use linux_perf_data::{Error, PerfFile, PerfFileReader, PerfRecordIter};
-use perfdata_cli::error::{InputError, ProgramError};
-use perfdata_cli::input::OpenInput;
+use perfdata_cli::error::{InputError, ProgramError, print_content_end};
+use perfdata_cli::input::{OpenInput, display_name};
 use perfdata_cli::input_bytes::Source;
 use perfdata_cli::position::Position;
 use perfdata_cli::progress::Progress;
@@ -34,13 +35,25 @@ pub(crate) fn list_input(
     let input = OpenInput::open_recording(rt, path)?;
     let is_pipe = input.is_pipe()?;
     if options.is_filtered {
-        list_selected(rt, options, filter, input)
+        list_selected(rt, options, filter, input, path)
     } else if options.is_by_time {
-        list_input_by_time(rt, options.byte_limit, input, is_pipe)
+        list_input_by_time(rt, options, input, is_pipe, path)
     } else if is_pipe {
         list_pipe(rt, options, input)
     } else {
-        list_file(rt, options, input)
+        list_file(rt, options, input, path)
+    }
+}
+
+/// Prints where the compressed data of the input at a path end, unless no messages are wanted.
+pub(crate) fn show_content_end(
+    rt: &HostRuntime,
+    options: &Options<'_>,
+    path: &str,
+    kind: RecordingKind,
+) {
+    if !options.is_quiet {
+        print_content_end(rt, NAME, display_name(path), kind);
     }
 }
 
@@ -90,9 +103,11 @@ fn list_file(
     rt: &HostRuntime,
     options: &Options<'_>,
     input: OpenInput,
+    path: &str,
 ) -> Result<(), ProgramError> {
     let progress = Progress::beside_output(rt, input.size).unless_quiet(options.is_quiet);
     let Recording { reader, kind } = Recording::open(rt.alloc(), input)?;
+    show_content_end(rt, options, path, kind);
     let line = RecordLine::new(JsonLine::new(rt.alloc(), options.byte_limit), kind);
     let mut line = TrackedLine::new(line, progress);
     let mut out = output(rt)?;
@@ -165,15 +180,18 @@ fn list_unfinished_by_time(
 // Lists an input in order of time. The input is read into memory.
 fn list_input_by_time(
     rt: &HostRuntime,
-    byte_limit: usize,
+    options: &Options<'_>,
     input: OpenInput,
     is_pipe: bool,
+    path: &str,
 ) -> Result<(), ProgramError> {
-    let bytes = input.into_bytes().map_err(InputError::Io)?;
+    let byte_limit = options.byte_limit;
+    let (bytes, end) = input.into_bytes(rt.alloc()).map_err(InputError::Io)?;
     if !is_pipe && !is_complete_file(rt.alloc(), &bytes)? {
         return list_unfinished_by_time(rt, byte_limit, bytes);
     }
     let RecordingInMemory { reader, kind } = open_recording_in_memory(rt.alloc(), &bytes, is_pipe)?;
+    show_content_end(rt, options, path, kind.with_content_end(end));
     let mut out = output(rt)?;
     let mut line = RecordLine::new(JsonLine::new(rt.alloc(), byte_limit), kind);
     let listed = list_by_time(rt.alloc(), reader, &mut line, &mut out);

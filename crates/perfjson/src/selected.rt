@@ -1,5 +1,5 @@
 //! Lists the samples that the options select, in order of time.
-use crate::listing::{Output, finish, output};
+use crate::listing::{Output, finish, output, show_content_end};
 use crate::options::Options;
 use linux_perf_data::event::{RawEventRecord, RecordType};
 use linux_perf_data::{Error, PerfFile, PerfFileReader, PerfFileRecord};
@@ -151,9 +151,11 @@ pub(crate) fn list_selected(
     options: &Options<'_>,
     filter: FilterOptions<'_>,
     input: OpenInput,
+    path: &str,
 ) -> Result<(), ProgramError> {
     let progress = Progress::beside_output(rt, input.size).unless_quiet(options.is_quiet);
     let Recording { reader, kind } = Recording::open(rt.alloc(), input)?;
+    show_content_end(rt, options, path, kind);
     let mut perf_file = reader.perf_file;
     let filter = recording_filter(filter, &perf_file)?;
     let mut records = RecordingRecords::new(rt.alloc(), kind, &perf_file, reader.record_iter);
