@@ -11,6 +11,7 @@ pub mod LineLemmas
 pub mod LookupLemmas
 pub mod MapLineLemmas
 pub mod NameLemmas
+pub mod NoteLemmas
 pub mod MergeLemmas
 pub mod PltLemmas
 pub mod StringLemmas

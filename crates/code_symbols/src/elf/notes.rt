@@ -1,7 +1,9 @@
 //! Notes, and the build id in them.
 
+ghost use Rattle.std.specs.Option.{option_map};
 ghost use Rattle.std.specs.Prelude.{◌≡◌, ◌^◌, ◌<◌, ◌≤◌, IfNone, IfSome, length};
-ghost use Rattle.code_symbols.specs.Notes.{IsComplete, note_alignment, round_up};
+ghost use Rattle.code_symbols.specs.Notes.{IsComplete, IsFirstBuildId, IsKernelBuildId, note_alignment};
+ghost use Rattle.code_symbols.specs.Notes.{round_up};
 ghost use Rattle.code_symbols.specs.steps.Notes.{IsLayout};
 
 use crate::elf::header::{NOTE_SECTION, Section};
@@ -92,7 +94,9 @@ fn note_layout(entry: TableEntry<'_>, has_align_8: bool) -> Option<NoteLayout>
 /// Returns the build id in the notes of a kernel (`/sys/kernel/notes` of Linux), aligned to 4 bytes: the
 /// description of the first note of the type `NT_GNU_BUILD_ID` whose owner is `GNU`. `None` if there is none,
 /// or a note before it is truncated.
-pub fn build_id_of_notes(endian: Endianness, notes: &[u8]) -> Option<&[u8]> {
+pub fn build_id_of_notes(endian: Endianness, notes: &[u8]) -> Option<&[u8]>
+    ensures { IsKernelBuildId endian notes.now (option_map (λ id. id.now) result) }
+{
     let encoding = Encoding {
         endian,
         is_64_bit: true,
@@ -101,7 +105,10 @@ pub fn build_id_of_notes(endian: Endianness, notes: &[u8]) -> Option<&[u8]> {
 }
 
 // The build id in these notes.
-pub(crate) fn find_build_id(encoding: Encoding, notes: &[u8], has_align_8: bool) -> Option<&[u8]> {
+pub(crate) fn find_build_id(encoding: Encoding, notes: &[u8], has_align_8: bool) -> Option<&[u8]>
+    ensures { IsFirstBuildId encoding (note_alignment has_align_8) notes.now
+        (option_map (λ id. id.now) result) }
+{
     let mut at = 0;
     'notes: while at < notes.len() {
         let bytes = &notes[at..];
