@@ -63,7 +63,7 @@ enum dewikura_status_code {
     DEWIKURA_TRUNCATED = 2,               // the input ends inside a header, a section or an entry
     DEWIKURA_INVALID_DATA = 3,            // a metadata record of a pipe has an attribute size of 1 to 63
     DEWIKURA_INVALID_HEADER_SIZE = 4,     // the header size can't be skipped (past 2^63)
-    DEWIKURA_COMPRESSED = 5,              // a compressed record; decompression is not supported
+    DEWIKURA_COMPRESSED = 5,              // a compressed record: see dewikura_decompress
     DEWIKURA_OTHER = 6,                   // the attribute of a sample selects a field that isn't known
     DEWIKURA_BAD_MAGIC = 7,               // not a perf.data file or pipe
     DEWIKURA_NO_ATTRIBUTES = 8,           // the input declares no event attributes
@@ -955,6 +955,14 @@ DEWIKURA_NONNULL DEWIKURA_NODISCARD dewikura_status dewikura_read_pipe_feature(c
 // section names the ids of the attributes any more, a table of event types at the end does. *needed is the size of the
 // recording in bytes. If the file has no header, *needed is 0 and the status says why.
 DEWIKURA_NONNULL DEWIKURA_NODISCARD dewikura_status dewikura_finish_recording(const void *data, size_t size,
+    void *buffer, size_t capacity, uint64_t *needed);
+
+// Writes a file or a pipe of `perf record -z` without compression, up to `capacity`: each compressed record is replaced
+// by the records that its content completes. *needed is the size of the recording in bytes. From the first record on
+// that can't be read, or whose content can't (DEWIKURA_COMPRESSED), the records are those of the input, and the status
+// says why. If the input doesn't open, *needed is 0. Memory for the window of the compressed data is allocated, up to
+// 128 MiB. The other calls read what is written.
+DEWIKURA_NONNULL DEWIKURA_NODISCARD dewikura_status dewikura_decompress(const void *data, size_t size,
     void *buffer, size_t capacity, uint64_t *needed);
 
 // Writes the entry at an offset of the BUILD_ID section. `section` contains the bytes of the feature, and

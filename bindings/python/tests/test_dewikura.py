@@ -13,6 +13,7 @@ import random
 import struct
 import subprocess
 import sys
+import tarfile
 import tempfile
 import unittest
 
@@ -28,6 +29,7 @@ FIRST = TOP / "tests/recordings/first.data"
 SEVERAL = TOP / "tests/recordings/several.data"
 STREAM = TOP / "crates/perflist/stdin"
 DUMP = TOP / "tests/recordings/node.dump"
+COMPRESSED = TOP / "tests/compressed/recordings.tar.xz"
 FOLD_CHAIN = TOP / "tests/recordings/chain.data"
 FOLD_THREADS = TOP / "tests/recordings/threads.data"
 BUILD_ID = TOP / "tests/recordings/buildid.data"
@@ -276,6 +278,43 @@ class UnfinishedTest(unittest.TestCase):
             file.flush()
             with self.assertRaises(dewikura.PerfDataError):
                 dewikura.open(file.name, kind=dewikura.Kind.FILE, unfinished=True)
+
+
+class CompressedTest(unittest.TestCase):
+    """Recordings of `perf record -z`: the same without compression, and their records."""
+
+    def setUp(self):
+        with tarfile.open(COMPRESSED, "r:xz") as members:
+            self.files = {member.name: members.extractfile(member).read() for member in members if member.isfile()}
+
+    def test_decompress(self):
+        plain = {name: data for name, data in self.files.items() if name.startswith("plain/")}
+        self.assertGreater(len(plain), 20)
+        for name, data in plain.items():
+            self.assertEqual(dewikura.decompress(self.files[name.split("/")[1]]), data, name)
+            self.assertEqual(dewikura.decompress(data), data, name)
+
+    def test_open(self):
+        for name in ("z3-short.data", "z3-short.pipe"):
+            with tempfile.NamedTemporaryFile() as file:
+                file.write(self.files[name])
+                file.flush()
+                with dewikura.open(file.name) as recording:
+                    times = [record.timestamp for record in recording.records]
+            self.assertEqual(times, [record.timestamp for record in dewikura.from_buffer(self.files["plain/" + name]).records])
+            with self.assertRaises(dewikura.UnsupportedError):
+                dewikura.from_buffer(self.files[name]).records
+
+    def test_error(self):
+        # The type of the first block is the reserved one.
+        data = bytearray(self.files["z3-short.pipe"])
+        frame = data.index(bytes.fromhex("28b52ffd"))
+        data[frame + 6] |= 6
+        with self.assertRaises(dewikura.UnsupportedError) as raised:
+            dewikura.from_buffer(dewikura.decompress(data)).records
+        self.assertEqual(raised.exception.status, dewikura.Status.COMPRESSED)
+        with self.assertRaises(dewikura.PerfDataError):
+            dewikura.decompress(b"no recording")
 
 
 def last_index(data):

@@ -60,9 +60,9 @@ use perfdata_arrays::strings::StringEntry;
 use perfdata_arrays::symbol_tables::{Symbol, SymbolFile, SymbolTotals};
 use perfdata_arrays::tasks::TaskEntry;
 use perfdata_arrays::{
-    attrs, build_ids, byte_order, counters, feature_set, features, finishing, jit, jit_bodies,
-    jit_debug, mappings, meta_info, records, samples, sort, status, strings, symbol_tables, tasks,
-    tracing_data,
+    attrs, build_ids, byte_order, counters, decompressing, feature_set, features, finishing, jit,
+    jit_bodies, jit_debug, mappings, meta_info, records, samples, sort, status, strings,
+    symbol_tables, tasks, tracing_data,
 };
 use perfdata_stack_arrays::frame::StackFrame;
 use perfdata_stack_arrays::mapping::StackMapping;
@@ -491,6 +491,19 @@ pub extern "C" fn dewikura_finish_recording(
     let finished = finishing::finish_recording(alloc, input, buf);
     *needed = finished.size;
     finished.status.code()
+}
+
+/// Writes a recording without compression, as `decompressing::decompress_recording` does.
+#[unsafe(no_mangle)]
+pub extern "C" fn dewikura_decompress(
+    alloc: Global,
+    input: &[u8],
+    buf: &mut [u8],
+    needed: &mut u64,
+) -> u32 {
+    let decompressed = decompressing::decompress_recording(alloc, input, buf);
+    *needed = decompressed.size;
+    decompressed.status.code()
 }
 
 /// Reads an entry of a BUILD_ID section, as `build_ids::read_build_id` does.

@@ -1,6 +1,6 @@
 //! The bytes of a finished recording: the whole parts of a file, with the true size of its records.
 
-use crate::array::copy_entries;
+use crate::output::{Output, range};
 use crate::status::{Status, status_of_error};
 use linux_perf_data::features::{Feature, FeatureSet};
 use linux_perf_data::raw::Endianness;
@@ -26,35 +26,6 @@ pub struct FinishResult {
     pub size: u64,
     /// Success if the file has a header, otherwise the status of the first error.
     pub status: Status,
-}
-
-// Bytes that are written one after another into an array, up to its capacity.
-#[derive(Drop)]
-struct Output<'a> {
-    array: &'a mut [u8],
-    size: u64,
-}
-
-impl Output<'_> {
-    fn push(&mut self, bytes: &[u8]) {
-        copy_entries(self.array, self.size, bytes);
-        self.size = self.size.saturating_add(bytes.len() as u64);
-    }
-
-    fn push_number(&mut self, endian: Endianness, number: u64) {
-        self.push(&match endian {
-            Endianness::LittleEndian => number.to_le_bytes(),
-            Endianness::BigEndian => number.to_be_bytes(),
-        });
-    }
-}
-
-// Returns the bytes from an offset to another; none if they aren't in the input.
-fn range(input: &[u8], start: u64, end: u64) -> &[u8] {
-    match (usize::try_from(start), usize::try_from(end)) {
-        (Ok(start), Ok(end)) => input.get(start..end).unwrap_or(&[]),
-        _ => &[],
-    }
 }
 
 // Returns the bytes of a section.

@@ -1,4 +1,5 @@
 //! The data section of a file without compression.
+ghost use Rattle.std.specs.Io.{ReadsAtMost};
 
 use crate::content::ContentEnd;
 use crate::error::CompressedError;
@@ -15,6 +16,7 @@ pub(crate) struct DataSection {
     alloc: Global,
     endian: Endianness,
     algorithm: u32,
+    keeps_unreadable: bool,
     // The offsets of the section's start and end in the file, and of the input that is read next.
     start: u64,
     end: u64,
@@ -25,14 +27,21 @@ pub(crate) struct DataSection {
 }
 
 impl DataSection {
-    /// The records of the data section of a file, with the algorithm of their compressed data.
+    /// The records of the data section of a file, with the algorithm of their compressed data. From the first
+    /// compressed record on whose content can't be read all bytes pass through, if they are kept.
     ///
     /// Fails if the allocation of the buffer fails.
-    pub(crate) fn new(alloc: Global, layout: &FileLayout, algorithm: u32) -> Result<DataSection> {
+    pub(crate) fn new(
+        alloc: Global,
+        layout: &FileLayout,
+        algorithm: u32,
+        keeps_unreadable: bool,
+    ) -> Result<DataSection> {
         Ok(DataSection {
             alloc,
             endian: layout.endian,
             algorithm,
+            keeps_unreadable,
             start: layout.data_start(),
             end: layout.data_end(),
             next: layout.data_start(),
@@ -44,6 +53,9 @@ impl DataSection {
     // Starts again at the first record.
     fn restart(&mut self) -> Result<()> {
         self.records = PlainRecords::of_section(self.alloc, self.endian, self.algorithm)?;
+        if self.keeps_unreadable {
+            self.records.keep_unreadable();
+        }
         self.next = self.start;
         self.position = 0;
         Ok(())
@@ -125,7 +137,9 @@ impl DataSection {
         source: &mut R,
         position: u64,
         buf: &mut [u8],
-    ) -> Result<usize> {
+    ) -> Result<usize>
+        ensures bound { ReadsAtMost result buf.new }
+    {
         if !self.move_position(source, position)? {
             return Ok(0);
         }

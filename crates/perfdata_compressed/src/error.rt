@@ -31,9 +31,14 @@ pub enum CompressedError {
 }
 
 impl CompressedError {
+    /// Whether memory ran out.
+    pub fn is_out_of_memory(self) -> bool {
+        self == CompressedError::Stream(ZstdError::Memory)
+    }
+
     /// Returns an I/O error with the text of this one: `OutOfMemory` if memory ran out, else `InvalidData`.
     pub fn io_error(self) -> io::Error {
-        if self == CompressedError::Stream(ZstdError::Memory) {
+        if self.is_out_of_memory() {
             return io::Error::from(ErrorKind::OutOfMemory);
         }
         let text = InlineText::<TEXT_SIZE>::of(&self);

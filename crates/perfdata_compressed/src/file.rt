@@ -1,4 +1,6 @@
 //! The bytes of a file without compression.
+ghost use Rattle.std.specs.Prelude.{◌≤◌, length};
+ghost use Rattle.std.specs.Io.{ReadsAtMost};
 
 use crate::content::ContentEnd;
 use crate::data_section::DataSection;
@@ -79,23 +81,17 @@ enum Part {
 }
 
 // Copies bytes from an index on, as many as there are.
-fn copy_from_index(bytes: &[u8], index: u64, buf: &mut [u8]) -> usize {
+fn copy_from_index(bytes: &[u8], index: u64, buf: &mut [u8]) -> usize
+    ensures bound { result ≤ length buf.new }
+{
     let start = usize::try_from(index)
         .unwrap_or(usize::MAX)
         .min(bytes.len());
     let (_, rest) = bytes.split_at(start);
     let count = rest.len().min(buf.len());
     let (copied, _) = rest.split_at(count);
-    let (place, _) = buf.split_at_mut(count);
-    place.copy_from_slice(copied);
+    buf[..count].copy_from_slice(copied);
     count
-}
-
-// The first bytes of a buffer, at most this many.
-fn first_bytes(buf: &mut [u8], size: u64) -> &mut [u8] {
-    let size = usize::try_from(size).unwrap_or(usize::MAX).min(buf.len());
-    let (first, _) = buf.split_at_mut(size);
-    first
 }
 
 // The position at an offset from another one. `None` if it isn't in 0 to `u64::MAX`.
@@ -115,15 +111,31 @@ impl<R: Read + Seek + Drop> DecompressedFile<R> {
     /// Returns the errors of the source, `InvalidData` if it has no header of a perf.data file, and
     /// `OutOfMemory` if memory runs out, but no error of the content.
     pub fn new(alloc: Global, source: R) -> Result<DecompressedFile<R>> {
+        DecompressedFile::open(alloc, source, false)
+    }
+
+    /// Returns the bytes of a file, as `new` does. From the first compressed record on whose content can't be
+    /// read, all data are those of the file, after the records of its content before the error.
+    ///
+    /// # Errors
+    ///
+    /// Those of `new`.
+    pub fn with_unreadable_records(alloc: Global, source: R) -> Result<DecompressedFile<R>> {
+        DecompressedFile::open(alloc, source, true)
+    }
+
+    fn open(alloc: Global, source: R, keeps_unreadable: bool) -> Result<DecompressedFile<R>> {
         let mut source = source;
         let Some(layout) = FileLayout::read(&mut source)? else {
             return Err(ErrorKind::InvalidData.into());
         };
         let algorithm = layout.read_algorithm(&mut source)?;
-        let mut data = DataSection::new(alloc, &layout, algorithm)?;
+        let mut data = DataSection::new(alloc, &layout, algorithm, keeps_unreadable)?;
         let (known, end) = data.measure(&mut source)?;
         let data_size = match end {
-            ContentEnd::Error(_) if layout.is_whole() => known.saturating_add(ERROR_SIZE),
+            ContentEnd::Error(_) if layout.is_whole() && !keeps_unreadable => known.saturating_add(
+                ERROR_SIZE,
+            ),
             _ => known,
         };
         let new_end = layout.data_start().saturating_add(data_size);
@@ -179,19 +191,36 @@ impl<R: Read + Seek + Drop> DecompressedFile<R> {
     }
 
     // Reads bytes of the source, at most `size`, from an offset on.
-    fn read_source(&mut self, offset: u64, size: u64, buf: &mut [u8]) -> Result<usize> {
+    fn read_source(&mut self, offset: u64, size: u64, buf: &mut [u8]) -> Result<usize>
+        ensures bound { ReadsAtMost result buf.new }
+    {
         if offset >= self.layout.length {
             return Ok(0);
         }
+        let size = usize::try_from(size).unwrap_or(usize::MAX).min(buf.len());
         self.source.seek(SeekFrom::Start(offset))?;
-        self.source.read(first_bytes(buf, size))
+        self.source.read(&mut buf[..size])
+    }
+
+    // Reads the bytes at the position.
+    fn read_part(&mut self, buf: &mut [u8]) -> Result<usize>
+        ensures bound { ReadsAtMost result buf.new }
+    {
+        match self.part() {
+            Part::Source(offset, size) => self.read_source(offset, size, buf),
+            Part::SizeField(index) => Ok(copy_from_index(&self.size_field, index, buf)),
+            Part::Data(position) => self.read_data(position, buf),
+            Part::Table(index) => Ok(copy_from_index(&self.table, index, buf)),
+        }
     }
 
     // Reads bytes of the data, from a position on.
-    fn read_data(&mut self, position: u64, buf: &mut [u8]) -> Result<usize> {
+    fn read_data(&mut self, position: u64, buf: &mut [u8]) -> Result<usize>
+        ensures bound { ReadsAtMost result buf.new }
+    {
         let left = self.data_size.saturating_sub(position);
-        let place = first_bytes(buf, left);
-        self.data.read(&mut self.source, position, place)
+        let size = usize::try_from(left).unwrap_or(usize::MAX).min(buf.len());
+        self.data.read(&mut self.source, position, &mut buf[..size])
     }
 }
 
@@ -200,12 +229,7 @@ impl<R: Read + Seek + Drop> Read for DecompressedFile<R> {
         if buf.is_empty() {
             return Ok(0);
         }
-        let count = match self.part() {
-            Part::Source(offset, size) => self.read_source(offset, size, buf)?,
-            Part::SizeField(index) => copy_from_index(&self.size_field, index, buf),
-            Part::Data(position) => self.read_data(position, buf)?,
-            Part::Table(index) => copy_from_index(&self.table, index, buf),
-        };
+        let count = self.read_part(buf)?;
         self.position = self.position.saturating_add(count as u64);
         Ok(count)
     }

@@ -161,11 +161,14 @@ impl FileLayout {
 
     // The number of sections before that of the feature COMPRESSED; `None` if there is none.
     fn compressed_index(&self) -> Option<u64> {
-        let features = &self.header.features;
-        features
-            .iter()
-            .position(|feature| feature == Feature::COMPRESSED)
-            .map(|index| index as u64)
+        let mut index = 0u64;
+        for feature in self.header.features.iter() {
+            if feature == Feature::COMPRESSED {
+                return Some(index);
+            }
+            index = index.saturating_add(1);
+        }
+        None
     }
 
     /// Reads the algorithm of the compressed data: zstd, unless the feature COMPRESSED has another one.

@@ -1,5 +1,7 @@
 //! The bytes of a pipe without compression.
+ghost use Rattle.std.specs.Io.{ReadsAtMost};
 
+use crate::content::ContentEnd;
 use crate::plain_records::PlainRecords;
 use std::alloc::Global;
 use std::io::{Read, Result};
@@ -39,20 +41,56 @@ impl<R: Read + Drop> DecompressedPipe<R> {
             records: PlainRecords::of_pipe(alloc)?,
         })
     }
+
+    /// Returns the bytes of a pipe, as `new` does. From the first compressed record on whose content can't be
+    /// read, all bytes are those of the pipe, after the records of its content before the error.
+    ///
+    /// # Errors
+    ///
+    /// `OutOfMemory` if the allocation of a buffer of 64 KiB fails.
+    pub fn with_unreadable_records(alloc: Global, pipe: R) -> Result<DecompressedPipe<R>> {
+        let mut records = PlainRecords::of_pipe(alloc)?;
+        records.keep_unreadable();
+        Ok(DecompressedPipe { pipe, records })
+    }
+
+    /// Returns where the content of the compressed records ends, once all bytes were read.
+    pub fn content_end(&self) -> ContentEnd {
+        self.records.content_end()
+    }
 }
 
 // Takes the next bytes that are known into `buf`, and returns their number. It is 0 if more input is needed.
-pub(crate) fn take_known(records: &mut PlainRecords, buf: &mut [u8]) -> Result<usize> {
+pub(crate) fn take_known(records: &mut PlainRecords, buf: &mut [u8]) -> Result<usize>
+    ensures bound { ReadsAtMost result buf.new }
+{
     let bytes = match records.next_bytes() {
         Ok(bytes) => bytes,
         Err(error) => return Err(error.io_error()),
     };
     let count = bytes.len().min(buf.len());
     let (taken, _) = bytes.split_at(count);
-    let (place, _) = buf.split_at_mut(count);
-    place.copy_from_slice(taken);
+    buf[..count].copy_from_slice(taken);
     records.take(count);
     Ok(count)
+}
+
+impl<R: Read> DecompressedPipe<R> {
+    // Reads until bytes are known, or content can't be read, or the pipe ends.
+    fn fill(&mut self) -> Result<()> {
+        for _ in 0..u64::MAX {
+            match self.records.next_bytes() {
+                Ok(bytes) if bytes.is_empty() => {}
+                Ok(_) | Err(_) => break,
+            }
+            let count = self.pipe.read(self.records.input_space())?;
+            self.records.add_input(count);
+            if count == 0 {
+                break;
+            }
+        }
+        Ok(())
+    }
 }
 
 impl<R: Read> Read for DecompressedPipe<R> {
@@ -60,17 +98,7 @@ impl<R: Read> Read for DecompressedPipe<R> {
         if buf.is_empty() {
             return Ok(0);
         }
-        for _ in 0..u64::MAX {
-            let taken = take_known(&mut self.records, buf)?;
-            if taken != 0 {
-                return Ok(taken);
-            }
-            let count = self.pipe.read(self.records.input_space())?;
-            self.records.add_input(count);
-            if count == 0 {
-                return take_known(&mut self.records, buf);
-            }
-        }
-        Ok(0)
+        self.fill()?;
+        take_known(&mut self.records, buf)
     }
 }

@@ -47,6 +47,10 @@ pub(crate) struct PlainRecords {
     // The algorithm of the compressed data, if it is known.
     algorithm: Option<u32>,
     error: Option<CompressedError>,
+    // Where the compressed record starts whose content is read.
+    record: usize,
+    // Whether all bytes from a compressed record on pass through if its content can't be read.
+    keeps_unreadable: bool,
 }
 
 // Where the compressed data in a record with these bytes start and end.
@@ -88,6 +92,8 @@ impl PlainRecords {
             content: Content::new(alloc),
             algorithm,
             error: None,
+            record: 0,
+            keeps_unreadable: false,
         })
     }
 
@@ -107,6 +113,12 @@ impl PlainRecords {
         algorithm: u32,
     ) -> Result<PlainRecords, AllocError> {
         PlainRecords::with_part(alloc, endian, Part::Records(0), Some(algorithm))
+    }
+
+    /// Lets all bytes pass through from the first compressed record on whose content can't be read, after
+    /// the records of its content before the error.
+    pub(crate) fn keep_unreadable(&mut self) {
+        self.keeps_unreadable = true;
     }
 
     // The input that wasn't taken.
@@ -167,19 +179,29 @@ impl PlainRecords {
 
     // Goes on after what was taken. Returns `false` if more input is needed.
     fn advance(&mut self) -> Result<bool, CompressedError> {
-        if let Some(error) = self.error {
+        let advanced = match (self.part, self.error) {
+            (Part::Rest, _) => return Ok(false),
+            (_, Some(error)) => return Err(error),
+            (Part::PipeHeader, None) => Ok(self.read_pipe_header()),
+            (Part::Records(0), None) => self.read_record(),
+            (Part::Records(_), None) => Ok(false),
+            (Part::Compressed(start, end), None) => self.decompress(start, end),
+        };
+        match advanced {
+            Err(error) => self.fail(error),
+            advanced => advanced,
+        }
+    }
+
+    // Ends the records with an error, or lets the rest from its compressed record on pass through.
+    fn fail(&mut self, error: CompressedError) -> Result<bool, CompressedError> {
+        self.error = Some(error);
+        if !self.keeps_unreadable {
             return Err(error);
         }
-        let advanced = match self.part {
-            Part::PipeHeader => Ok(self.read_pipe_header()),
-            Part::Records(0) => self.read_record(),
-            Part::Records(_) | Part::Rest => Ok(false),
-            Part::Compressed(start, end) => self.decompress(start, end),
-        };
-        if let Err(error) = advanced {
-            self.error = Some(error);
-        }
-        advanced
+        self.start = self.record;
+        self.part = Part::Rest;
+        Ok(true)
     }
 
     // Reads the header of a pipe, which passes through. Without its magic all bytes do.
@@ -228,6 +250,7 @@ impl PlainRecords {
 
     // Begins with a compressed record of this size, if it is whole.
     fn read_compressed(&mut self, size: usize, has_size: bool) -> Result<bool, CompressedError> {
+        self.record = self.start;
         let Some(record) = self.rest().get(..size) else {
             return Ok(false);
         };

@@ -12,7 +12,7 @@ from .jitdump import (JitDebugEntry, JitDebugInfo, JitDump, JitHeader, JitLoad, 
 from .names import demangle
 from .profiles import Comparison, Profile, profile
 from .recording import (Attribute, BuildId, Counters, Frames, Kind, Mappings, Recording, Records, Samples, StackFrames, StackMappings, Stacks,
-                        Symbol, SymbolFile, Tasks, from_buffer, input_kind, open)
+                        Symbol, SymbolFile, Tasks, decompress, from_buffer, input_kind, open)
 
 __version__ = ".".join(map(str, _VERSION))
 
@@ -22,6 +22,6 @@ __all__ = [
     "JitDump", "JitHeader", "JitLoad", "JitMove", "JitRecord", "JitRecordType", "JitRecords", "JitUnwinding", "Kind", "Mapping",
     "MappingKind", "Mappings", "PerfDataError", "Profile", "ReadFormat", "Record", "RecordType", "Recording", "Records", "Sample",
     "SampleDetails", "SampleType", "Samples", "Stack", "StackFrame", "StackFrames", "StackMapping", "StackMappings", "Stacks", "Status",
-    "Symbol", "SymbolFile", "SymbolFileType", "Symbols", "Task", "Tasks", "TruncatedError", "UnsupportedError", "build_id", "demangle",
-    "from_buffer", "input_kind", "jitdump_from_buffer", "library_version", "open", "open_jitdump", "profile", "symbols",
+    "Symbol", "SymbolFile", "SymbolFileType", "Symbols", "Task", "Tasks", "TruncatedError", "UnsupportedError", "build_id",
+    "decompress", "demangle", "from_buffer", "input_kind", "jitdump_from_buffer", "library_version", "open", "open_jitdump", "profile", "symbols",
 ]

@@ -477,6 +477,7 @@ _EXPORTS = {
     "dewikura_read_file_feature": (u32, [c_void_p, c_size_t, u32, c_void_p, c_size_t, POINTER(u8), POINTER(u64)]),
     "dewikura_read_pipe_feature": (u32, [c_void_p, c_size_t, u32, c_void_p, c_size_t, POINTER(u8), POINTER(u64)]),
     "dewikura_finish_recording": (u32, [c_void_p, c_size_t, c_void_p, c_size_t, POINTER(u64)]),
+    "dewikura_decompress": (u32, [c_void_p, c_size_t, c_void_p, c_size_t, POINTER(u64)]),
     "dewikura_read_build_id": (u32, [c_void_p, c_size_t, u32, u64, POINTER(BuildId)]),
     "dewikura_read_string": (u32, [c_void_p, c_size_t, u32, u64, POINTER(StringEntry)]),
     "dewikura_read_meta_info": (u32, [c_void_p, c_size_t, POINTER(MetaPair), c_size_t, POINTER(u64)]),

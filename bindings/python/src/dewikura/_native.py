@@ -45,6 +45,7 @@ read_attrs = _of_kinds("attrs")
 read_feature_set = _of_kinds("feature_set")
 read_feature = _of_kinds("feature")
 finish_recording = _library.dewikura_finish_recording
+decompress = _library.dewikura_decompress
 read_build_id = _library.dewikura_read_build_id
 read_string = _library.dewikura_read_string
 read_meta_info = _library.dewikura_read_meta_info

@@ -1,5 +1,6 @@
 """Recordings: perf.data files and pipes."""
 
+import contextlib
 import ctypes
 import dataclasses
 import enum
@@ -8,7 +9,7 @@ import mmap
 import os
 from array import array as number_array
 from ctypes import c_uint8 as u8, c_uint64 as u64
-from typing import (Any, Dict, Iterable, Iterator, List, Literal, Mapping as AnyMapping, NamedTuple, Optional, Tuple, Type,
+from typing import (Any, Callable, Dict, Iterable, Iterator, List, Literal, Mapping as AnyMapping, NamedTuple, Optional, Tuple, Type,
                     TypeVar, Union)
 
 from . import _native, _structs, elf
@@ -852,30 +853,54 @@ def _kind_of(data: memoryview) -> Kind:
     return Kind.PIPE if input_kind(data) == InputKind.PIPE else Kind.FILE
 
 
-def _finished(data: Buffer) -> bytes:
-    """The finished recording of a file, of which the end may be missing."""
+def _written(write: Callable[..., int], data: Buffer) -> bytes:
+    """The recording that an export writes for an input. Its first error is in the recording too, unless the input doesn't open."""
     needed, capacity = u64(), 0
     while True:
         buffer = (u8 * max(capacity, 1))()
         with _native.Input(memoryview(data).cast("B")) as (address, size):
-            check(_native.finish_recording(address, size, buffer, capacity, needed))
+            status = write(address, size, buffer, capacity, needed)
+        if needed.value == 0 or status == Status.OUT_OF_MEMORY:
+            check(status)
         if needed.value <= capacity:
             return ctypes.string_at(buffer, needed.value)
         capacity = needed.value
 
 
+def _is_compressed(data: Buffer, kind: Kind) -> bool:
+    """Whether a recording has the feature COMPRESSED. One that doesn't open has none."""
+    found = _structs.FeatureSet()
+    with _native.Input(memoryview(data).cast("B")) as (address, size):
+        _native.read_feature_set[kind.value](address, size, found)
+    return bool(found.bits0 >> Feature.COMPRESSED & 1)
+
+
+def decompress(data: Buffer) -> bytes:
+    """A recording of `perf record -z` without compression, for `from_buffer`: each compressed record is replaced by the records in it."""
+    return _written(_native.decompress, data)
+
+
 def open(path: PathLike, *, kind: Optional[Kind] = None, unfinished: bool = False) -> Recording:
     """Maps a perf.data file or a stored pipe. The kind is that of its header unless it is given.
 
-    With `unfinished` a file that perf didn't finish, or whose end is missing, has its whole records and its whole sections. A pipe with
-    tracing data, which tracepoint events have, raises UnsupportedError: record these to a file."""
+    With `unfinished` a file that perf didn't finish, or whose end is missing, has its whole records and its whole sections. A recording of
+    `perf record -z` is read into memory without compression. A pipe with tracing data, which tracepoint events have, raises
+    UnsupportedError: record these to a file."""
     data, mapping = map_file(path)
-    if unfinished and (kind or _kind_of(memoryview(data))) is Kind.FILE:
-        finished = _finished(data)
+    kind = kind or _kind_of(memoryview(data))
+    if unfinished and kind is Kind.FILE:
+        finished = _written(_native.finish_recording, data)
+        with contextlib.suppress(PerfDataError):
+            finished = decompress(finished)
         if mapping is not None:
             mapping.close()
         return Recording(finished, Kind.FILE)
-    return _checked(data, kind or _kind_of(memoryview(data)), mapping)
+    if not _is_compressed(data, kind):
+        return _checked(data, kind, mapping)
+    decompressed = decompress(data)
+    if mapping is not None:
+        mapping.close()
+    return _checked(decompressed, kind)
 
 
 def _checked(data: Buffer, kind: Kind, mapping: Optional[mmap.mmap] = None) -> Recording:
