@@ -1103,6 +1103,102 @@ static void check_empty(void)
     CHECK(dewikura_demangle(NONE, 0, DEWIKURA_STYLE_NAME, NONE, 0, IGNORED(0)), DEWIKURA_OK);
 }
 
+// A late attribute with two ids, of which one fits.
+static void check_late_attr(void)
+{
+    struct dewikura_attr attr;
+    uint64_t ids[2] = {0, 7}, count = 0;
+    size = 0;
+    put_attr(0x1101, SAMPLE_TYPE);
+    put(0x31, 8);
+    put(0x32, 8);
+    memset(&attr, 0xab, sizeof attr);
+    CHECK(dewikura_read_late_attr(input, size, 0, 40, &attr, ids, 1, &count), DEWIKURA_OK);
+    CHECK(count, 2);
+    CHECK(ids[0], 0x31);
+    CHECK(ids[1], 7);
+    CHECK(attr.config, 0x1101);
+    CHECK(attr.sample_period_or_freq, 0x1102);
+    CHECK(attr.sample_type, SAMPLE_TYPE);
+    CHECK(attr.read_format, DEWIKURA_READ_TOTAL_TIME_ENABLED | DEWIKURA_READ_LOST);
+    CHECK(attr.flags, DEWIKURA_ATTR_SAMPLE_ID_ALL | DEWIKURA_ATTR_MMAP);
+    CHECK(attr.config1, 0x1103);
+    CHECK(attr.config2, 0x1104);
+    CHECK(attr.branch_sample_type, 0x1105);
+    CHECK(attr.sample_regs_user, 0x1106);
+    CHECK(attr.sample_regs_intr, 0x1107);
+    CHECK(attr.sig_data, 0x1108);
+    CHECK(attr.config3, 0x1109);
+    CHECK(attr.name_offset | attr.name_size | attr.has_name, 0);
+    CHECK(attr.ids_start, 40);
+    CHECK(attr.ids_count, 2);
+    CHECK(attr.type, 0x21);
+    CHECK(attr.size, 136);
+    CHECK(attr.wakeup_events, 0x22);
+    CHECK(attr.bp_type, 0x23);
+    CHECK(attr.sample_stack_user, 0x24);
+    CHECK(attr.clockid, -25);
+    CHECK(attr.aux_watermark, 0x26);
+    CHECK(attr.sample_max_stack, 0x27);
+    CHECK(attr.aux_sample_size, 0x28);
+    attr.config = 5;
+    CHECK(dewikura_read_late_attr(input, size - 1, 0, 0, &attr, ids, 2, &count), DEWIKURA_TRUNCATED);
+    CHECK(dewikura_read_late_attr(NONE, 0, 0, 0, &attr, ids, 2, &count), DEWIKURA_TRUNCATED);
+    input[4] = 63;
+    CHECK(dewikura_read_late_attr(input, size, 0, 0, &attr, ids, 2, &count), DEWIKURA_INVALID_DATA);
+    CHECK(count, 0);
+    CHECK(attr.config, 5);
+    CHECK(ids[1], 7);
+}
+
+// The openings of a file and of a pipe; that of each prefix says that more is needed.
+static void check_openings(void)
+{
+    struct dewikura_opening opening;
+    size_t i;
+    put_file();
+    memset(&opening, 0xab, sizeof opening);
+    CHECK(dewikura_read_opening(input, size, &opening), DEWIKURA_OK);
+    CHECK(opening.records_offset, 256);
+    CHECK(opening.records_size, 80);
+    CHECK(opening.attrs_offset, 104);
+    CHECK(opening.attrs_size, 152);
+    CHECK(opening.event_types_offset | opening.event_types_size, 0);
+    CHECK(opening.features_offset, 256 + 80);
+    CHECK(opening.features_size, 4 * 16);
+    CHECK(opening.kind, DEWIKURA_KIND_FILE);
+    CHECK(opening.is_big_endian, 0);
+    opening.kind = 7;
+    for (i = 0; i < 104; i++)
+        CHECK(dewikura_read_opening(input, i, &opening), DEWIKURA_MORE);
+    put_at(40, UINT64_MAX, 8);
+    CHECK(dewikura_read_opening(input, size, &opening), DEWIKURA_BAD_DATA_SECTION);
+    put_at(8, UINT64_MAX, 8);
+    CHECK(dewikura_read_opening(input, size, &opening), DEWIKURA_INVALID_HEADER_SIZE);
+    input[0]++;
+    CHECK(dewikura_read_opening(input, size, &opening), DEWIKURA_BAD_MAGIC);
+    CHECK(opening.kind, 7);
+    size = 0;
+    put_text("PERFILE2", 8);
+    put(24, 8);
+    put(0, 8);
+    put_header(DEWIKURA_RECORD_HEADER_ATTR, 0, 144);
+    put_attr(0x1101, SAMPLE_TYPE);
+    put_header(DEWIKURA_RECORD_HEADER_FEATURE, 0, 16);
+    put(3, 8);
+    put_header(DEWIKURA_RECORD_SAMPLE, 0, 8);
+    for (i = 0; i < size; i++)
+        CHECK(dewikura_read_opening(input, i, &opening), DEWIKURA_MORE);
+    CHECK(opening.kind, 7);
+    CHECK(dewikura_read_opening(input, size, &opening), DEWIKURA_OK);
+    CHECK(opening.records_offset, 24 + 144 + 16);
+    CHECK(opening.records_size | opening.attrs_offset | opening.attrs_size | opening.features_offset | opening.features_size, 0);
+    CHECK(opening.kind, DEWIKURA_KIND_PIPE);
+    CHECK(opening.is_big_endian, 0);
+    put_at(24 + 144 + 6, 7, 2);
+    CHECK(dewikura_read_opening(input, size, &opening), DEWIKURA_BAD_RECORD_SIZE);
+}
+
 // Sorts records with random times, of which some are none: all are there once, ascending, and those with one time in their old order.
 static void check_sort_of(size_t count)
 {
@@ -1160,8 +1256,8 @@ static void check_texts(void)
     dewikura_status status;
     size_t length;
     CHECK(dewikura_version(), DEWIKURA_VERSION);
-    CHECK(dewikura_status_text(DEWIKURA_TRACING_DATA + 1, unknown, sizeof unknown), 14);
-    for (status = DEWIKURA_OK; status <= DEWIKURA_TRACING_DATA; status++) {
+    CHECK(dewikura_status_text(DEWIKURA_MORE + 1, unknown, sizeof unknown), 14);
+    for (status = DEWIKURA_OK; status <= DEWIKURA_MORE; status++) {
         length = dewikura_status_text(status, text, sizeof text);
         CHECK(length, strlen(text));
         CHECK(!strcmp(text, unknown), 0);
@@ -1189,6 +1285,8 @@ int main(void)
     check_jitdump();
     check_kinds();
     check_names();
+    check_late_attr();
+    check_openings();
     check_empty();
     check_sort();
     check_texts();

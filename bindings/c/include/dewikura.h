@@ -86,7 +86,8 @@ enum dewikura_status_code {
     DEWIKURA_NO_SPACE = 25,               // the array is too small for the next record
     DEWIKURA_NOT_ELF = 26,                // not an ELF file
     DEWIKURA_BAD_ELF = 27,                // a table of the ELF file ends after it, or its entries are too small
-    DEWIKURA_TRACING_DATA = 28            // a pipe with tracing data, which tracepoint events have
+    DEWIKURA_TRACING_DATA = 28,           // a pipe with tracing data, which tracepoint events have
+    DEWIKURA_MORE = 29                    // the bytes so far don't say it yet: call again with more of the input
 };
 
 // ---- structs: numbers are in the machine's byte order, whatever the byte order of the input is
@@ -441,6 +442,21 @@ struct dewikura_elf_symbol {
     uint64_t name_size;   // in bytes
 };
 
+// Where the records of an input are, and the tables that its opening reads. Offsets are in bytes from the start of the
+// input, sizes in bytes. What a pipe doesn't have is 0.
+struct dewikura_opening {
+    uint64_t records_offset;     // of the first record: of a pipe, of the first after the metadata records that open it
+    uint64_t records_size;       // of the records of a file; 0 also for a file that perf is still writing
+    uint64_t attrs_offset;       // of the attributes of a file
+    uint64_t attrs_size;
+    uint64_t event_types_offset; // of the event types of an old file
+    uint64_t event_types_size;
+    uint64_t features_offset;    // of the table of a file's feature sections, an offset and a size for each
+    uint64_t features_size;      // of this table
+    uint32_t kind;               // DEWIKURA_KIND_FILE or DEWIKURA_KIND_PIPE
+    uint32_t is_big_endian;      // 0 or 1
+};
+
 // The library has the same sizes.
 #if defined(__cplusplus)
 #define DEWIKURA_CHECK_SIZE(name, size) static_assert(sizeof(struct name) == size, "size of struct " #name)
@@ -477,6 +493,7 @@ DEWIKURA_CHECK_SIZE(dewikura_jit_move, 48);
 DEWIKURA_CHECK_SIZE(dewikura_jit_unwinding, 40);
 DEWIKURA_CHECK_SIZE(dewikura_jit_debug_entry, 32);
 DEWIKURA_CHECK_SIZE(dewikura_elf_symbol, 32);
+DEWIKURA_CHECK_SIZE(dewikura_opening, 72);
 #undef DEWIKURA_CHECK_SIZE
 typedef char dewikura_has_64_bits[sizeof(size_t) == 8 ? 1 : -1];
 
@@ -1063,6 +1080,58 @@ DEWIKURA_NONNULL DEWIKURA_NODISCARD dewikura_status dewikura_elf_build_id(const 
 // Returns DEWIKURA_OK, or DEWIKURA_OUT_OF_MEMORY: then *text_size is 0, and the array is unchanged.
 DEWIKURA_NONNULL DEWIKURA_NODISCARD dewikura_status dewikura_demangle(const char *name, size_t size, uint32_t style,
     char *text, size_t capacity, uint64_t *text_size);
+
+// ---- chunks: inputs larger than memory, and pipes that are still written
+//
+// A chunk is a part of an input that starts at a record header. The caller has the bytes that weren't consumed so far,
+// reads more behind them, and calls again. The records of all calls are those of one call on all bytes, however the
+// input is cut. examples/follow.c reads a pipe so.
+
+// Writes where the records of an input are. `start` is the start of a perf.data file or of a pipe.
+//
+// DEWIKURA_MORE means that the header isn't complete, or of a pipe the metadata records that open it, whose end the
+// next record header shows. At the end of the input it means that the opening is truncated, or that a pipe has no
+// records: dewikura_read_pipe_attrs tells which. The errors are DEWIKURA_BAD_MAGIC, DEWIKURA_BAD_DATA_SECTION,
+// DEWIKURA_INVALID_HEADER_SIZE and DEWIKURA_BAD_RECORD_SIZE. After DEWIKURA_MORE and after an error *opening is
+// unchanged.
+//
+// The attributes of a pipe are those of its first `records_offset` bytes (dewikura_read_pipe_attrs). The records of a
+// file are its `records_size` bytes from `records_offset` on. Its attributes take its tables: map the file for
+// dewikura_read_file_attrs, which doesn't read the records. Those of a file that perf is still writing are those of
+// what dewikura_finish_recording makes of its first `records_offset` bytes.
+DEWIKURA_NONNULL DEWIKURA_NODISCARD dewikura_status dewikura_read_opening(const void *start, size_t size,
+    struct dewikura_opening *opening);
+
+// Writes the complete records at the start of `chunk`, which begins at a record header, in order, up to `capacity`, and
+// moves *cursor past them. The first call has a cursor of zeros. `attrs` and `ids` are the attributes of the input so
+// far, one at least, and their ids, and `is_big_endian` is that of the input.
+//
+// *count is the number of written records. *consumed is the size of these records and of the round markers before and
+// between them; markers after them are consumed too, unless *count is `capacity`. A record's `body_offset` counts from
+// the start of `chunk`, and its `offset` from the first record. An AUXTRACE record is complete with its aux data.
+//
+// If *count is `capacity` and the status is DEWIKURA_OK, call again with the bytes from *consumed on. If it is smaller,
+// no complete record is left: call again with these bytes and more. A truncated record is no error here, since only the
+// caller knows where the input ends. A record of the type DEWIKURA_RECORD_HEADER_ATTR is the last one that a call
+// writes: add its attribute (dewikura_read_late_attr), and call again with the bytes from *consumed on.
+//
+// The other errors are those of dewikura_read_pipe_records, after the records before them: *consumed and *cursor are at
+// the record in error, and a call there returns the same status. Among them is DEWIKURA_COMPRESSED. Without attributes
+// the status is DEWIKURA_NO_ATTRIBUTES, and nothing is written or consumed.
+DEWIKURA_NONNULL DEWIKURA_NODISCARD dewikura_status dewikura_read_chunk_records(const void *chunk, size_t size,
+    uint32_t is_big_endian, const struct dewikura_attr *attrs, size_t attrs_count, const uint64_t *ids,
+    size_t ids_count, struct dewikura_cursor *cursor, struct dewikura_record *records, size_t capacity, uint64_t *count,
+    uint64_t *consumed);
+
+// Writes the attribute in the body of a record DEWIKURA_RECORD_HEADER_ATTR, and its ids, up to `capacity`. `ids_start`
+// is how many ids the attributes before it have, and becomes its `ids_start`. It has no name: names are in the feature
+// DEWIKURA_FEATURE_EVENT_DESC. *ids_count is the number of all its ids.
+//
+// After an error *ids_count is 0, and *attr and the array are unchanged: DEWIKURA_TRUNCATED if the attribute or its
+// last id is truncated, DEWIKURA_INVALID_DATA if its size is 1 to 63, or DEWIKURA_OUT_OF_MEMORY.
+DEWIKURA_NONNULL DEWIKURA_NODISCARD dewikura_status dewikura_read_late_attr(const void *body, size_t size,
+    uint32_t is_big_endian, uint64_t ids_start, struct dewikura_attr *attr, uint64_t *ids, size_t capacity,
+    uint64_t *ids_count);
 
 #ifdef __cplusplus
 }

@@ -34,6 +34,7 @@ ghost use Rattle.perfdata_stack_arrays.specs.Reading.{ReadsFileStacks, ReadsPipe
 ghost use Rattle.dewikura.specs.Demangling.{Demangles};
 ghost use Rattle.dewikura.specs.Numbers.{endian_from, style_from, number_of_bool, IsNumberOfKind};
 
+mod chunks;
 mod demangling;
 mod elf_files;
 
@@ -112,7 +113,7 @@ pub extern "C" fn dewikura_status_text(code: u32, buf: &mut [u8]) -> usize
     ensures written { buf.new ≡ with_prefix (take (length buf.old - 1) (code_text code) ++ 0 ∷ [])
         buf.old }
 {
-    status::status_text(code, buf)
+    perfdata_chunks::status::status_text(code, buf)
 }
 
 /// Returns 1 if the numbers of a perf.data file or pipe are big-endian, otherwise 0, as

@@ -409,6 +409,24 @@ class ElfSymbol(ctypes.Structure):
     _fields_ = [("start", u64), ("size", u64), ("name_offset", u64), ("name_size", u64)]
 
 
+class Opening(ctypes.Structure):
+    """Where the records of an input are, and the tables that its opening reads. Offsets are in bytes from the start of the input, sizes in
+    bytes. What a pipe doesn't have is 0."""
+
+    records_offset: int
+    records_size: int
+    attrs_offset: int
+    attrs_size: int
+    event_types_offset: int
+    event_types_size: int
+    features_offset: int
+    features_size: int
+    kind: int
+    is_big_endian: int
+    _fields_ = [("records_offset", u64), ("records_size", u64), ("attrs_offset", u64), ("attrs_size", u64), ("event_types_offset", u64),
+        ("event_types_size", u64), ("features_offset", u64), ("features_size", u64), ("kind", u32), ("is_big_endian", u32)]
+
+
 # Of each struct the size, and the offset of each field.
 _LAYOUTS = {
     Cursor: (16, (0, 8)),
@@ -439,6 +457,7 @@ _LAYOUTS = {
     JitUnwinding: (40, (0, 8, 16, 24, 32)),
     JitDebugEntry: (32, (0, 8, 16, 24, 28)),
     ElfSymbol: (32, (0, 8, 16, 24)),
+    Opening: (72, (0, 8, 16, 24, 32, 40, 48, 56, 64, 68)),
 }
 for _struct, _layout in _LAYOUTS.items():
     if (ctypes.sizeof(_struct), tuple(getattr(_struct, name).offset for name, *_ in _struct._fields_)) != _layout:
@@ -493,6 +512,10 @@ _EXPORTS = {
     "dewikura_read_elf_symbols": (u32, [c_void_p, c_size_t, POINTER(ElfSymbol), c_size_t, POINTER(u64)]),
     "dewikura_elf_build_id": (u32, [c_void_p, c_size_t, POINTER(u8), c_size_t, POINTER(u64)]),
     "dewikura_demangle": (u32, [c_void_p, c_size_t, u32, c_void_p, c_size_t, POINTER(u64)]),
+    "dewikura_read_opening": (u32, [c_void_p, c_size_t, POINTER(Opening)]),
+    "dewikura_read_chunk_records": (u32, [c_void_p, c_size_t, u32, POINTER(Attr), c_size_t, POINTER(u64), c_size_t, POINTER(Cursor),
+        POINTER(Record), c_size_t, POINTER(u64), POINTER(u64)]),
+    "dewikura_read_late_attr": (u32, [c_void_p, c_size_t, u32, u64, POINTER(Attr), POINTER(u64), c_size_t, POINTER(u64)]),
 }
 
 

@@ -35,6 +35,7 @@ class Status(enum.IntEnum):
     NOT_ELF = 26
     BAD_ELF = 27
     TRACING_DATA = 28
+    MORE = 29
 
 
 class InputKind(enum.IntEnum):

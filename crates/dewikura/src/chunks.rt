@@ -1,0 +1,69 @@
+//! C exports of the calls of `perfdata_chunks`.
+ghost use Rattle.std.specs.Prelude.{◌≡◌, ◌≢◌, length};
+ghost use Rattle.dewikura.specs.Numbers.{endian_from};
+ghost use Rattle.perfdata_arrays.specs.Status.{IsCodeOf};
+ghost use Rattle.perfdata_arrays.specs.declared.status.Status.TheVariants.{Success};
+ghost use Rattle.perfdata_chunks.specs.Chunks.{ReadsChunk, start_status_code};
+ghost use Rattle.perfdata_chunks.specs.declared.status.StartStatus.{StartStatus};
+ghost use Rattle.perfdata_chunks.specs.declared.status.StartStatus.TheVariants.{Known};
+
+use crate::endian_from_flag;
+use linux_perf_data::in_memory::entries::RecordEntry;
+use linux_perf_data::in_memory::position::RecordPosition;
+use perfdata_arrays::attrs::Attr;
+use perfdata_chunks::opening::Opening;
+use perfdata_chunks::{late_attr, opening, records};
+use std::alloc::Global;
+
+/// Reads the records of a chunk, as `records::chunk_records` does.
+#[unsafe(no_mangle)]
+pub extern "C" fn dewikura_read_chunk_records(
+    alloc: Global,
+    chunk: &[u8],
+    is_big_endian: u32,
+    attrs: &[Attr],
+    ids: &[u64],
+    cursor: &mut RecordPosition,
+    entries: &mut [RecordEntry],
+    count: &mut u64,
+    consumed: &mut u64,
+) -> u32
+    ensures { IsCodeOf result (λ s. ReadsChunk (endian_from is_big_endian) chunk.now attrs.now cursor.old
+        (length entries.old) (record { count = count.new; consumed = consumed.new; status = s }) cursor.new) }
+{
+    let endian = endian_from_flag(is_big_endian);
+    let outcome = records::chunk_records(alloc, endian, chunk, attrs, ids, cursor, entries);
+    *count = outcome.count;
+    *consumed = outcome.consumed;
+    outcome.status.code()
+}
+
+/// Reads the attribute in a record of a pipe, as `late_attr::late_attr` does.
+#[unsafe(no_mangle)]
+pub extern "C" fn dewikura_read_late_attr(
+    alloc: Global,
+    body: &[u8],
+    is_big_endian: u32,
+    ids_start: u64,
+    attr: &mut Attr,
+    ids: &mut [u64],
+    ids_count: &mut u64,
+) -> u32
+    ensures counted { IsCodeOf result (λ s. s ≡ Success → attr.new.ids_count ≡ ids_count.new) }
+    ensures failed { IsCodeOf result (λ s. s ≢ Success → ids_count.new ≡ 0) }
+    ensures unchanged { IsCodeOf result (λ s. s ≢ Success → attr.new ≡ attr.old) }
+{
+    let endian = endian_from_flag(is_big_endian);
+    let outcome = late_attr::late_attr(alloc, endian, body, ids_start, attr, ids);
+    *ids_count = outcome.ids_count;
+    outcome.status.code()
+}
+
+/// Finds the records of an input, as `opening::read_opening` does.
+#[unsafe(no_mangle)]
+pub extern "C" fn dewikura_read_opening(start: &[u8], opening: &mut Opening) -> u32
+    ensures { (s : StartStatus) × (result ≡ start_status_code s) × (s ≢ Known Success → opening.new
+        ≡ opening.old) }
+{
+    opening::read_opening(start, opening).code()
+}

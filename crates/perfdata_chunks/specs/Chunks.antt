@@ -1,0 +1,119 @@
+-- Chunks: parts of an input that start at a record header. How their bytes are framed, and what a call reports.
+use Rattle.std.specs.Prelude.{◌≡◌, ◌≢◌, ◌⊎◌, ℕ, ◌+◌, ◌^◌, ◌<◌, ◌≤◌, ◌==◌, List, [], ◌∷◌, ◌++◌, length, take, drop, if◌then◌else◌, Option, None, Some, Result, Ok, Err}
+use Rattle.std.specs.List.{concat}
+use Rattle.perfdata_sources.specs.Endian.{number_in}
+use Rattle.perfdata_sources.specs.declared.endian.Endianness.{Endianness}
+use Rattle.perfdata_sources.specs.RecordHeader.{record_header_of}
+use Rattle.perfdata_sections.specs.RecordTypes.{auxtrace, finished_round, header_attr}
+use Rattle.linux_perf_data.specs.LateMetadata.{IsMetadataType}
+use Rattle.linux_perf_data.specs.Layout.{IsCompressed, IsRecord, aux_size_of, record_size_of, record_type_of}
+use Rattle.linux_perf_data.specs.RecordEntries.{one_if_some}
+use Rattle.linux_perf_data.specs.declared.in_memory.entries.RecordEntry.{RecordEntry}
+use Rattle.linux_perf_data.specs.declared.in_memory.position.RecordPosition.{RecordPosition}
+use Rattle.perfdata_arrays.specs.Status.{status_code}
+use Rattle.perfdata_arrays.specs.declared.attrs.Attr.{Attr}
+use Rattle.perfdata_arrays.specs.declared.status.Status.{Status}
+use Rattle.perfdata_arrays.specs.declared.status.Status.TheVariants.{BadRecordSize, Compressed, NoAttributes, Success, Truncated, TruncatedRecord}
+use Rattle.perfdata_chunks.specs.declared.framing.Frame.{Frame}
+use Rattle.perfdata_chunks.specs.declared.records.ChunkResult.{ChunkResult}
+use Rattle.perfdata_chunks.specs.declared.status.StartStatus.{StartStatus}
+use Rattle.perfdata_chunks.specs.declared.status.StartStatus.TheVariants.{Known, More}
+
+-- ---- one record
+
+-- The bytes are fewer than those of the record that they start with.
+abbrev pub IsIncomplete : Endianness → List ℕ → Type 0
+IsIncomplete order bytes =
+    (length bytes < 8)
+    ⊎ ((length bytes < record_size_of order bytes)
+    ⊎ ((record_type_of order bytes ≡ auxtrace) × (length bytes < record_size_of order bytes + aux_size_of order bytes)))
+
+-- The record that the bytes start with, whose first byte is at an offset, can't be read. The status says why.
+abbrev pub CannotBeFramed : Endianness → ℕ → List ℕ → Status → Type 0
+CannotBeFramed order offset bytes status =
+    ((status ≡ BadRecordSize) × (record_size_of order bytes < 8))
+    ⊎ (((status ≡ TruncatedRecord) × (2 ^ 64 ≤ offset + record_size_of order bytes))
+    ⊎ (((status ≡ Compressed) × IsCompressed (record_type_of order bytes))
+    ⊎ (((status ≡ Truncated) × (record_type_of order bytes ≡ auxtrace) × (record_size_of order bytes < 48))
+    ⊎ ((status ≡ TruncatedRecord) × (record_type_of order bytes ≡ auxtrace) × (2 ^ 64 ≤ offset + record_size_of order bytes + aux_size_of order bytes)))))
+
+-- The bytes start with a whole record or round marker, and this is its frame.
+pub record IsFrame (order : Endianness) (offset : ℕ) (bytes : List ℕ) (frame : Frame) : Type 0 where
+  pub header : frame.header ≡ record_header_of (number_in order) bytes
+  pub has_header : 8 ≤ frame.size
+  pub within : frame.size ≤ length bytes
+  pub is_record : IsRecord order (take frame.size bytes)
+  pub end : frame.end ≡ offset + frame.size
+  pub end_fits : frame.end < 2 ^ 64
+
+-- the frame at the start of the bytes; or they are incomplete, or can't be framed
+abbrev pub FindsFrame : Endianness → ℕ → List ℕ → Result (Option Frame) Status → Type 0
+FindsFrame order offset bytes (Ok (Some frame)) = IsFrame order offset bytes frame
+FindsFrame order offset bytes (Ok None) = IsIncomplete order bytes
+FindsFrame order offset bytes (Err status) = CannotBeFramed order offset bytes status
+
+-- ---- the records of a chunk
+
+-- 0 for a round marker, and 1 for a record
+abbrev pub counted : ℕ → ℕ
+counted record_type = if record_type == finished_round then 0 else 1
+
+-- how many of these are records
+abbrev pub record_count : Endianness → List (List ℕ) → ℕ
+record_count order [] = 0
+record_count order (p ∷ ps) = counted (record_type_of order p) + record_count order ps
+
+-- Whole records and round markers that follow one another. The first is at this offset.
+abbrev pub FollowOneAnother : Endianness → ℕ → List (List ℕ) → Type 0
+FollowOneAnother order offset [] = Unit {0}
+FollowOneAnother order offset (p ∷ ps) = IsRecord order p × (offset + length p < 2 ^ 64) × FollowOneAnother order (offset + length p) ps
+
+-- The bytes start with these records and round markers, whose size is `consumed`. `count` of them are records.
+pub record AreFrames (order : Endianness) (offset : ℕ) (bytes : List ℕ) (frames : List (List ℕ)) (count consumed : ℕ) : Type 0 where
+  pub split : bytes ≡ concat frames ++ drop consumed bytes
+  pub consumed_is : consumed ≡ length (concat frames)
+  pub elements : FollowOneAnother order offset frames
+  pub count_is : count ≡ record_count order frames
+
+-- The record that the bytes start with has metadata that can't be applied.
+abbrev pub HasUnusableMetadata : Endianness → ℕ → List ℕ → Type 0
+HasUnusableMetadata order offset bytes = (frame : Frame) × IsFrame order offset bytes frame × IsMetadataType frame.header.type_
+
+-- The last of these is an attribute.
+abbrev pub EndWithAttribute : Endianness → List (List ℕ) → Type 0
+EndWithAttribute order frames = (before : List (List ℕ)) × ((p : List ℕ) × (frames ≡ before ++ p ∷ []) × (record_type_of order p ≡ header_attr))
+
+-- Why a call ends: the array is full, or its last record is an attribute, or the rest is incomplete; or the rest can't be read.
+abbrev pub EndsChunk : Endianness → ℕ → List (List ℕ) → List ℕ → ℕ → ℕ → Status → Type 0
+EndsChunk order offset frames rest count capacity status =
+    ((status ≡ Success) × ((count ≡ capacity) ⊎ (EndWithAttribute order frames ⊎ IsIncomplete order rest)))
+    ⊎ ((count < capacity) × (CannotBeFramed order offset rest status ⊎ HasUnusableMetadata order offset rest))
+
+-- The records of a chunk, from a position on.
+pub record ChunkRead (order : Endianness) (chunk : List ℕ) (from : RecordPosition) (capacity : ℕ) (result : ChunkResult) (next : RecordPosition)
+    : Type 0 where
+  pub frames : List (List ℕ)
+  pub are : AreFrames order from.offset chunk frames result.count result.consumed
+  pub fits : result.count ≤ capacity
+  pub within : result.consumed ≤ length chunk
+  pub next_offset : next.offset ≡ from.offset + result.consumed
+  pub ends : EndsChunk order next.offset frames (drop result.consumed chunk) result.count capacity result.status
+
+-- The result for a chunk. Without attributes nothing is read, and the position is unchanged.
+abbrev pub ReadsChunk : Endianness → List ℕ → List Attr → RecordPosition → ℕ → ChunkResult → RecordPosition → Type 0
+ReadsChunk order chunk attrs from capacity result next =
+    ChunkRead order chunk from capacity result next
+    ⊎ ((attrs ≡ []) × (result.status ≡ NoAttributes) × (result.count ≡ 0) × (result.consumed ≡ 0) × (next ≡ from))
+
+-- A frame, and whether it is that of a record; or the bytes are incomplete; or what can't be read.
+abbrev pub ReadsNext : Endianness → ℕ → List ℕ → Result (Option (Frame × Option RecordEntry)) Status → Type 0
+ReadsNext order offset bytes (Ok (Some next)) = IsFrame order offset bytes next.0 × (one_if_some next.1 ≡ counted next.0.header.type_)
+ReadsNext order offset bytes (Ok None) = IsIncomplete order bytes
+ReadsNext order offset bytes (Err status) = CannotBeFramed order offset bytes status ⊎ HasUnusableMetadata order offset bytes
+
+-- ---- statuses
+
+-- the code of a status of a call on the start of an input
+abbrev pub start_status_code : StartStatus → ℕ
+start_status_code (Known status) = status_code status
+start_status_code More = 29

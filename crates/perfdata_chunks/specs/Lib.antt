@@ -1,0 +1,2 @@
+-- The modules that contracts use.
+pub mod Chunks

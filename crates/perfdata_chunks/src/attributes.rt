@@ -1,0 +1,141 @@
+//! The attribute of each record, out of the arrays of attributes and ids that a caller has.
+ghost use Rattle.std.specs.Prelude.{◌≡◌, [], IfNone};
+
+use perfdata_arrays::attrs::Attr;
+use perfdata_base::attr::{AttrFlags, PerfEventAttr, SampleFormat};
+use perfdata_base::endian::Endianness;
+use perfdata_base::event::RecordType;
+use perfdata_base::place::{IdCache, RecordParseInfo};
+
+/// The attributes of a recording and their ids, and what saves looking them up again.
+#[derive(Drop)]
+pub(crate) struct ChunkAttributes<'a> {
+    pub(crate) endian: Endianness,
+    pub(crate) attrs: &'a [Attr],
+    ids: &'a [u64],
+    // Of the first attribute. Identifiers are read with it.
+    pub(crate) first: RecordParseInfo,
+    cache: IdCache,
+    // The attribute that was used last.
+    last_index: usize,
+    last: RecordParseInfo,
+}
+
+// Returns the attribute with the fields that say where identifiers and times are. The others are 0.
+fn format_attr(attr: &Attr) -> PerfEventAttr {
+    PerfEventAttr {
+        type_: attr.type_,
+        size: attr.size,
+        config: attr.config,
+        period_or_freq: 0,
+        sample_format: SampleFormat(attr.sample_type),
+        read_format: attr.read_format,
+        flags: AttrFlags(attr.flags),
+        wakeup: 0,
+        bp_type: 0,
+        config1: 0,
+        config2: 0,
+        branch_sample_type: attr.branch_sample_type,
+        sample_regs_user: attr.sample_regs_user,
+        sample_stack_user: attr.sample_stack_user,
+        clockid: attr.clockid,
+        sample_regs_intr: attr.sample_regs_intr,
+        aux_watermark: 0,
+        sample_max_stack: 0,
+        aux_sample_size: 0,
+        sig_data: 0,
+        config3: 0,
+    }
+}
+
+// Returns where the records of an attribute have identifiers and times.
+pub(crate) fn parse_info(endian: Endianness, attr: &Attr) -> RecordParseInfo {
+    RecordParseInfo::new(&format_attr(attr), endian)
+}
+
+// Returns the ids of an attribute; none if they aren't in the array.
+fn ids_slice<'a>(attr: &Attr, ids: &'a [u64]) -> &'a [u64] {
+    let end = attr.ids_start.saturating_add(attr.ids_count);
+    match (usize::try_from(attr.ids_start), usize::try_from(end)) {
+        (Ok(start), Ok(end)) => ids.get(start..end).unwrap_or(&[]),
+        _ => &[],
+    }
+}
+
+// Returns the index of the last attribute that lists an id; 0 if none does.
+fn find_attr(attrs: &[Attr], ids: &[u64], id: u64) -> usize {
+    let mut index = attrs.len();
+    'attributes: while index > 0 {
+        index -= 1;
+        if ids_slice(&attrs[index], ids)
+            .iter()
+            .any(|other| *other == id)
+        {
+            return index;
+        }
+    }
+    0
+}
+
+impl<'a> ChunkAttributes<'a> {
+    // Returns `None` without attributes.
+    pub(crate) fn new(
+        endian: Endianness,
+        attrs: &'a [Attr],
+        ids: &'a [u64],
+    ) -> Option<ChunkAttributes<'a>>
+        ensures { IfNone result (attrs.now ≡ []) }
+    {
+        let first = parse_info(endian, attrs.first()?);
+        Some(ChunkAttributes {
+            endian,
+            attrs,
+            ids,
+            first,
+            cache: IdCache::new(),
+            last_index: 0,
+            last: first,
+        })
+    }
+
+    // Returns the index of the attribute that lists an identifier.
+    fn index_by_id(&mut self, id: u64) -> usize {
+        match self.cache.get(id) {
+            Some(index) => index,
+            None => {
+                let index = find_attr(self.attrs, self.ids, id);
+                self.cache.put(id, index);
+                index
+            }
+        }
+    }
+
+    // Returns the index of the attribute of a record of the kernel with this body.
+    pub(crate) fn find_index(&mut self, record_type: RecordType, body: &[u8]) -> usize {
+        if self.attrs.len() == 1 {
+            return 0;
+        }
+        let identifiers = self.first.id_parse_info;
+        match identifiers.read_identifier(self.endian, record_type, body) {
+            Some(id) => self.index_by_id(id),
+            None => 0,
+        }
+    }
+
+    // Returns the time of a record of the attribute with this index.
+    pub(crate) fn read_time(
+        &mut self,
+        index: usize,
+        record_type: RecordType,
+        body: &[u8],
+    ) -> Option<u64> {
+        if index != self.last_index {
+            self.last = match self.attrs.get(index) {
+                Some(attr) => parse_info(self.endian, attr),
+                None => self.first,
+            };
+            self.last_index = index;
+        }
+        self.last.read_time(record_type, body)
+    }
+}
