@@ -14,8 +14,9 @@ pub enum Error {
     /// A part of the file is truncated, or can't be at the offset that the file states.
     #[error("Read error: {0}")]
     Read(#[from] ReadError),
-    /// The reader failed, or the input is truncated and no [`ReadError`] applies. A compressed record is an
-    /// error of kind `Unsupported`.
+    /// The reader failed, or the input is truncated and no [`ReadError`] applies. Without feature `zstd` a
+    /// compressed record is an error of kind `Unsupported`, with it of kind `InvalidData` if its data can't be
+    /// read.
     #[error("I/O error: {0}")]
     IoError(#[from] io::Error),
     /// The first eight bytes, which are those of no perf.data file.

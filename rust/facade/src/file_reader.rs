@@ -5,6 +5,7 @@ use crate::convert;
 use crate::error::{Error, ReadError};
 use crate::features::Feature;
 use crate::inner;
+use crate::input::Input;
 use crate::linux_perf_event_reader::{RawData, RawEventRecord, RecordParseInfo, RecordType};
 use crate::perf_file::PerfFile;
 use crate::record::{PerfFileRecord, RawUserRecord, UserRecordType};
@@ -60,10 +61,10 @@ impl<C: Read + Seek> PerfFileReader<C> {
     ///   attributes don't tell to which of them a record belongs.
     /// - [`Error::OutOfMemory`] if memory runs out.
     pub fn parse_file(cursor: C) -> Result<Self, Error> {
-        let source = Buffered::with_position(cursor)?;
+        let source = Buffered::with_position(Input::of_file(cursor)?)?;
         let reader = inner::PerfFileReader::parse_file(inner::Global, source)?;
         let perf_file = PerfFile::new(reader.perf_file, Error::Read(ReadError::PerfEventAttr))?;
-        let record_iter = PerfRecordIter::new(reader.record_iter, &perf_file, Input::File)?;
+        let record_iter = PerfRecordIter::new(reader.record_iter, &perf_file, Kind::File)?;
         Ok(Self {
             perf_file,
             record_iter,
@@ -86,10 +87,11 @@ impl<R: Read> PerfFileReader<R> {
     ///   don't tell to which of them a record belongs.
     /// - [`Error::OutOfMemory`] if memory runs out.
     pub fn parse_pipe(reader: R) -> Result<Self, Error> {
-        let reader = inner::PerfFileReader::parse_pipe(inner::Global, Buffered::new(reader)?)?;
+        let source = Buffered::new(Input::of_pipe(reader)?)?;
+        let reader = inner::PerfFileReader::parse_pipe(inner::Global, source)?;
         let unknown = Error::IoError(io::Error::from(io::ErrorKind::InvalidInput));
         let perf_file = PerfFile::new(reader.perf_file, unknown)?;
-        let record_iter = PerfRecordIter::new(reader.record_iter, &perf_file, Input::Pipe)?;
+        let record_iter = PerfRecordIter::new(reader.record_iter, &perf_file, Kind::Pipe)?;
         Ok(Self {
             perf_file,
             record_iter,
@@ -98,7 +100,7 @@ impl<R: Read> PerfFileReader<R> {
 }
 
 #[derive(Clone, Copy, PartialEq, Eq)]
-enum Input {
+enum Kind {
     File,
     Pipe,
 }
@@ -149,7 +151,7 @@ struct HeldRecord {
 /// simpleperf. The records of a round are held until the next one ends: those that are older than all of the
 /// next round are returned in the order of their times.
 pub struct PerfRecordIter<R: Read> {
-    records: inner::PerfRecordIter<Buffered<R>>,
+    records: inner::PerfRecordIter<Buffered<Input<R>>>,
     sorter: inner::Sorter<SortKey, HeldRecord>,
     bodies: Bodies,
     // The record that was read after the end of a round, with its round.
@@ -158,7 +160,7 @@ pub struct PerfRecordIter<R: Read> {
     returned: Option<Body>,
     parse_infos: Vec<RecordParseInfo>,
     endian: inner::Endianness,
-    input: Input,
+    kind: Kind,
     // The number of markers before the current round.
     round: u64,
     // The records of the current round that are counted, and how many end it.
@@ -200,9 +202,9 @@ impl<'a> RecordParts<'a> {
 
 impl<R: Read> PerfRecordIter<R> {
     fn new(
-        records: inner::PerfRecordIter<Buffered<R>>,
+        records: inner::PerfRecordIter<Buffered<Input<R>>>,
         perf_file: &PerfFile,
-        input: Input,
+        kind: Kind,
     ) -> Result<Self, Error> {
         let is_simpleperf = perf_file
             .feature_section_data(Feature::SIMPLEPERF_META_INFO)
@@ -215,7 +217,7 @@ impl<R: Read> PerfRecordIter<R> {
             returned: None,
             parse_infos: Vec::new(),
             endian: perf_file.inner.endian(),
-            input,
+            kind,
             round: 0,
             count: 0,
             round_size: if is_simpleperf {
@@ -225,7 +227,7 @@ impl<R: Read> PerfRecordIter<R> {
             },
             stage: Stage::Reading,
         };
-        if is_simpleperf && input == Input::Pipe {
+        if is_simpleperf && kind == Kind::Pipe {
             // The record after the metadata isn't counted.
             iter.round_size += 1;
         }
@@ -260,7 +262,7 @@ impl<R: Read> PerfRecordIter<R> {
     /// returns [`Error::Failed`].
     ///
     /// - [`Error::IoError`] if a record header is truncated or the reader fails; of kind `Unsupported` for a
-    ///   compressed record.
+    ///   compressed record without feature `zstd`, and with it of kind `InvalidData` if its data can't be read.
     /// - [`Error::InvalidPerfEventSize`] if the size of a record is below 8.
     /// - [`ReadError::PerfEventData`] if a body is truncated or can't be read.
     /// - In a pipe, where a truncated record is the end and no error: the errors of
@@ -354,7 +356,7 @@ impl<R: Read> PerfRecordIter<R> {
                 origin: parts.origin,
                 body: self.bodies.append(bytes)?,
             };
-            if self.input == Input::Pipe && is_metadata(held.record_type) {
+            if self.kind == Kind::Pipe && is_metadata(held.record_type) {
                 self.add_parse_infos(perf_file)?;
                 perf_file.update(held.record_type)?;
             }
@@ -388,7 +390,7 @@ impl<R: Read> PerfRecordIter<R> {
 
     fn end_round(&mut self) -> Result<(), Error> {
         self.count = 0;
-        if self.input == Input::Pipe && self.round_size != usize::MAX {
+        if self.kind == Kind::Pipe && self.round_size != usize::MAX {
             self.round_size = SIMPLEPERF_ROUND;
         }
         self.sorter.finish_round()?;

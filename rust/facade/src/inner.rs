@@ -17,6 +17,10 @@ pub use dewikura::perfdata_base::features::Feature;
 pub(crate) use dewikura::perfdata_base::features::{FeatureSet, FeatureSetIter};
 pub(crate) use dewikura::perfdata_base::raw::{Endianness, RawData};
 pub(crate) use dewikura::perfdata_base::source::{Counted, PlacedSource, Source};
+#[cfg(feature = "zstd")]
+pub(crate) use dewikura::perfdata_compressed::{
+    DecompressedFile, DecompressedPipe, is_compressed_file,
+};
 pub(crate) use dewikura::perfdata_jit as jit;
 pub(crate) use dewikura::perfdata_order::sorter::Sorter;
 pub(crate) use dewikura::perfdata_records::auxtrace::Auxtrace;

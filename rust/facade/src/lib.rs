@@ -41,6 +41,7 @@ mod error;
 mod features;
 mod file_reader;
 mod inner;
+mod input;
 pub mod jitdump;
 #[cfg(not(feature = "event-reader"))]
 pub mod linux_perf_event_reader;
