@@ -1,5 +1,6 @@
 //! The calls of the reader, of listings, of the orders in time, of metadata, and of the parsers of single values and event bodies.
 
+mod compressed;
 mod derives;
 mod events;
 mod in_memory;
@@ -34,6 +35,7 @@ pub fn call(call: &Call<'_>, out: &mut Output) -> Tested<bool> {
         "read-file" | "read-unfinished" | "read-pipe" => reading::push_reading(call, out)?,
         "order-file" | "order-pipe" => orders::push_ordered(call, out)?,
         "sort" => orders::push_sorted(call, out)?,
+        "decompressed-file" | "decompressed-pipe" => compressed::push_decompressed(call, out)?,
         "metadata" => metadata::push_metadata(call, out)?,
         "bytes-left" => in_memory::push_bytes_left(call, out),
         "entries" | "two-bodies" => in_memory::push_in_memory(call, out)?,
