@@ -25,3 +25,12 @@ def symbols_of(path: str) -> List[str]:
     with dewikura.open("perf.data") as recording:
         names: List[Optional[str]] = recording.stacks.functions(symfs="/srv")
     return [symbols.name(symbol).decode() for symbol in symbols if symbol.size > 0] + [name for name in names if name is not None]
+
+
+def samples_so_far(path: str) -> int:
+    count = 0
+    with dewikura.follow(path, page_size=100, wait=1) as follower:
+        for page in follower:
+            count += sum(record.type == dewikura.RecordType.SAMPLE and len(page.body(record)) > 0 for record in page)
+        print(follower.kind, follower.byteorder, [attribute.name for attribute in follower.metadata.attributes])
+    return count

@@ -7,6 +7,7 @@ from .constants import (AttrFlag, BodyError, CpuMode, DsoKind, EventType, Featur
                         ReadFormat, RecordType, SampleType, Status, SymbolFileType)
 from .elf import ElfSymbol, Symbols, build_id, symbols
 from .errors import DewikuraError, FormatError, PerfDataError, TruncatedError, UnsupportedError
+from .following import Follower, Page, follow
 from .jitdump import (JitDebugEntry, JitDebugInfo, JitDump, JitHeader, JitLoad, JitMove, JitRecords, JitUnwinding, jitdump_from_buffer,
                       open_jitdump)
 from .names import demangle
@@ -18,10 +19,11 @@ __version__ = ".".join(map(str, _VERSION))
 
 __all__ = [
     "AttrFlag", "Attribute", "BodyError", "BuildId", "Comparison", "Counter", "Counters", "CpuMode", "DewikuraError", "DsoKind",
-    "ElfSymbol", "EventType", "Feature", "FormatError", "Frame", "FrameContext", "Frames", "InputKind", "JitDebugEntry", "JitDebugInfo",
+    "ElfSymbol", "EventType", "Feature", "Follower", "FormatError", "Frame", "FrameContext", "Frames", "InputKind", "JitDebugEntry", "JitDebugInfo",
     "JitDump", "JitHeader", "JitLoad", "JitMove", "JitRecord", "JitRecordType", "JitRecords", "JitUnwinding", "Kind", "Mapping",
-    "MappingKind", "Mappings", "PerfDataError", "Profile", "ReadFormat", "Record", "RecordType", "Recording", "Records", "Sample",
+    "MappingKind", "Mappings", "Page", "PerfDataError", "Profile", "ReadFormat", "Record", "RecordType", "Recording", "Records", "Sample",
     "SampleDetails", "SampleType", "Samples", "Stack", "StackFrame", "StackFrames", "StackMapping", "StackMappings", "Stacks", "Status",
     "Symbol", "SymbolFile", "SymbolFileType", "Symbols", "Task", "Tasks", "TruncatedError", "UnsupportedError", "build_id",
-    "decompress", "demangle", "from_buffer", "input_kind", "jitdump_from_buffer", "library_version", "open", "open_jitdump", "profile", "symbols",
+    "decompress", "demangle", "follow", "from_buffer", "input_kind", "jitdump_from_buffer", "library_version", "open", "open_jitdump",
+    "profile", "symbols",
 ]

@@ -60,6 +60,8 @@ demangle = _library.dewikura_demangle
 read_elf_symbols = _library.dewikura_read_elf_symbols
 elf_build_id = _library.dewikura_elf_build_id
 check_tracing_data = _library.dewikura_check_tracing_data
+read_opening = _library.dewikura_read_opening
+read_chunk_records = _library.dewikura_read_chunk_records
 
 
 def library_version() -> "tuple[int, int, int]":

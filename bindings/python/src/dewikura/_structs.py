@@ -4,7 +4,7 @@ from typing import Optional, Union
 
 from . import _declarations
 from ._declarations import (Attr, AttrTotals, BuildId, Cursor, ElfSymbol, FeatureSet, JitDebugEntry, JitHeader, JitLoad, JitMove, JitUnwinding, MetaPair,
-                            SampleDetails, StackTotals, StringEntry, Symbol, SymbolFile, SymbolTotals)
+                            Opening, SampleDetails, StackTotals, StringEntry, Symbol, SymbolFile, SymbolTotals)
 from .constants import BodyError, CpuMode, FrameContext, JitRecordType, MappingKind, RecordType, SampleType
 
 
