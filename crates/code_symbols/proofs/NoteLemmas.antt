@@ -1,19 +1,15 @@
 -- Notes one after the other.
-use Rattle.std.proofs.Common.{◌≡◌, ℕ, suc, ◌+◌, ◌-◌, ◌^◌, ◌<◌, inl, inr, List, [], ◌∷◌, drop, length, Some, None, sym, ap, subst, ◌∙◌, arith}
+use Rattle.std.proofs.Common.{◌≡◌, ℕ, suc, ◌+◌, ◌-◌, ◌^◌, ◌<◌, inl, inr, List, [], ◌∷◌, drop, length, Some, sym, ap, subst, ◌∙◌, arith}
 use Rattle.std.specs.Prelude.{min, slice_range}
 use Rattle.std.proofs.lemmas.Bool.{cases_lt}
 use Rattle.std.proofs.lemmas.List.{drop-drop, drop_all}
 use Rattle.code_symbols.specs.ElfImages.{number_at}
-use Rattle.code_symbols.specs.Notes.{EndNotes, HasBuildId, IsBuildIdNote, IsFirstBuildId, IsOtherNote, after_notes, description_start, next_note, round_up}
+use Rattle.code_symbols.specs.Notes.{HasBuildId, IsBuildIdNote, IsFirstBuildId, IsOtherNote, after_notes, description_start, next_note, round_up}
 use Rattle.code_symbols.specs.steps.Notes.{FollowOthers, IsLayout}
 use Rattle.code_symbols.specs.declared.elf.input.Encoding.{Encoding}
 use Rattle.code_symbols.specs.declared.elf.notes.NoteLayout.{NoteLayout}
 
 module _ (e : Encoding) (alignment : ℕ) (bytes : List ℕ) where
-  -- the first note
-  pub follow_none : (rest : List ℕ) → rest ≡ bytes → FollowOthers e alignment bytes rest
-  follow_none rest is = record { count = 0; before = λ k lt. absurd (omega (arith, lt)); is = is }
-
   -- one more note
   pub follow_more : (rest next : List ℕ) → FollowOthers e alignment bytes rest → IsOtherNote e alignment rest → next ≡ drop (next_note e alignment rest) rest → FollowOthers e alignment bytes next
   follow_more rest next f other is = record {
@@ -30,10 +26,6 @@ module _ (e : Encoding) (alignment : ℕ) (bytes : List ℕ) where
   -- the build id is in the next note
   pub found_after : (rest id : List ℕ) → FollowOthers e alignment bytes rest → HasBuildId e alignment rest id → IsFirstBuildId e alignment bytes (Some id)
   found_after rest id f has = record { count = f.count; before = f.before; found = subst (λ r. HasBuildId e alignment r id) f.is has }
-
-  -- no note follows
-  pub ended_after : (rest : List ℕ) → FollowOthers e alignment bytes rest → EndNotes e alignment rest → IsFirstBuildId e alignment bytes None
-  ended_after rest f ends = record { count = f.count; before = f.before; found = subst (EndNotes e alignment) f.is ends }
 
   -- the note at the start of the rest is one with a build id
   pub is_build_id : (rest : List ℕ) (layout : NoteLayout) → IsLayout e alignment rest layout → number_at e rest 8 4 ≡ 3
