@@ -7,6 +7,7 @@ ghost use Rattle.code_dwarf.specs.steps.Numbers.{NumberAt, OffsetAt, LengthAt, S
 ghost use Rattle.code_dwarf.specs.steps.Numbers.{SkippedAt, LongBlockAt, StringAt};
 
 use crate::error::DwarfError;
+use memchr::memchr;
 
 // The largest size of a name or a path in bytes.
 const MAX_STRING_SIZE: usize = 65_536;
@@ -166,11 +167,9 @@ pub(crate) fn read_string(bytes: &[u8]) -> Result<(&[u8], &[u8]), DwarfError>
 // The string at an offset, if it has at most 65,536 bytes.
 pub(crate) fn find_string(bytes: &[u8], offset: u64) -> Option<&[u8]> {
     let rest = skip(bytes, offset).ok()?;
-    let size = rest
-        .iter()
-        .take(MAX_STRING_SIZE + 1)
-        .position(|byte| *byte == 0)?;
-    rest.get(..size)
+    let (start, _) = rest.split_at(rest.len().min(MAX_STRING_SIZE + 1));
+    let size = memchr(0, start)?;
+    start.get(..size)
 }
 
 // An initial length.
