@@ -114,14 +114,6 @@ impl<'a> Entry<'a> {
         None
     }
 
-    // The value of the first attribute with a name, if it is a constant.
-    pub(crate) fn constant(&self, name: u64, encoding: &Encoding) -> Option<u64> {
-        match self.attribute(name, encoding)? {
-            Value::Constant(value) => Some(value),
-            _ => None,
-        }
-    }
-
     // The value of the first attribute with a name, if it is the offset of something in another section.
     // Before version 4 that is a constant.
     pub(crate) fn section_offset(&self, name: u64, encoding: &Encoding) -> Option<u64> {

@@ -7,7 +7,7 @@ use crate::entries::{
 };
 use crate::error::DwarfError;
 use crate::file::Unit;
-use crate::forms::Encoding;
+use crate::forms::{Encoding, Value, read_value};
 use crate::intervals::{Intervals, NodeRange};
 use crate::ranges::{AddressRange, RangeContext};
 use std::alloc::{AllocError, Global};
@@ -61,18 +61,77 @@ struct FunctionReader {
     budget: usize,
 }
 
+// The values of the attributes of an entry that say where its code is and where it is called.
+#[derive(Clone, Copy)]
+struct FunctionValues {
+    low: Option<Value>,
+    high: Option<Value>,
+    ranges: Option<Value>,
+    call_file: Option<Value>,
+    call_line: Option<Value>,
+    call_column: Option<Value>,
+}
+
+// The values of an entry without such attributes.
+const NO_VALUES: FunctionValues = FunctionValues {
+    low: None,
+    high: None,
+    ranges: None,
+    call_file: None,
+    call_line: None,
+    call_column: None,
+};
+
+impl FunctionValues {
+    // Sets the value of an attribute, unless an earlier one has the same name.
+    fn add(&mut self, name: u64, value: Value) {
+        let value = Some(value);
+        match name {
+            LOW_PC => self.low = self.low.or(value),
+            HIGH_PC => self.high = self.high.or(value),
+            RANGES => self.ranges = self.ranges.or(value),
+            CALL_FILE => self.call_file = self.call_file.or(value),
+            CALL_LINE => self.call_line = self.call_line.or(value),
+            CALL_COLUMN => self.call_column = self.call_column.or(value),
+            _ => {}
+        }
+    }
+
+    // The values of an entry up to one that can't be read.
+    fn read(entry: &Entry<'_>, encoding: &Encoding) -> FunctionValues {
+        let mut values = NO_VALUES;
+        let mut rest = entry.values;
+        'attributes: for attribute in entry.attributes {
+            let Ok((value, after)) = read_value(attribute, rest, encoding) else {
+                break;
+            };
+            values.add(attribute.name, value);
+            rest = after;
+        }
+        values
+    }
+}
+
+// The number that a value is, if it is a constant.
+fn constant(value: Option<Value>) -> Option<u64> {
+    match value? {
+        Value::Constant(number) => Some(number),
+        _ => None,
+    }
+}
+
 // The number in a constant, or 0 if there is none or it doesn't fit.
-fn small_number(constant: Option<u64>) -> u32 {
-    u32::try_from(constant.unwrap_or(0)).unwrap_or(0)
+fn small_number(value: Option<Value>) -> u32 {
+    u32::try_from(constant(value).unwrap_or(0)).unwrap_or(0)
 }
 
 // The node of an entry at an offset.
-fn function_node(entry: &Entry<'_>, offset: usize, encoding: &Encoding) -> FunctionNode {
+fn function_node(values: &FunctionValues, offset: usize) -> FunctionNode {
     FunctionNode {
         entry: offset,
-        call_file: entry.constant(CALL_FILE, encoding),
-        call_line: small_number(entry.constant(CALL_LINE, encoding)),
-        call_column: small_number(entry.constant(CALL_COLUMN, encoding)),
+        call_file: constant(values.call_file),
+        call_line: small_number(values.call_line),
+        call_column: small_number(values.call_column),
     }
 }
 
@@ -94,12 +153,12 @@ impl FunctionReader {
         offset: usize,
         parent: usize,
     ) -> Result<Option<usize>, DwarfError> {
-        let encoding = &context.encoding;
+        let values = FunctionValues::read(entry, &context.encoding);
         self.buffer.clear();
         let read = context.add_ranges(
-            entry.attribute(LOW_PC, encoding),
-            entry.attribute(HIGH_PC, encoding),
-            entry.attribute(RANGES, encoding),
+            values.low,
+            values.high,
+            values.ranges,
             &mut self.budget,
             &mut self.buffer,
         );
@@ -116,7 +175,7 @@ impl FunctionReader {
             read?;
             return Ok(None);
         }
-        self.nodes.push(function_node(entry, offset, encoding))?;
+        self.nodes.push(function_node(&values, offset))?;
         read?;
         Ok(Some(node))
     }

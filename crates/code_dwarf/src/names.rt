@@ -4,7 +4,7 @@ use crate::entries::{
     ABSTRACT_ORIGIN, Entry, LINKAGE_NAME, MIPS_LINKAGE_NAME, NAME, SPECIFICATION,
 };
 use crate::file::{Files, Unit};
-use crate::forms::Value;
+use crate::forms::{Encoding, Value, read_value};
 use crate::roots::string_bases;
 
 // The largest number of entries that are read for a name.
@@ -15,6 +15,54 @@ const MAX_ENTRIES: usize = 16;
 pub(crate) struct FunctionNames<'a> {
     pub(crate) linkage_name: Option<&'a [u8]>,
     pub(crate) name: Option<&'a [u8]>,
+}
+
+// The values of the attributes of an entry that say names or where they are.
+#[derive(Clone, Copy)]
+struct NameValues {
+    linkage_name: Option<Value>,
+    mips_linkage_name: Option<Value>,
+    name: Option<Value>,
+    origin: Option<Value>,
+    specification: Option<Value>,
+}
+
+// The values of an entry without such attributes.
+const NO_VALUES: NameValues = NameValues {
+    linkage_name: None,
+    mips_linkage_name: None,
+    name: None,
+    origin: None,
+    specification: None,
+};
+
+impl NameValues {
+    // Sets the value of an attribute, unless an earlier one has the same name.
+    fn add(&mut self, name: u64, value: Value) {
+        let value = Some(value);
+        match name {
+            LINKAGE_NAME => self.linkage_name = self.linkage_name.or(value),
+            MIPS_LINKAGE_NAME => self.mips_linkage_name = self.mips_linkage_name.or(value),
+            NAME => self.name = self.name.or(value),
+            ABSTRACT_ORIGIN => self.origin = self.origin.or(value),
+            SPECIFICATION => self.specification = self.specification.or(value),
+            _ => {}
+        }
+    }
+
+    // The values of an entry up to one that can't be read.
+    fn read(entry: &Entry<'_>, encoding: &Encoding) -> NameValues {
+        let mut values = NO_VALUES;
+        let mut rest = entry.values;
+        'attributes: for attribute in entry.attributes {
+            let Ok((value, after)) = read_value(attribute, rest, encoding) else {
+                break;
+            };
+            values.add(attribute.name, value);
+            rest = after;
+        }
+        values
+    }
 }
 
 // An entry that a name is looked for in.
@@ -38,15 +86,14 @@ fn find_entry<'a>(files: Files<'a>, offset: u64) -> Option<EntryLocation<'a>> {
 }
 
 impl<'a> EntryLocation<'a> {
-    // The string of the first attribute with a name, if it isn't empty.
-    fn attribute(&self, entry: &Entry<'_>, name: u64) -> Option<&'a [u8]> {
+    // The string of a value, if there is one that isn't empty.
+    fn string(&self, value: Option<Value>, encoding: &Encoding) -> Option<&'a [u8]> {
         let file = self.files.main;
-        let encoding = file.encoding(&self.unit);
-        let value = entry.attribute(name, &encoding)?;
+        let value = value?;
         let bases = string_bases(file, &self.unit, value);
         let string = self
             .files
-            .string(value, &file.sections.info, &encoding, &bases)?;
+            .string(value, &file.sections.info, encoding, &bases)?;
         if string.is_empty() {
             None
         } else {
@@ -84,20 +131,17 @@ impl<'a> EntryLocation<'a> {
         let file = self.files.main;
         let entry = file.entry(&self.unit, self.offset).ok()??;
         let encoding = file.encoding(&self.unit);
+        let values = NameValues::read(&entry, &encoding);
         if names.linkage_name.is_none() {
-            names.linkage_name = match self.attribute(&entry, LINKAGE_NAME) {
+            names.linkage_name = match self.string(values.linkage_name, &encoding) {
                 Some(name) => Some(name),
-                None => self.attribute(&entry, MIPS_LINKAGE_NAME),
+                None => self.string(values.mips_linkage_name, &encoding),
             };
         }
         if names.name.is_none() {
-            names.name = self.attribute(&entry, NAME);
+            names.name = self.string(values.name, &encoding);
         }
-        let reference = match entry.attribute(ABSTRACT_ORIGIN, &encoding) {
-            Some(origin) => origin,
-            None => entry.attribute(SPECIFICATION, &encoding)?,
-        };
-        self.referenced_entry(reference)
+        self.referenced_entry(values.origin.or(values.specification)?)
     }
 
     // The names of the function that the entry describes.
