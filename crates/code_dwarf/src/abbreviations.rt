@@ -26,6 +26,17 @@ pub(crate) struct AttributeSpec {
     pub(crate) constant: i64,
 }
 
+// How much values have whose sizes don't depend on them.
+#[derive(Clone, Copy)]
+pub(crate) struct ValueSizes {
+    // The number of bytes of values of a fixed size.
+    pub(crate) bytes: u64,
+    // The number of addresses.
+    pub(crate) addresses: u64,
+    // The number of offsets in sections.
+    pub(crate) offsets: u64,
+}
+
 // An abbreviation.
 #[derive(Clone, Copy)]
 pub(crate) struct Abbreviation {
@@ -34,6 +45,8 @@ pub(crate) struct Abbreviation {
     pub(crate) has_children: bool,
     // Whether it has more attributes than are read.
     pub(crate) is_excessive: bool,
+    // The size of the values of its attributes, if it doesn't depend on them.
+    pub(crate) sizes: Option<ValueSizes>,
     // The index of its first attribute in the table, and that after its last.
     pub(crate) start: usize,
     pub(crate) end: usize,
@@ -100,6 +113,48 @@ fn read_attribute_specs<'a>(
     Err(DwarfError::Truncated)
 }
 
+// The size of a value of a form that has as many bytes in each unit.
+fn fixed_size(form: u64) -> Option<u64> {
+    match form {
+        FLAG_PRESENT | IMPLICIT_CONST => Some(0),
+        0x0b | 0x0c | 0x11 | 0x25 | 0x29 => Some(1),
+        0x05 | 0x12 | 0x26 | 0x2a => Some(2),
+        0x27 | 0x2b => Some(3),
+        0x06 | 0x13 | 0x1c | 0x28 | 0x2c => Some(4),
+        0x07 | 0x14 | 0x20 | 0x24 => Some(8),
+        0x1e => Some(16),
+        _ => None,
+    }
+}
+
+impl ValueSizes {
+    // Adds a value of a form, if its size doesn't depend on the value.
+    fn with_form(&self, form: u64) -> Option<ValueSizes> {
+        let mut sizes = *self;
+        match form {
+            0x01 => sizes.addresses = sizes.addresses.saturating_add(1),
+            0x0e | 0x17 | 0x1d | 0x1f | 0x1f20 | 0x1f21 => {
+                sizes.offsets = sizes.offsets.saturating_add(1);
+            }
+            _ => sizes.bytes = sizes.bytes.saturating_add(fixed_size(form)?),
+        }
+        Some(sizes)
+    }
+}
+
+// The size of the values of attributes, if it doesn't depend on them.
+fn value_sizes(attributes: &[AttributeSpec]) -> Option<ValueSizes> {
+    let mut sizes = ValueSizes {
+        bytes: 0,
+        addresses: 0,
+        offsets: 0,
+    };
+    'attributes: for attribute in attributes {
+        sizes = sizes.with_form(attribute.form)?;
+    }
+    Some(sizes)
+}
+
 // Reads an abbreviation, and returns it with the rest. `None` ends the table.
 fn read_abbreviation<'a>(
     bytes: &'a [u8],
@@ -120,6 +175,7 @@ fn read_abbreviation<'a>(
         tag,
         has_children: children != 0,
         is_excessive,
+        sizes: value_sizes(attributes.get(start..).unwrap_or(&[])),
         start,
         end: attributes.len(),
     };

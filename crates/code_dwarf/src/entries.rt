@@ -1,9 +1,9 @@
 //! Entries of units (DWARF 5, section 7.5.2).
 ghost use Rattle.std.specs.Prelude.{◌≤◌, ◌<◌, length, IfOk, IfSome};
 
-use crate::abbreviations::{AbbreviationTable, AttributeSpec};
+use crate::abbreviations::{AbbreviationTable, AttributeSpec, ValueSizes};
 use crate::error::DwarfError;
-use crate::fixed::read_uleb128;
+use crate::fixed::{read_uleb128, skip};
 use crate::forms::{Encoding, Value, read_value};
 
 // The tags of entries that are looked for (`DW_TAG_subprogram`, and so on).
@@ -58,6 +58,8 @@ pub(crate) struct Entry<'a> {
     pub(crate) tag: u64,
     pub(crate) has_children: bool,
     pub(crate) attributes: &'a [AttributeSpec],
+    // The size of its values, if it doesn't depend on them.
+    pub(crate) sizes: Option<ValueSizes>,
     // The bytes from its first value on.
     pub(crate) values: &'a [u8],
 }
@@ -83,6 +85,7 @@ pub(crate) fn read_entry<'a>(
         tag: abbreviation.tag,
         has_children: abbreviation.has_children,
         attributes: table.attributes(&abbreviation),
+        sizes: abbreviation.sizes,
         values,
     };
     Ok((Some(entry), values))
@@ -91,6 +94,16 @@ pub(crate) fn read_entry<'a>(
 impl<'a> Entry<'a> {
     // The bytes after the entry.
     pub(crate) fn rest(&self, encoding: &Encoding) -> Result<&'a [u8], DwarfError>
+        ensures shorter { IfOk result (λ rest. length rest.now ≤ length self.now.values.now) }
+    {
+        match self.sizes {
+            Some(sizes) => skip(self.values, encoding.size(&sizes)),
+            None => self.rest_by_values(encoding),
+        }
+    }
+
+    // The bytes after the entry, which its values say.
+    fn rest_by_values(&self, encoding: &Encoding) -> Result<&'a [u8], DwarfError>
         ensures shorter { IfOk result (λ rest. length rest.now ≤ length self.now.values.now) }
     {
         let mut rest = self.values;

@@ -4,7 +4,7 @@ ghost use Rattle.code_dwarf.specs.steps.Numbers.{NumberAt, OffsetAt, BlockAfter}
 ghost use Rattle.code_dwarf.specs.steps.LineMachine.{wrapped};
 ghost use Rattle.code_dwarf.specs.steps.Forms.{IndexAt, DirectAt, OtherAt, ValueAt};
 
-use crate::abbreviations::{AttributeSpec, IMPLICIT_CONST};
+use crate::abbreviations::{AttributeSpec, IMPLICIT_CONST, ValueSizes};
 use crate::error::DwarfError;
 use crate::fixed::{
     Endianness, read_fixed, read_offset, read_sleb128, read_string, read_uleb128, skip, skip_block,
@@ -69,6 +69,16 @@ impl Encoding {
         ensures { result ≡ (if self.now.is_64_bit then 8 else 4) }
     {
         if self.is_64_bit { 8 } else { 4 }
+    }
+
+    // The size of values.
+    pub(crate) fn size(&self, sizes: &ValueSizes) -> u64 {
+        let addresses = sizes.addresses.saturating_mul(self.address_size() as u64);
+        let offsets = sizes.offsets.saturating_mul(self.offset_size() as u64);
+        sizes
+            .bytes
+            .saturating_add(addresses)
+            .saturating_add(offsets)
     }
 
     // An address with its highest bits dropped where addresses have 4 bytes.
