@@ -178,9 +178,48 @@ fn is_continued(last: &NodeRange, range: &NodeRange) -> bool {
     last.parent == range.parent && last.node == range.node && last.end == range.start
 }
 
+// Whether ranges contain addresses, and those of one parent none in common. They are in the order of the
+// parents and the starts.
+fn are_apart(ranges: &[NodeRange]) -> bool {
+    let mut end = Boundary {
+        parent: 0,
+        address: 0,
+    };
+    'ranges: for range in ranges {
+        if range.end <= range.start || (range.parent == end.parent && range.start < end.address) {
+            return false;
+        }
+        end = Boundary {
+            parent: range.parent,
+            address: range.end,
+        };
+    }
+    true
+}
+
+// The ranges in the order of the parents and the starts, if they are apart.
+fn sorted_ranges(
+    alloc: Global,
+    ranges: &[NodeRange],
+) -> Result<Option<Vec<NodeRange>>, AllocError> {
+    let mut sorted = Vec::from_slice(alloc, ranges)?;
+    sorted.sort_unstable_by_key(|range| Boundary {
+        parent: range.parent,
+        address: range.start,
+    });
+    if are_apart(&sorted) {
+        Ok(Some(sorted))
+    } else {
+        Ok(None)
+    }
+}
+
 impl Intervals {
     // The intervals of ranges. At an address that several ranges of one parent have, the first counts.
     pub(crate) fn new(alloc: Global, ranges: &[NodeRange]) -> Result<Intervals, AllocError> {
+        if let Some(ranges) = sorted_ranges(alloc, ranges)? {
+            return Ok(Intervals { ranges });
+        }
         let mut segments = Segments::new(alloc, ranges)?;
         'ranges: for range in ranges {
             segments.add(range);
