@@ -22,6 +22,37 @@ pub(crate) struct Candidates {
     everywhere: Vec<usize>,
 }
 
+// Merges numbers in order into others in order, the greatest first.
+fn merge(numbers: &mut Vec<usize>, others: &[usize]) -> Result<(), AllocError> {
+    let mut left = numbers.len();
+    let mut from = others.len();
+    numbers.extend_from_slice(others)?;
+    'places: for _ in 0..numbers.len() {
+        let Some(other) = last_of(others, from) else {
+            break;
+        };
+        let greatest = match last_of(numbers, left) {
+            Some(number) if number > other => {
+                left = left.saturating_sub(1);
+                number
+            }
+            _ => {
+                from = from.saturating_sub(1);
+                other
+            }
+        };
+        if let Some(place) = numbers.get_mut(left.saturating_add(from)) {
+            *place = greatest;
+        }
+    }
+    Ok(())
+}
+
+// The last of the first `count` numbers.
+fn last_of(numbers: &[usize], count: usize) -> Option<usize> {
+    numbers.get(count.checked_sub(1)?).copied()
+}
+
 impl Candidates {
     // No units.
     pub(crate) fn new(alloc: Global) -> Candidates {
@@ -79,8 +110,7 @@ impl Candidates {
                 units.push(range.unit)?;
             }
         }
-        units.extend_from_slice(&self.everywhere)?;
         units.sort_unstable();
-        Ok(())
+        merge(units, &self.everywhere)
     }
 }
