@@ -6,7 +6,7 @@ use Rattle.std.proofs.lemmas.List.Elements.{All-push}
 use Rattle.code_symbols.specs.declared.elf.symbols.ElfSymbol.{ElfSymbol}
 use Rattle.code_symbols.specs.declared.elf.symbols.SymbolContext.{SymbolContext}
 use Rattle.code_symbols.specs.declared.ranked.RankedSymbol.{RankedSymbol}
-use Rattle.code_symbols.specs.steps.Elf.{AddsEntries, AddsFirst, AreOfFirst, IsLeftOut, IsListed, IsOfEntry, IsRanked, elf_symbol_in, entry_at, entry_left_out, entry_listed, no_entry}
+use Rattle.code_symbols.specs.ElfSymbols.{AddsEntries, AddsFirst, IsLeftOut, IsListed, IsOfEntry, IsRanked, elf_symbol_in, entry_at, entry_left_out, entry_listed, no_entry}
 
 module _ (c : SymbolContext) (entries : List ℕ) (size : ℕ) where
   -- one more symbol

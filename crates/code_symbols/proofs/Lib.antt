@@ -14,6 +14,8 @@ pub mod NameLemmas
 pub mod NoteLemmas
 pub mod MergeLemmas
 pub mod PltLemmas
+pub mod SectionLemmas
 pub mod StringLemmas
+pub mod TableLemmas
 pub mod SymbolLemmas
 pub mod TextLemmas

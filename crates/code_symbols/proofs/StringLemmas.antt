@@ -6,8 +6,7 @@ use Rattle.std.specs.List.{before_first}
 use Rattle.std.proofs.lemmas.Bool.{cases_lt, eq-eqb, ltb-true, lt-ltb, ne_eqb, true≢false}
 use Rattle.std.proofs.lemmas.List.{get_or-drop, get_or_past, get_or_default}
 use Rattle.std.proofs.lemmas.List.Sums.{prefix_len_is}
-use Rattle.code_symbols.specs.Strings.{AreNuls, string_in}
-use Rattle.code_symbols.specs.steps.Strings.{IsStringAt, IsStringEnd}
+use Rattle.code_symbols.specs.Strings.{AreNuls, IsStringAt, IsStringEnd, string_in}
 
 module _ (bytes nuls : List ℕ) (start p : ℕ) (o : AreNuls bytes nuls (length bytes)) (point : IsPartitionPoint (λ n. ltb n start ≡ true) (λ n. ltb n start ≡ false) nuls p) where
   below : (k d : ℕ) → k < p → get_or nuls k d < start

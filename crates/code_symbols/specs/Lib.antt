@@ -1,8 +1,10 @@
 pub mod Crc
 pub mod Boundaries
+pub mod Contents
 pub mod DebugLinks
 pub mod ElfFiles
 pub mod ElfImages
+pub mod ElfSymbols
 pub mod Jit
 pub mod Kernel
 pub mod Layer
@@ -12,7 +14,10 @@ pub mod Plt
 pub mod RankedLists
 pub mod SimpleperfSymbols
 pub mod Strings
+pub mod StringTable
 pub mod Symbols
 pub mod SymbolTable
+pub mod SymbolTables
 pub mod Text
+pub mod Versions
 pub mod steps

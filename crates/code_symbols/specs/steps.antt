@@ -1,10 +1,7 @@
 pub mod ArmPlt
 pub mod Boundaries
-pub mod Elf
 pub mod Merge
 pub mod Notes
 pub mod Plt
 pub mod PltRelocations
-pub mod Strings
-pub mod StringTable
-pub mod Versions
+pub mod SymbolTables

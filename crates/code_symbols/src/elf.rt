@@ -1,7 +1,13 @@
 //! ELF files: their segments, symbols, build id and debug link (System V ABI, chapter "Object files").
 
-ghost use Rattle.std.specs.Prelude.{◌≡◌, ◌==◌, IfOk};
+ghost use Rattle.std.specs.Option.{option_and_then};
+ghost use Rattle.std.specs.Prelude.{◌≡◌, ◌==◌, IfOk, IfSome, position, slice_get};
+ghost use Rattle.perfdata_sources.specs.Source.{all_bytes_of};
+ghost use Rattle.code_symbols.specs.Contents.{contents_of, contents_of_some};
 ghost use Rattle.code_symbols.specs.DebugLinks.{IsAlternateLinkOf, IsDebugLinkOf};
+ghost use Rattle.code_symbols.specs.StringTable.{bytes_of};
+ghost use Rattle.code_symbols.specs.SymbolTables.{AreTextFlags, is_linked, linked_section};
+ghost use Rattle.code_symbols.specs.steps.SymbolTables.{AreSymbolsOfParts};
 
 use crate::error::{ElfError, ElfTable};
 use crate::ranked::RankedSymbols;
@@ -66,6 +72,17 @@ pub struct AlternateLink {
     pub build_id: Vec<u8>,
 }
 
+// The bytes of a symbol table, and what its symbols refer to: the tables of section indices and versions, the
+// names, and whether the names of the sections contain `text`.
+#[derive(Drop)]
+struct TableParts {
+    entries: Vec<u8>,
+    section_indices: Vec<u8>,
+    versions: Vec<u8>,
+    names: Strings,
+    text_sections: Vec<bool>,
+}
+
 /// An ELF file whose headers are read.
 #[derive(Drop)]
 pub struct ElfFile<R> {
@@ -80,7 +97,10 @@ pub struct ElfFile<R> {
 }
 
 impl<R: PlacedSource + Drop> ElfFile<R> {
-    ghost use Rattle.code_symbols.specs.ElfFiles.{endian_of, file_type_of, machine_of, segments_of};
+    ghost use Rattle.code_symbols.specs.ElfFiles.{endian_of, file_type_of, machine_of, sections_of};
+    ghost use Rattle.code_symbols.specs.ElfFiles.{HasSameHeaders, section_names_of, segments_of, source_of};
+    ghost use Rattle.code_symbols.specs.SymbolTables.{SymbolsOf, index_of_type};
+    ghost use Rattle.code_symbols.specs.SymbolTables.{table_index};
 
     /// Reads the file header, the section headers with their names, and the program headers.
     ///
@@ -203,7 +223,11 @@ impl<R: PlacedSource + Drop> ElfFile<R> {
         &mut self,
         alloc: Global,
         segments: &[Segment],
-    ) -> Result<RankedSymbols, ElfError> {
+    ) -> Result<RankedSymbols, ElfError>
+        ensures of_table { IfOk result (λ symbols.
+            IfSome (all_bytes_of (R.state (source_of self.old)).position)
+            (λ all. SymbolsOf all self.old segments.now symbols)) }
+    {
         let full = self.index_of_type(header::SYMTAB);
         let Some(index) = full.or(self.index_of_type(header::DYNSYM)) else {
             return Ok(RankedSymbols::new(alloc));
@@ -211,25 +235,45 @@ impl<R: PlacedSource + Drop> ElfFile<R> {
         let Some(section) = find_section(&self.sections, index) else {
             return Ok(RankedSymbols::new(alloc));
         };
-        let entries = read_contents(alloc, &mut self.source, &section, ElfTable::Symbols)?;
-        let section_indices = self.linked_table(alloc, header::SYMTAB_INDICES, index)?;
-        let versions = self.linked_table(alloc, header::VERSIONS, index)?;
-        let names = self.linked_strings(alloc, &section)?;
-        let text_sections = are_text(alloc, &self.sections, &self.section_names)?;
-        let context = SymbolContext {
-            header: self.header,
-            sections: &self.sections,
-            text_sections: &text_sections,
-            section_indices: &section_indices,
-            versions: &versions,
+        let parts = self.read_table_parts(alloc, index, &section)?;
+        symbols_of_parts(
+            alloc,
+            self.header,
+            &self.sections,
             segments,
-            names: &names,
-        };
-        let mut symbols = Vec::new(alloc);
-        add_symbols(&context, &entries, section.entry_size, &mut symbols)?;
-        Ok(RankedSymbols {
-            names: names.into_bytes(),
-            symbols,
+            section.entry_size,
+            parts,
+        )
+    }
+
+    // Reads the parts of the symbol table with an index.
+    fn read_table_parts(
+        &mut self,
+        alloc: Global,
+        index: usize,
+        section: &Section,
+    ) -> Result<TableParts, ElfError>
+        ensures entries { IfOk result (λ p. IfSome (all_bytes_of (R.state (source_of self.old)).position)
+            (λ all. p.entries.items ≡ contents_of all section.now)) }
+        ensures indices { IfOk result (λ p. IfSome (all_bytes_of (R.state (source_of self.old)).position)
+            (λ all. p.section_indices.items
+            ≡ contents_of_some all (linked_section (sections_of self.old) 18 index))) }
+        ensures versions { IfOk result (λ p. IfSome (all_bytes_of (R.state (source_of self.old)).position)
+            (λ all. p.versions.items
+            ≡ contents_of_some all (linked_section (sections_of self.old) 0x6fffffff index))) }
+        ensures names { IfOk result (λ p. IfSome (all_bytes_of (R.state (source_of self.old)).position)
+            (λ all. bytes_of p.names
+            ≡ contents_of_some all (slice_get (sections_of self.old) section.now.link))) }
+        ensures text { IfOk result (λ p. AreTextFlags (section_names_of self.old) (sections_of self.old)
+            p.text_sections.items) }
+        ensures same { HasSameHeaders self.old self.new }
+    {
+        Ok(TableParts {
+            entries: read_contents(alloc, &mut self.source, section, ElfTable::Symbols)?,
+            section_indices: self.linked_table(alloc, header::SYMTAB_INDICES, index)?,
+            versions: self.linked_table(alloc, header::VERSIONS, index)?,
+            names: self.linked_strings(alloc, section)?,
+            text_sections: are_text(alloc, &self.sections, &self.section_names)?,
         })
     }
 
@@ -309,13 +353,18 @@ impl<R: PlacedSource + Drop> ElfFile<R> {
     }
 
     // The symbol table that is read: `.symtab` if there is one, otherwise `.dynsym`.
-    fn symbol_table(&self) -> Option<Section> {
+    fn symbol_table(&self) -> Option<Section>
+        ensures { result ≡ option_and_then (slice_get (sections_of self.now))
+            (table_index (sections_of self.now)) }
+    {
         let full = self.index_of_type(header::SYMTAB);
         find_section(&self.sections, full.or(self.index_of_type(header::DYNSYM))?)
     }
 
     // The index of the first section of a type.
-    fn index_of_type(&self, section_type: u32) -> Option<usize> {
+    fn index_of_type(&self, section_type: u32) -> Option<usize>
+        ensures { result ≡ index_of_type (sections_of self.now) section_type }
+    {
         self.sections
             .iter()
             .position(|section| section.section_type == section_type)
@@ -329,14 +378,16 @@ impl<R: PlacedSource + Drop> ElfFile<R> {
         alloc: Global,
         section_type: u32,
         symbol_table: usize,
-    ) -> Result<Vec<u8>, ElfError> {
-        let Some(at) = self.sections.iter().position(|section| {
-            section.section_type == section_type && section.link as usize == symbol_table
-        })
-        else {
-            return Ok(Vec::new(alloc));
-        };
-        match find_section(&self.sections, at) {
+    ) -> Result<Vec<u8>, ElfError>
+        ensures contents { IfOk result (λ bytes.
+            IfSome (all_bytes_of (R.state (source_of self.old)).position)
+            (λ all. bytes.items
+            ≡ contents_of_some all (linked_section (sections_of self.old) section_type symbol_table))) }
+        ensures all { all_bytes_of (R.state (source_of self.new)).position
+            ≡ all_bytes_of (R.state (source_of self.old)).position }
+        ensures same { HasSameHeaders self.old self.new }
+    {
+        match find_linked(&self.sections, section_type, symbol_table) {
             Some(section) => read_contents(alloc, &mut self.source, &section, ElfTable::Symbols),
             None => Ok(Vec::new(alloc)),
         }
@@ -355,7 +406,15 @@ impl<R: PlacedSource + Drop> ElfFile<R> {
     }
 
     // The strings of the section that another one is linked to.
-    fn linked_strings(&mut self, alloc: Global, section: &Section) -> Result<Strings, ElfError> {
+    fn linked_strings(&mut self, alloc: Global, section: &Section) -> Result<Strings, ElfError>
+        ensures strings { IfOk result (λ strings.
+            IfSome (all_bytes_of (R.state (source_of self.old)).position)
+            (λ all. bytes_of strings
+            ≡ contents_of_some all (slice_get (sections_of self.old) section.now.link))) }
+        ensures all { all_bytes_of (R.state (source_of self.new)).position
+            ≡ all_bytes_of (R.state (source_of self.old)).position }
+        ensures same { HasSameHeaders self.old self.new }
+    {
         let bytes = match find_section(&self.sections, section.link as usize) {
             Some(strings) => read_contents(alloc, &mut self.source, &strings, ElfTable::Strings)?,
             None => Vec::new(alloc),
@@ -364,8 +423,71 @@ impl<R: PlacedSource + Drop> ElfFile<R> {
     }
 }
 
+// The symbols of a table.
+fn symbols_of_parts(
+    alloc: Global,
+    header: FileHeader,
+    sections: &[Section],
+    segments: &[Segment],
+    entry_size: u64,
+    parts: TableParts,
+) -> Result<RankedSymbols, ElfError>
+    ensures { IfOk result (AreSymbolsOfParts header sections.now segments.now entry_size parts) }
+{
+    let TableParts {
+        entries,
+        section_indices,
+        versions,
+        names,
+        text_sections,
+    } = parts;
+    let context = SymbolContext {
+        header,
+        sections,
+        text_sections: &text_sections,
+        section_indices: &section_indices,
+        versions: &versions,
+        segments,
+        names: &names,
+    };
+    let mut symbols = Vec::new(alloc);
+    add_symbols(&context, &entries, entry_size, &mut symbols)?;
+    Ok(RankedSymbols {
+        names: names.into_bytes(),
+        symbols,
+    })
+}
+
+// Whether a section has this type, and is linked to the symbol table with this index.
+fn is_linked(section: &Section, section_type: u32, symbol_table: usize) -> bool
+    ensures { result ≡ is_linked section_type symbol_table section.now }
+{
+    section.section_type == section_type && section.link as usize == symbol_table
+}
+
+// The index of the first section of a type that is linked to the symbol table with an index.
+fn linked_index(sections: &[Section], section_type: u32, symbol_table: usize) -> Option<usize>
+    ensures { result ≡ position (λ s. is_linked section_type symbol_table s) sections.now }
+{
+    sections
+        .iter()
+        .position(|section| is_linked(section, section_type, symbol_table))
+}
+
+// That section.
+fn find_linked(sections: &[Section], section_type: u32, symbol_table: usize) -> Option<Section>
+    ensures { result ≡ linked_section sections.now section_type symbol_table }
+{
+    match linked_index(sections, section_type, symbol_table) {
+        Some(index) => find_section(sections, index),
+        None => None,
+    }
+}
+
 // Whether the names of the sections contain `text`.
-fn are_text(alloc: Global, sections: &[Section], names: &Strings) -> Result<Vec<bool>, AllocError> {
+fn are_text(alloc: Global, sections: &[Section], names: &Strings) -> Result<Vec<bool>, AllocError>
+    ensures { IfOk result (λ flags. AreTextFlags (bytes_of names.now) sections.now flags.items) }
+{
     let mut flags = Vec::new(alloc);
     'sections: for section in sections.iter() {
         flags.push(names.string(section.name as usize).contains_str(b"text"))?;

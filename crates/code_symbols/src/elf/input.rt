@@ -1,5 +1,7 @@
 //! Tables of an ELF file, and the numbers in their entries.
-ghost use Rattle.std.specs.Prelude.{◌≡◌, ◌≤◌, slice_index};
+ghost use Rattle.std.specs.Prelude.{◌≡◌, ◌≤◌, IfOk, IfSome, slice_index};
+ghost use Rattle.perfdata_sources.specs.Source.{all_bytes_of};
+ghost use Rattle.code_symbols.specs.Contents.{IsRange};
 ghost use Rattle.code_symbols.specs.ElfImages.{by_class, half_at, number_at, word_at};
 
 use crate::error::{ElfError, ElfTable};
@@ -100,7 +102,12 @@ pub(crate) fn read_table<R: PlacedSource>(
     offset: u64,
     size: u64,
     table: ElfTable,
-) -> Result<Vec<u8>, ElfError> {
+) -> Result<Vec<u8>, ElfError>
+    ensures range { IfOk result (λ bytes. IfSome (all_bytes_of (R.state source.old).position)
+        (λ all. IsRange all offset size bytes.items)) }
+    ensures all { all_bytes_of (R.state source.new).position
+        ≡ all_bytes_of (R.state source.old).position }
+{
     if offset > source.seek_to(SeekFrom::End(0))? {
         return Err(ElfError::Truncated(table));
     }

@@ -1,6 +1,8 @@
 //! The contents of sections.
 
-ghost use Rattle.std.specs.Prelude.{◌≡◌, slice_get};
+ghost use Rattle.std.specs.Prelude.{◌≡◌, IfOk, IfSome, slice_get};
+ghost use Rattle.perfdata_sources.specs.Source.{all_bytes_of};
+ghost use Rattle.code_symbols.specs.Contents.{contents_of};
 
 use crate::elf::ElfFile;
 use crate::elf::header::{NOBITS, Section};
@@ -80,7 +82,12 @@ pub(crate) fn read_contents<R: PlacedSource>(
     source: &mut R,
     section: &Section,
     table: ElfTable,
-) -> Result<Vec<u8>, ElfError> {
+) -> Result<Vec<u8>, ElfError>
+    ensures contents { IfOk result (λ bytes. IfSome (all_bytes_of (R.state source.old).position)
+        (λ all. bytes.items ≡ contents_of all section.now)) }
+    ensures all { all_bytes_of (R.state source.new).position
+        ≡ all_bytes_of (R.state source.old).position }
+{
     if section.section_type == NOBITS {
         return Ok(Vec::new(alloc));
     }

@@ -2,8 +2,7 @@
 ghost use Rattle.std.specs.List.{position_or_len};
 ghost use Rattle.std.specs.Prelude.{◌≡◌, ◌≤◌, ◌==◌, IfOk, length};
 ghost use Rattle.std.proofs.Props.{props};
-ghost use Rattle.code_symbols.specs.Strings.{AreNuls, string_in};
-ghost use Rattle.code_symbols.specs.steps.Strings.{IsStringAt, IsStringEnd};
+ghost use Rattle.code_symbols.specs.Strings.{AreNuls, IsStringAt, IsStringEnd, string_in};
 
 use crate::text::part_end;
 use memchr::memchr;
@@ -43,7 +42,7 @@ fn find_nuls(alloc: Global, bytes: &[u8]) -> Result<Vec<usize>, AllocError>
 }
 
 impl Strings {
-    ghost use Rattle.code_symbols.specs.steps.StringTable.{bytes_of};
+    ghost use Rattle.code_symbols.specs.StringTable.{bytes_of};
 
     pub(crate) fn new(alloc: Global, bytes: Vec<u8>) -> Result<Strings, AllocError>
         ensures { IfOk result (λ s. bytes_of s ≡ bytes.items) }

@@ -2,13 +2,13 @@
 
 ghost use Rattle.std.specs.Option.{option_map};
 ghost use Rattle.std.specs.Prelude.{◌≡◌, ◌<◌, true, IfNone, IfSome, OnOk, slice_get, slice_index};
-ghost use Rattle.code_symbols.specs.steps.Elf.{AddsAll, AddsEntries, IsDefined, IsOffsetOfAddress, IsRanked};
-ghost use Rattle.code_symbols.specs.steps.Elf.{IsLeftOut, IsListed, IsSymbolOffset, section_of_symbol};
-ghost use Rattle.code_symbols.specs.steps.Elf.{elf_symbol_in, section_index_of, section_offset};
-ghost use Rattle.code_symbols.specs.steps.Elf.{symbol_address};
-ghost use Rattle.code_symbols.specs.steps.Elf.{IsCompatibility, end_of_section, is_hidden, is_label};
-ghost use Rattle.code_symbols.specs.steps.Elf.{is_listed, is_mapping_name};
-ghost use Rattle.code_symbols.specs.steps.Versions.{IsOtherVersion, printed_len};
+ghost use Rattle.code_symbols.specs.ElfSymbols.{AddsAll, AddsEntries, IsDefined, IsOffsetOfAddress, IsRanked};
+ghost use Rattle.code_symbols.specs.ElfSymbols.{IsLeftOut, IsListed, IsSymbolOffset, section_of_symbol};
+ghost use Rattle.code_symbols.specs.ElfSymbols.{elf_symbol_in, section_index_of, section_offset};
+ghost use Rattle.code_symbols.specs.ElfSymbols.{symbol_address};
+ghost use Rattle.code_symbols.specs.ElfSymbols.{IsCompatibility, end_of_section, is_hidden, is_label};
+ghost use Rattle.code_symbols.specs.ElfSymbols.{is_listed, is_mapping_name};
+ghost use Rattle.code_symbols.specs.Versions.{IsOtherVersion, printed_len};
 
 use crate::elf::header::{FileHeader, RELOCATABLE, Section, Segment};
 use crate::elf::input::{Encoding, TableEntry};

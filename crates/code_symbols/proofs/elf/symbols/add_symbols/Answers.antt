@@ -1,7 +1,7 @@
 use Rattle.std.proofs.Common.{ℕ, ◌+◌, ◌≤◌, List, [], length, sym, subst, arith}
 use Rattle.std.proofs.lemmas.List.{append-nil}
 use Rattle.std.proofs.lemmas.List.Elements.{All-nil}
-use Rattle.code_symbols.specs.steps.Elf.{AddsEntries, AddsFirst, IsOfEntry}
+use Rattle.code_symbols.specs.ElfSymbols.{AddsEntries, AddsFirst, IsOfEntry}
 use Rattle.code_symbols.proofs.EntryLemmas.{adds_more, first_left_out, first_listed, first_none, next_offset, of_entry}
 use Rattle.code_symbols.proofs.elf.symbols.add_symbols.Goals as goal
 use Rattle.code_symbols.proofs.elf.symbols.add_symbols.Goals.{in-Some+in_ok-push, in_default}

@@ -1,5 +1,5 @@
 use Rattle.std.proofs.Common.{◌≡◌, ◌≤◌, ◌-◌, ◌*◌, length}
-use Rattle.code_symbols.specs.steps.Elf.{AddsEntries, AddsFirst}
+use Rattle.code_symbols.specs.ElfSymbols.{AddsEntries, AddsFirst}
 use Rattle.code_symbols.proofs.elf.symbols.add_symbols.Given as goal
 
 abbrev pub invariant-entries : goal.invariant-entries

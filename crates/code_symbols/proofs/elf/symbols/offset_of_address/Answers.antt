@@ -1,7 +1,7 @@
 use Rattle.std.proofs.Common.{false, ℕ, ◌+◌, ◌++◌, List, take, drop, get_or, refl, sym, ap, subst, ◌∙◌, arith}
 use Rattle.std.specs.Prelude.{All}
 use Rattle.std.proofs.lemmas.List.{drop_more, take-append-drop, take_all}
-use Rattle.code_symbols.specs.steps.Elf.{Loads}
+use Rattle.code_symbols.specs.ElfSymbols.{Loads}
 use Rattle.code_symbols.specs.declared.elf.header.Segment.{Segment}
 use Rattle.code_symbols.proofs.elf.symbols.offset_of_address.Goals as goal
 

@@ -1,6 +1,6 @@
 use Rattle.std.proofs.Common.{take}
 use Rattle.std.specs.Prelude.{All}
-use Rattle.code_symbols.specs.steps.Elf.{Loads}
+use Rattle.code_symbols.specs.ElfSymbols.{Loads}
 use Rattle.code_symbols.proofs.elf.symbols.offset_of_address.Given as goal
 
 abbrev pub invariant-segments : goal.invariant-segments

@@ -1,6 +1,6 @@
 use Rattle.std.proofs.Common.{◌≡◌, ℕ, ◌-◌, ◌<◌, ◌≤◌, List, length, take, drop, refl, arith, sym, ap, ◌∙◌}
-use Rattle.code_symbols.specs.steps.StringTable.{bytes_of}
-use Rattle.code_symbols.specs.steps.Strings.{IsStringAt}
+use Rattle.code_symbols.specs.StringTable.{bytes_of}
+use Rattle.code_symbols.specs.Strings.{IsStringAt}
 use Rattle.std.proofs.lemmas.List.{get_or_past}
 use Rattle.code_symbols.proofs.StringLemmas.{is_string_in}
 use Rattle.code_symbols.proofs.elf.strings.Strings.string.Goals as goal

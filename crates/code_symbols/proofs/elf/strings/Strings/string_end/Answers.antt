@@ -2,8 +2,8 @@ use Rattle.std.proofs.Common.{◌≡◌, ℕ, ◌<◌, ◌≤◌, List, length, 
 use Rattle.std.specs.List.Sorted.{IsNonDecreasingBy, IsPartitionPoint}
 use Rattle.std.proofs.lemmas.List.{get_or_read}
 use Rattle.std.proofs.lemmas.List.Sorted.{IsPartitionPoint-from_clause, IsPartitionedBy-ltb}
-use Rattle.code_symbols.specs.steps.StringTable.{bytes_of}
-use Rattle.code_symbols.specs.steps.Strings.{IsStringEnd}
+use Rattle.code_symbols.specs.StringTable.{bytes_of}
+use Rattle.code_symbols.specs.Strings.{IsStringEnd}
 use Rattle.code_symbols.proofs.StringLemmas.{end_at_nul, end_of_bytes}
 use Rattle.code_symbols.proofs.elf.strings.Strings.string_end.Goals as goal
 

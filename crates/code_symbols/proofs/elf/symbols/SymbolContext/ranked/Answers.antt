@@ -1,5 +1,5 @@
 use Rattle.std.proofs.Common.{inl, sym, ap, ◌∙◌}
-use Rattle.code_symbols.specs.steps.Elf.{is_listed}
+use Rattle.code_symbols.specs.ElfSymbols.{is_listed}
 use Rattle.code_symbols.proofs.elf.symbols.SymbolContext.ranked.Goals as goal
 
 pub returns-then-not-is_listed-clause-none : goal.returns-then-not-is_listed-clause-none

@@ -8,10 +8,9 @@ use Rattle.code_symbols.specs.declared.elf.input.Encoding.{Encoding}
 use Rattle.code_symbols.specs.declared.elf.symbols.ElfSymbol.{ElfSymbol}
 use Rattle.code_symbols.specs.declared.elf.symbols.SymbolContext.{SymbolContext}
 use Rattle.code_symbols.specs.declared.ranked.RankedSymbol.{RankedSymbol}
-use Rattle.code_symbols.specs.Strings.{string_in}
-use Rattle.code_symbols.specs.steps.StringTable.{bytes_of}
-use Rattle.code_symbols.specs.steps.Strings.{IsStringAt}
-use Rattle.code_symbols.specs.steps.Versions.{IsOtherVersion, printed_len}
+use Rattle.code_symbols.specs.StringTable.{bytes_of}
+use Rattle.code_symbols.specs.Strings.{IsStringAt, string_in}
+use Rattle.code_symbols.specs.Versions.{IsOtherVersion, printed_len}
 
 -- the symbol in an entry (`Elf32_Sym`, `Elf64_Sym`)
 abbrev pub elf_symbol_in : Encoding → List ℕ → ElfSymbol
