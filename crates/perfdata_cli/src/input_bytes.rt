@@ -72,7 +72,7 @@ pub enum InputBytes {
 
 impl InputBytes {
     /// Returns where the content of a file's compressed records ends.
-    pub fn content_end(&self) -> ContentEnd {
+    pub(crate) fn content_end(&self) -> ContentEnd {
         match self {
             InputBytes::File(file) => file.content_end(),
             InputBytes::Raw(_) | InputBytes::Pipe(_) => ContentEnd::Whole,

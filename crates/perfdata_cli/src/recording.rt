@@ -33,6 +33,8 @@ pub struct RecordingKind {
 }
 
 impl RecordingKind {
+    ghost use Rattle.std.specs.Prelude.{◌≡◌};
+
     /// The kind of a pipe.
     pub const PIPE: RecordingKind = RecordingKind {
         is_pipe: true,
@@ -55,7 +57,9 @@ impl RecordingKind {
     }
 
     /// Returns the kind of a recording whose content ends there.
-    pub fn with_content_end(self, content_end: ContentEnd) -> RecordingKind {
+    pub fn with_content_end(self, content_end: ContentEnd) -> RecordingKind
+        ensures { result ≡ record self { content_end = content_end } }
+    {
         let mut kind = self;
         kind.content_end = content_end;
         kind

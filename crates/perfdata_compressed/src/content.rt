@@ -24,7 +24,8 @@ pub enum ContentEnd {
 #[derive(Drop)]
 pub(crate) struct Content {
     decoder: StreamDecoder,
-    // Content of a few blocks. What is before `start` was taken, from there to before `end` are whole records.
+    // Content of a few blocks. What is before `start` was taken. From there to before `end` are whole
+    // records.
     bytes: Vec<u8>,
     start: usize,
     end: usize,

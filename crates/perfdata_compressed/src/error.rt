@@ -1,4 +1,8 @@
 //! Why the content of a compressed record can't be read.
+ghost use Rattle.std.specs.Prelude.{◌≡◌, ◌≢◌, ◌↔◌, IsTrue};
+ghost use Rattle.std.specs.IoError.{error_kind};
+ghost use Rattle.std.specs.declared.io.ErrorKind.TheVariants.{InvalidData, OutOfMemory};
+ghost use Rattle.perfdata_compressed.specs.CompressedErrors.{no_memory};
 
 use std::alloc::AllocError;
 use std::fmt::InlineText;
@@ -32,12 +36,17 @@ pub enum CompressedError {
 
 impl CompressedError {
     /// Whether memory ran out.
-    pub fn is_out_of_memory(self) -> bool {
-        self == CompressedError::Stream(ZstdError::Memory)
+    pub fn is_out_of_memory(self) -> bool
+        ensures { IsTrue result ↔ (self ≡ no_memory) }
+    {
+        matches!(self, CompressedError::Stream(ZstdError::Memory))
     }
 
     /// Returns an I/O error with the text of this one: `OutOfMemory` if memory ran out, else `InvalidData`.
-    pub fn io_error(self) -> io::Error {
+    pub fn io_error(self) -> io::Error
+        ensures memory { self ≡ no_memory → error_kind result ≡ OutOfMemory }
+        ensures content { self ≢ no_memory → error_kind result ≡ InvalidData }
+    {
         if self.is_out_of_memory() {
             return io::Error::from(ErrorKind::OutOfMemory);
         }

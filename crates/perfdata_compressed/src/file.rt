@@ -42,7 +42,8 @@ pub fn is_compressed_file<R: Read + Seek>(alloc: Global, source: &mut R) -> Resu
 /// A file without the size of its data section, or that doesn't contain the whole section, is without
 /// compression such a file too: its data are those up to its end. From a record on whose size is too small,
 /// and from a record that the end of the section cuts, the data are those of the file. The data may end in a
-/// record of the content or in a block of the stream, which is no error: see [`DecompressedFile::content_end`].
+/// record of the content or in a block of the stream, which is no error:
+/// [`DecompressedFile::content_end`] says so.
 ///
 /// If content can't be read, the data section ends with eight bytes, and a read of them fails. There are none
 /// in a file that doesn't contain its whole section: `content_end` returns the error.

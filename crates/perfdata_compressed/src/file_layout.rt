@@ -1,4 +1,5 @@
 //! Where the parts of a file are, and the parts that are other ones without compression.
+ghost use Rattle.std.specs.Prelude.{◌≡◌, ◌+◌, ◌-◌, ◌^◌, ◌<◌, ◌≤◌};
 
 use crate::record_step::has_compressed;
 use perfdata_base::endian::{Endianness, read_u32, read_u64};
@@ -46,11 +47,14 @@ fn read_array<const N: usize, R: Read + Seek>(
 ) -> Result<Option<[u8; N]>> {
     let mut bytes = [0u8; N];
     source.seek(SeekFrom::Start(offset))?;
-    match source.read_exact(&mut bytes) {
-        Ok(()) => Ok(Some(bytes)),
-        Err(error) if error.kind() == ErrorKind::UnexpectedEof => Ok(None),
-        Err(error) => Err(error),
+    let read = source.read_exact(&mut bytes);
+    if let Err(error) = &read
+        && error.kind() == ErrorKind::UnexpectedEof
+    {
+        return Ok(None);
     }
+    read?;
+    Ok(Some(bytes))
 }
 
 // Reads at most this many bytes from an offset on.
@@ -91,7 +95,11 @@ fn moved_table(
 }
 
 /// The offset of a section, whose distance from the end of the data stays the same if it is after it.
-pub(crate) fn moved_offset(offset: u64, old_end: u64, new_end: u64) -> u64 {
+pub(crate) fn moved_offset(offset: u64, old_end: u64, new_end: u64) -> u64
+    ensures before { offset < old_end → result ≡ offset }
+    ensures after { old_end ≤ offset → new_end + (offset - old_end) < 2 ^ 64
+        → result ≡ new_end + (offset - old_end) }
+{
     match offset.checked_sub(old_end) {
         Some(distance) => new_end.saturating_add(distance),
         None => offset,

@@ -11,8 +11,8 @@ use std::io::{Read, Result};
 ///
 /// All compressed records are one zstd stream. A record of the content may continue in the next compressed
 /// record. Nothing is read ahead but what one read of the pipe returns, at most 64 KiB, and a read waits only
-/// if nothing can be returned. Beside these bytes a window (up to 128 MiB), a block (128 KiB) and a record are
-/// held.
+/// if nothing can be returned. Beside these bytes a window (up to 128 MiB), a block (128 KiB) and a record
+/// are held.
 ///
 /// From a record on whose size is too small, and from a record that the end of the pipe cuts, all bytes are
 /// those of the pipe. A pipe may end in a record of the content or in a block of the stream: what is there of

@@ -179,13 +179,17 @@ impl PlainRecords {
 
     // Goes on after what was taken. Returns `false` if more input is needed.
     fn advance(&mut self) -> Result<bool, CompressedError> {
-        let advanced = match (self.part, self.error) {
-            (Part::Rest, _) => return Ok(false),
-            (_, Some(error)) => return Err(error),
-            (Part::PipeHeader, None) => Ok(self.read_pipe_header()),
-            (Part::Records(0), None) => self.read_record(),
-            (Part::Records(_), None) => Ok(false),
-            (Part::Compressed(start, end), None) => self.decompress(start, end),
+        if self.part == Part::Rest {
+            return Ok(false);
+        }
+        if let Some(error) = self.error {
+            return Err(error);
+        }
+        let advanced = match self.part {
+            Part::PipeHeader => Ok(self.read_pipe_header()),
+            Part::Records(0) => self.read_record(),
+            Part::Records(_) | Part::Rest => Ok(false),
+            Part::Compressed(start, end) => self.decompress(start, end),
         };
         match advanced {
             Err(error) => self.fail(error),

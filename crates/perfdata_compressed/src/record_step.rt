@@ -1,4 +1,6 @@
 //! What the bytes of a recording begin with, by the header of a record.
+ghost use Rattle.std.specs.Prelude.{◌≡◌, drop};
+ghost use Rattle.perfdata_compressed.specs.RecordSteps.{AuxtraceMatches, FeatureMatches, PlainSize, StepMatches};
 
 use perfdata_base::endian::{Endianness, read_u32, read_u64};
 use perfdata_base::event::PerfEventHeader;
@@ -36,7 +38,9 @@ pub(crate) enum RecordStep {
 }
 
 // An AUXTRACE record of this size, whose first field is the size of its aux data.
-fn auxtrace_step(endian: Endianness, size: u16, bytes: &[u8]) -> RecordStep {
+fn auxtrace_step(endian: Endianness, size: u16, bytes: &[u8]) -> RecordStep
+    ensures { AuxtraceMatches bytes.now size result }
+{
     if size < AUXTRACE_SIZE {
         return RecordStep::Invalid;
     }
@@ -47,7 +51,9 @@ fn auxtrace_step(endian: Endianness, size: u16, bytes: &[u8]) -> RecordStep {
 }
 
 // The record of a feature of this size, whose first field is the number of the feature.
-fn feature_step(endian: Endianness, size: u16, bytes: &[u8]) -> RecordStep {
+fn feature_step(endian: Endianness, size: u16, bytes: &[u8]) -> RecordStep
+    ensures { FeatureMatches bytes.now size result }
+{
     let plain = RecordStep::Plain(u64::from(size));
     if size < ALGORITHM_SIZE {
         return plain;
@@ -62,7 +68,9 @@ fn feature_step(endian: Endianness, size: u16, bytes: &[u8]) -> RecordStep {
 }
 
 /// What the bytes begin with.
-pub(crate) fn record_step(endian: Endianness, bytes: &[u8]) -> RecordStep {
+pub(crate) fn record_step(endian: Endianness, bytes: &[u8]) -> RecordStep
+    ensures { StepMatches endian bytes.now result }
+{
     let Some(header) = PerfEventHeader::peek(endian, bytes) else {
         return RecordStep::Partial;
     };
@@ -80,9 +88,18 @@ pub(crate) fn record_step(endian: Endianness, bytes: &[u8]) -> RecordStep {
     }
 }
 
+/// The bytes after this number of them; none if there are fewer.
+pub(crate) fn bytes_after(bytes: &[u8], count: usize) -> &[u8]
+    ensures { result.now ≡ drop count bytes.now }
+{
+    bytes.get(count..).unwrap_or(&[])
+}
+
 /// The size of the records at the start of the bytes that aren't compressed. The last one may be longer than
 /// the bytes.
-pub(crate) fn plain_size(endian: Endianness, bytes: &[u8]) -> u64 {
+pub(crate) fn plain_size(endian: Endianness, bytes: &[u8]) -> u64
+    ensures { PlainSize endian bytes.now result }
+{
     let mut size = 0u64;
     let mut rest = bytes;
     for _ in 0..bytes.len() {
@@ -90,10 +107,7 @@ pub(crate) fn plain_size(endian: Endianness, bytes: &[u8]) -> u64 {
             break;
         };
         size = size.saturating_add(record);
-        match usize::try_from(record) {
-            Ok(record) => rest = rest.get(record..).unwrap_or(&[]),
-            Err(_) => break,
-        }
+        rest = bytes_after(rest, record as usize);
     }
     size
 }
@@ -108,7 +122,7 @@ pub(crate) fn has_compressed(endian: Endianness, bytes: &[u8]) -> bool {
             RecordStep::Algorithm(size, _) | RecordStep::TracingData(size) => usize::from(size),
             RecordStep::Partial | RecordStep::Invalid => return false,
         };
-        rest = rest.get(size..).unwrap_or(&[]);
+        rest = bytes_after(rest, size);
     }
     false
 }
