@@ -49,7 +49,6 @@ pub extern "C" fn dewikura_read_late_attr(
     ids: &mut [u64],
     ids_count: &mut u64,
 ) -> u32
-    ensures counted { IsCodeOf result (λ s. s ≡ Success → attr.new.ids_count ≡ ids_count.new) }
     ensures failed { IsCodeOf result (λ s. s ≢ Success → ids_count.new ≡ 0) }
     ensures unchanged { IsCodeOf result (λ s. s ≢ Success → attr.new ≡ attr.old) }
 {

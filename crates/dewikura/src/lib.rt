@@ -1,5 +1,5 @@
-//! C exports of the calls of `perfdata_arrays`, `perfdata_stack_arrays`, `code_symbols` and `demangle`;
-//! `bindings/c/include/dewikura.h` declares them.
+//! C exports of the calls of `perfdata_arrays`, `perfdata_chunks`, `perfdata_stack_arrays`, `code_symbols`
+//! and `demangle`; `bindings/c/include/dewikura.h` declares them.
 //!
 //! No pointer may be NULL, also where an array has no elements.
 #![tactic(auto)]
@@ -29,6 +29,7 @@ ghost use Rattle.perfdata_arrays.specs.Status.{IsCodeOf, code_text};
 ghost use Rattle.perfdata_arrays.specs.Strings.{ReadsString};
 ghost use Rattle.perfdata_arrays.specs.SymbolTables.{ReadsSymbolTables};
 ghost use Rattle.perfdata_arrays.specs.Tasks.{ReadsPipeTasks, ReadsTaskPage};
+ghost use Rattle.perfdata_chunks.specs.Chunks.{more_text};
 ghost use Rattle.demangle.specs.Prefix.{IsMangled};
 ghost use Rattle.perfdata_stack_arrays.specs.Reading.{ReadsFileStacks, ReadsPipeStacks};
 ghost use Rattle.dewikura.specs.Demangling.{Demangles};
@@ -106,12 +107,15 @@ pub extern "C" fn dewikura_version() -> u32
     VERSION
 }
 
-/// Writes the text of a status code, as `perfdata_arrays::status::status_text` does.
+/// Writes the text of a status code, as `perfdata_chunks::status::status_text` does.
 #[unsafe(no_mangle)]
 pub extern "C" fn dewikura_status_text(code: u32, buf: &mut [u8]) -> usize
-    ensures size { result ≡ length (code_text code) }
-    ensures written { buf.new ≡ with_prefix (take (length buf.old - 1) (code_text code) ++ 0 ∷ [])
-        buf.old }
+    ensures size { code ≢ 29 → result ≡ length (code_text code) }
+    ensures written { code ≢ 29 → buf.new
+        ≡ with_prefix (take (length buf.old - 1) (code_text code) ++ 0 ∷ []) buf.old }
+    ensures size_of_more { code ≡ 29 → result ≡ length more_text }
+    ensures more { code ≡ 29 → buf.new
+        ≡ with_prefix (take (length buf.old - 1) more_text ++ 0 ∷ []) buf.old }
 {
     perfdata_chunks::status::status_text(code, buf)
 }

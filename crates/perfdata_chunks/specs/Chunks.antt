@@ -1,5 +1,5 @@
 -- Chunks: parts of an input that start at a record header. How their bytes are framed, and what a call reports.
-use Rattle.std.specs.Prelude.{◌≡◌, ◌≢◌, ◌⊎◌, ℕ, ◌+◌, ◌^◌, ◌<◌, ◌≤◌, ◌==◌, List, [], ◌∷◌, ◌++◌, length, take, drop, if◌then◌else◌, Option, None, Some, Result, Ok, Err}
+use Rattle.std.specs.Prelude.{◌≡◌, ◌⊎◌, ℕ, ◌+◌, ◌^◌, ◌<◌, ◌≤◌, ◌==◌, List, [], ◌∷◌, ◌++◌, codes, length, take, drop, if◌then◌else◌, Option, None, Some, Result, Ok, Err}
 use Rattle.std.specs.List.{concat}
 use Rattle.perfdata_sources.specs.Endian.{number_in}
 use Rattle.perfdata_sources.specs.declared.endian.Endianness.{Endianness}
@@ -8,7 +8,6 @@ use Rattle.perfdata_sections.specs.RecordTypes.{auxtrace, finished_round, header
 use Rattle.linux_perf_data.specs.LateMetadata.{IsMetadataType}
 use Rattle.linux_perf_data.specs.Layout.{IsCompressed, IsRecord, aux_size_of, record_size_of, record_type_of}
 use Rattle.linux_perf_data.specs.RecordEntries.{one_if_some}
-use Rattle.linux_perf_data.specs.declared.in_memory.entries.RecordEntry.{RecordEntry}
 use Rattle.linux_perf_data.specs.declared.in_memory.position.RecordPosition.{RecordPosition}
 use Rattle.perfdata_arrays.specs.Status.{status_code}
 use Rattle.perfdata_arrays.specs.declared.attrs.Attr.{Attr}
@@ -16,6 +15,7 @@ use Rattle.perfdata_arrays.specs.declared.status.Status.{Status}
 use Rattle.perfdata_arrays.specs.declared.status.Status.TheVariants.{BadRecordSize, Compressed, NoAttributes, Success, Truncated, TruncatedRecord}
 use Rattle.perfdata_chunks.specs.declared.framing.Frame.{Frame}
 use Rattle.perfdata_chunks.specs.declared.records.ChunkResult.{ChunkResult}
+use Rattle.perfdata_chunks.specs.declared.records.NextFrame.{NextFrame}
 use Rattle.perfdata_chunks.specs.declared.status.StartStatus.{StartStatus}
 use Rattle.perfdata_chunks.specs.declared.status.StartStatus.TheVariants.{Known, More}
 
@@ -106,12 +106,30 @@ ReadsChunk order chunk attrs from capacity result next =
     ⊎ ((attrs ≡ []) × (result.status ≡ NoAttributes) × (result.count ≡ 0) × (result.consumed ≡ 0) × (next ≡ from))
 
 -- A frame, and whether it is that of a record; or the bytes are incomplete; or what can't be read.
-abbrev pub ReadsNext : Endianness → ℕ → List ℕ → Result (Option (Frame × Option RecordEntry)) Status → Type 0
-ReadsNext order offset bytes (Ok (Some next)) = IsFrame order offset bytes next.0 × (one_if_some next.1 ≡ counted next.0.header.type_)
+abbrev pub ReadsNext : Endianness → ℕ → List ℕ → Result (Option NextFrame) Status → Type 0
+ReadsNext order offset bytes (Ok (Some next)) = IsFrame order offset bytes next.frame × (one_if_some next.entry ≡ counted next.frame.header.type_)
 ReadsNext order offset bytes (Ok None) = IsIncomplete order bytes
 ReadsNext order offset bytes (Err status) = CannotBeFramed order offset bytes status ⊎ HasUnusableMetadata order offset bytes
 
+-- ---- laws
+
+-- The frames of a chunk, and those of what was left of it with more bytes behind it, are frames of all of these bytes.
+abbrev pub ChunksJoin : Type 0
+ChunksJoin = (order : Endianness) (offset : ℕ) (bytes more : List ℕ) (frames later : List (List ℕ)) (count consumed later_count later_consumed : ℕ)
+    → AreFrames order offset bytes frames count consumed → AreFrames order (offset + consumed) (drop consumed bytes ++ more) later later_count later_consumed
+    → AreFrames order offset (bytes ++ more) (frames ++ later) (count + later_count) (consumed + later_consumed)
+
+-- As many frames of the same bytes are the same, also how many of them are records, and their size.
+abbrev pub FramesAreUnique : Type 0
+FramesAreUnique = (order : Endianness) (offset : ℕ) (bytes : List ℕ) (frames others : List (List ℕ)) (count consumed count' consumed' : ℕ)
+    → AreFrames order offset bytes frames count consumed → AreFrames order offset bytes others count' consumed' → length frames ≡ length others
+    → (frames ≡ others) × (count ≡ count') × (consumed ≡ consumed')
+
 -- ---- statuses
+
+-- the text of the status `More`
+abbrev pub more_text : List ℕ
+more_text = codes "more bytes of the input are needed"
 
 -- the code of a status of a call on the start of an input
 abbrev pub start_status_code : StartStatus → ℕ

@@ -62,15 +62,20 @@ fn ids_slice<'a>(attr: &Attr, ids: &'a [u64]) -> &'a [u64] {
     }
 }
 
+// Returns whether the attribute with an index lists an id.
+fn lists_id(attrs: &[Attr], ids: &[u64], index: usize, id: u64) -> bool {
+    match attrs.get(index) {
+        Some(attr) => ids_slice(attr, ids).iter().any(|other| *other == id),
+        None => false,
+    }
+}
+
 // Returns the index of the last attribute that lists an id; 0 if none does.
 fn find_attr(attrs: &[Attr], ids: &[u64], id: u64) -> usize {
     let mut index = attrs.len();
     'attributes: while index > 0 {
         index -= 1;
-        if ids_slice(&attrs[index], ids)
-            .iter()
-            .any(|other| *other == id)
-        {
+        if lists_id(attrs, ids, index, id) {
             return index;
         }
     }

@@ -1,5 +1,5 @@
 //! The attribute in a record HEADER_ATTR, which a pipe may have among its records.
-ghost use Rattle.std.specs.Prelude.{◌≡◌, ◌≢◌};
+ghost use Rattle.std.specs.Prelude.{◌≡◌, ◌≢◌, ◌⊎◌};
 ghost use Rattle.perfdata_arrays.specs.declared.status.Status.TheVariants.{Success};
 
 use crate::metadata::parse_attr;
@@ -69,8 +69,8 @@ pub fn late_attr(
     attr: &mut Attr,
     ids: &mut [u64],
 ) -> LateAttrResult
-    ensures counted { result.status ≡ Success → attr.new.ids_count ≡ result.ids_count }
-    ensures placed { result.status ≡ Success → attr.new.ids_start ≡ ids_start }
+    ensures written { ((attr.new.ids_count ≡ result.ids_count) × (attr.new.ids_start ≡ ids_start))
+        ⊎ ((attr.new ≡ attr.old) × (result.ids_count ≡ 0)) }
     ensures failed { result.status ≢ Success → result.ids_count ≡ 0 }
     ensures unchanged_attr { result.status ≢ Success → attr.new ≡ attr.old }
     ensures unchanged_ids { result.status ≢ Success → ids.new ≡ ids.old }

@@ -9,6 +9,7 @@
 mod attributes;
 mod framing;
 pub mod late_attr;
+pub mod laws;
 mod metadata;
 pub mod opening;
 pub mod records;

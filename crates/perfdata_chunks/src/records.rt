@@ -1,5 +1,5 @@
 //! The records of a chunk: a part of an input that starts at a record header.
-ghost use Rattle.std.specs.Prelude.{◌≡◌, ◌+◌, ◌<◌, ◌≤◌, drop, length};
+ghost use Rattle.std.specs.Prelude.{◌≡◌, ◌+◌, ◌<◌, ◌≤◌, ◌^◌, drop, length};
 ghost use Rattle.linux_perf_data.specs.RecordEntries.{one_if_some};
 ghost use Rattle.perfdata_chunks.specs.Chunks.{ReadsChunk, ReadsNext};
 
@@ -33,7 +33,9 @@ fn record_entry(
     body: &[u8],
     start: usize,
     position: RecordPosition,
-) -> RecordEntry {
+) -> RecordEntry
+    requires { start + 8 < 2 ^ 64 }
+{
     let record_type = RecordType(header.type_);
     let is_event = record_type.is_builtin_type();
     let (attr_index, timestamp) = if is_event {
@@ -56,8 +58,14 @@ fn record_entry(
     }
 }
 
-// Reads the record or the round marker, which has no entry, at byte `start` of the chunk. `None` if it is
-// truncated.
+// The frame of a record with its entry, or that of a round marker, which has none.
+#[derive(Clone, Copy)]
+struct NextFrame {
+    frame: Frame,
+    entry: Option<RecordEntry>,
+}
+
+// Reads the record or the round marker at byte `start` of the chunk. `None` if it is truncated.
 fn read_next(
     alloc: Global,
     endian: Endianness,
@@ -65,7 +73,7 @@ fn read_next(
     chunk: &[u8],
     start: usize,
     position: RecordPosition,
-) -> Result<Option<(Frame, Option<RecordEntry>)>, Status>
+) -> Result<Option<NextFrame>, Status>
     requires { start ≤ length chunk.now }
     ensures { ReadsNext endian position.offset (drop start chunk.now) result }
 {
@@ -74,19 +82,23 @@ fn read_next(
         return Ok(None);
     };
     if frame.header.type_ == PERF_RECORD_FINISHED_ROUND {
-        return Ok(Some((frame, None)));
+        return Ok(Some(NextFrame { frame, entry: None }));
     }
     let body = &bytes[PerfEventHeader::STRUCT_SIZE..frame.size];
     check_metadata(alloc, attributes, frame.header.type_, body)?;
     let entry = record_entry(attributes, frame.header, body, start, position);
-    Ok(Some((frame, Some(entry))))
+    Ok(Some(NextFrame {
+        frame,
+        entry: Some(entry),
+    }))
 }
 
 // Writes the entry of a record, if there is one, after the first `count` ones, and returns how many there are
 // then.
 fn write_next(entries: &mut [RecordEntry], count: usize, entry: Option<RecordEntry>) -> usize
     requires { count < length entries.old }
-    ensures { result ≡ count + one_if_some entry }
+    ensures counted { result ≡ count + one_if_some entry }
+    ensures fits { result ≤ length entries.old }
 {
     match entry {
         Some(entry) => {
@@ -149,11 +161,11 @@ pub fn chunk_records(
     let mut count = 0;
     'records: while count < entries.len() {
         match read_next(alloc, endian, &mut attributes, chunk, start, *position) {
-            Ok(Some((frame, entry))) => {
-                start += frame.size;
-                *position = position_after(*position, frame);
-                count = write_next(entries, count, entry);
-                if frame.header.type_ == PERF_RECORD_HEADER_ATTR {
+            Ok(Some(next)) => {
+                start += next.frame.size;
+                *position = position_after(*position, next.frame);
+                count = write_next(entries, count, next.entry);
+                if next.frame.header.type_ == PERF_RECORD_HEADER_ATTR {
                     return chunk_result(count, start, Status::Success);
                 }
             }

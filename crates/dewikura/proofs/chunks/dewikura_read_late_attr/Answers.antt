@@ -1,8 +1,5 @@
 use Rattle.dewikura.proofs.chunks.dewikura_read_late_attr.Goals as goal
 
-pub returns-counted : goal.returns-counted
-returns-counted c = (c.late_attr-outcome.result.status, c.code.ensures, c.late_attr-outcome.ensures.counted)
-
 pub returns-failed : goal.returns-failed
 returns-failed c = (c.late_attr-outcome.result.status, c.code.ensures, c.late_attr-outcome.ensures.failed)
 

@@ -1,0 +1,2 @@
+-- The modules that proofs of goals use.
+pub mod ChunkLemmas
