@@ -2,6 +2,7 @@
 #![tactic(auto)]
 
 mod address_spaces;
+mod compressed_records;
 mod mapped_files;
 mod ordered_records;
 mod reading;
@@ -72,6 +73,23 @@ fn print_functions(rt: &HostRuntime) -> anyhow::Result<()> {
     Ok(())
 }
 
+// A pipe of one attribute and a compressed record (type 81): a zstd frame, and a block with two records of
+// type 9.
+const PIPE: &[u8] = &[
+    0x50, 0x45, 0x52, 0x46, 0x49, 0x4c, 0x45, 0x32, 16, 0, 0, 0, 0, 0, 0, 0, 64, 0, 0, 0, 0, 0, 72,
+    0, 0, 0, 0, 0, 64, 0, 0, 0, 0, 0, 0, 0, 0, 0, 0, 0, 0, 0, 0, 0, 0, 0, 0, 0, 0, 0, 0, 0, 0, 0,
+    0, 0, 0, 0, 0, 0, 0, 0, 0, 0, 0, 0, 0, 0, 0, 0, 0, 0, 0, 0, 0, 0, 0, 0, 0, 0, 0, 0, 0, 0, 0, 0,
+    0, 0, 81, 0, 0, 0, 0, 0, 33, 0, 0x28, 0xb5, 0x2f, 0xfd, 0, 0, 128, 0, 0, 9, 0, 0, 0, 0, 0, 8,
+    0, 9, 0, 0, 0, 0, 0, 8, 0,
+];
+
+// Prints the number of records of a pipe with a compressed record.
+fn print_compressed(rt: &HostRuntime) -> anyhow::Result<()> {
+    let count = compressed_records::count_records(rt.alloc(), PIPE)?;
+    println!(rt; "records of a pipe: {count}")?;
+    Ok(())
+}
+
 // The addresses of the kernel start here, on x86-64.
 const KERNEL_START: u64 = 1 << 63;
 
@@ -100,5 +118,6 @@ fn main(rt: HostRuntime) -> anyhow::Result<()> {
     for address in [0x40_0123, 0x40_1000] {
         print_offset(&rt, address)?;
     }
+    print_compressed(&rt)?;
     print_functions(&rt)
 }
