@@ -52,7 +52,8 @@ module _ (order : Endianness) where
   -- The bytes begin with this number of records that aren't compressed, of this size with their aux data. The last one may be longer than the bytes.
   abbrev pub PlainRecords : ℕ → List ℕ → ℕ → Type 0
   PlainRecords zero xs size = size ≡ 0
-  PlainRecords (suc count) xs size = (first : ℕ) × ((rest : ℕ) × (StepMatches order xs (Plain first) × (PlainRecords count (drop first xs) rest × (size ≡ first + rest))))
+  PlainRecords (suc count) xs size = (first : ℕ) × ((rest : ℕ) × (StepMatches order xs (Plain first)
+      × (PlainRecords count (drop first xs) rest × (size ≡ first + rest))))
 
   -- Some number of records has this size, unless their size is 2^64 - 1 or more.
   abbrev pub PlainSize : List ℕ → ℕ → Type 0

@@ -1,6 +1,7 @@
 //! What the bytes of a recording begin with, by the header of a record.
 ghost use Rattle.std.specs.Prelude.{◌≡◌, drop};
-ghost use Rattle.perfdata_compressed.specs.RecordSteps.{AuxtraceMatches, FeatureMatches, PlainSize, StepMatches};
+ghost use Rattle.perfdata_compressed.specs.RecordSteps.{AuxtraceMatches, FeatureMatches};
+ghost use Rattle.perfdata_compressed.specs.RecordSteps.{PlainSize, StepMatches};
 
 use perfdata_base::endian::{Endianness, read_u32, read_u64};
 use perfdata_base::event::PerfEventHeader;

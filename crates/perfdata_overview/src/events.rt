@@ -1,5 +1,8 @@
 //! The events of a recording: which of them are selected, and how many samples they have.
 
+ghost use Rattle.std.specs.Prelude.{◌≡◌, ◌+◌, ◌-◌, ◌^◌, ◌&&◌, min, nat_eq, nat_le, OnErr, OnOk};
+ghost use Rattle.perfdata_overview.specs.Events.{samples_of, selection_of};
+
 use crate::event_name::event_name;
 use crate::pattern::selects_event;
 use crate::sample_summary::SampleSummary;
@@ -16,7 +19,9 @@ const SOFTWARE: u32 = 1;
 const TASK_CLOCK: u64 = 1;
 
 /// Returns whether the period of an event is in nanoseconds.
-pub fn counts_time(attr: &PerfEventAttr) -> bool {
+pub fn counts_time(attr: &PerfEventAttr) -> bool
+    ensures { result ≡ nat_eq attr.now.type_ 1 && nat_le attr.now.config 1 }
+{
     attr.type_ == SOFTWARE && attr.config <= TASK_CLOCK
 }
 
@@ -95,7 +100,10 @@ pub fn push_event_name(
 
 impl<'a> EventTable<'a> {
     /// Creates a table without samples.
-    pub fn new(alloc: Global, selection: EventSelection<'a>) -> EventTable<'a> {
+    pub fn new(alloc: Global, selection: EventSelection<'a>) -> EventTable<'a>
+        ensures selection { selection_of result ≡ selection.entry }
+        ensures samples { samples_of result ≡ 0 }
+    {
         EventTable {
             selection,
             rows: Vec::new(alloc),
@@ -105,12 +113,16 @@ impl<'a> EventTable<'a> {
     }
 
     /// Returns which events are selected.
-    pub fn selection(&self) -> EventSelection<'a> {
+    pub fn selection(&self) -> EventSelection<'a>
+        ensures { result ≡ selection_of self.now }
+    {
         self.selection
     }
 
     /// Returns the number of all samples.
-    pub fn samples(&self) -> u64 {
+    pub fn samples(&self) -> u64
+        ensures { result ≡ samples_of self.now }
+    {
         self.samples
     }
 
@@ -126,7 +138,10 @@ impl<'a> EventTable<'a> {
     /// Adds the events that were read since the last call.
     ///
     /// Fails if memory runs out.
-    pub fn add_events(&mut self, perf_file: &PerfFile) -> Result<(), AllocError> {
+    pub fn add_events(&mut self, perf_file: &PerfFile) -> Result<(), AllocError>
+        ensures selection { selection_of self.new ≡ selection_of self.old }
+        ensures samples { samples_of self.new ≡ samples_of self.old }
+    {
         let known = self.rows.len();
         for (index, event) in perf_file.event_attributes().iter().enumerate().skip(known) {
             let row = EventRow {
@@ -144,7 +159,11 @@ impl<'a> EventTable<'a> {
     /// is the first one is known at the end.
     ///
     /// Fails if memory runs out.
-    pub fn add_sample(&mut self, perf_file: &PerfFile, index: usize) -> Result<bool, AllocError> {
+    pub fn add_sample(&mut self, perf_file: &PerfFile, index: usize) -> Result<bool, AllocError>
+        ensures selection { selection_of self.new ≡ selection_of self.old }
+        ensures samples { OnOk result (samples_of self.new ≡ min (samples_of self.old + 1) (2 ^ 64 - 1)) }
+        ensures err { OnErr result (samples_of self.new ≡ samples_of self.old) }
+    {
         self.add_events(perf_file)?;
         self.samples = self.samples.saturating_add(1);
         let first = self.first.map_or(index, |first| first.min(index));
@@ -161,7 +180,10 @@ impl<'a> EventTable<'a> {
     }
 
     /// Counts a sample of the event with an index.
-    pub fn count(&mut self, index: usize, sample: SampleSummary) {
+    pub fn count(&mut self, index: usize, sample: SampleSummary)
+        ensures selection { selection_of self.new ≡ selection_of self.old }
+        ensures samples { samples_of self.new ≡ samples_of self.old }
+    {
         if let Some(row) = self.rows.get_mut(index) {
             row.counted = row.counted.with(sample);
         }

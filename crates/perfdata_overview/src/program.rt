@@ -1,5 +1,9 @@
 //! The program that a recorded command executed.
 
+ghost use Rattle.std.specs.Prelude.{◌≡◌, None};
+ghost use Rattle.std.specs.Option.{option_map};
+ghost use Rattle.perfdata_overview.specs.Programs.{name_of};
+
 use bitflags::Flags;
 use linux_perf_data::PerfFile;
 use perfdata_base::raw::RawData;
@@ -48,7 +52,9 @@ pub fn has_own_command(perf_file: &PerfFile) -> bool {
 
 impl ExecutedProgram {
     /// Creates what no record says.
-    pub fn new(alloc: Global) -> ExecutedProgram {
+    pub fn new(alloc: Global) -> ExecutedProgram
+        ensures { name_of result ≡ None }
+    {
         ExecutedProgram {
             alloc,
             executed: None,
@@ -82,7 +88,9 @@ impl ExecutedProgram {
     }
 
     /// Returns the name of the thread that executed the program.
-    pub fn name(&self) -> Option<&[u8]> {
+    pub fn name(&self) -> Option<&[u8]>
+        ensures { option_map (λ name. name.now) result ≡ name_of self.now }
+    {
         match &self.executed {
             Some((_, name)) => Some(name.as_slice()),
             None => None,

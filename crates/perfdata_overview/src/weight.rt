@@ -1,5 +1,8 @@
 //! What a sample counts.
 
+ghost use Rattle.std.specs.Prelude.{◌≡◌, codes, IfSome};
+ghost use Rattle.perfdata_overview.specs.declared.weight.WeightKind.TheVariants.{Period, Samples};
+
 use bitflags::Flags;
 use linux_perf_data::attr::PerfEventAttr;
 use linux_perf_data::raw::Endianness;
@@ -17,7 +20,10 @@ pub enum WeightKind {
 
 impl WeightKind {
     /// Returns what weights count.
-    pub fn unit(self) -> &'static str {
+    pub fn unit(self) -> &'static str
+        ensures samples { self ≡ Samples → result.now ≡ codes "samples" }
+        ensures period { self ≡ Period → result.now ≡ codes "events" }
+    {
         match self {
             WeightKind::Samples => "samples",
             WeightKind::Period => "events",
@@ -31,7 +37,10 @@ impl WeightKind {
         attr: &PerfEventAttr,
         endian: Endianness,
         sample: &SampleRecord<'_>,
-    ) -> u64 {
+    ) -> u64
+        ensures samples { self ≡ Samples → result ≡ 1 }
+        ensures period { self ≡ Period → (IfSome sample.now.period (λ period. result ≡ period)) }
+    {
         let flags = EventFlags::from_attribute(attr, endian);
         match (self, sample.period) {
             (WeightKind::Samples, _) => 1,

@@ -382,8 +382,8 @@ pub(crate) const END: &str = r##"</script>
     return slots[slot];
   }
   // The trees of all samples, the callers first and the leaves first, are made once: of each node, whether no
-  // node above it is one of the same function, and of each sample the last node. Those of comparisons have the
-  // samples of both profiles.
+  // node above it is one of the same function, and of each sample the last node. Those of comparisons have
+  // the samples of both profiles.
   const trees = [];
   function grow(leaves) {
     const all = compares ? samples.concat(samplesBefore) : samples;
