@@ -179,5 +179,10 @@ int main(void)
     print_events(&events);
     if (pending.size)
         fprintf(stderr, "follow: the pipe ends in a record, after %zu bytes of it\n", pending.size);
+    free(events.samples);
+    free(events.ids);
+    free(events.names);
+    free(events.attrs);
+    free(pending.data);
     return 0;
 }

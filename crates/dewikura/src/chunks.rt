@@ -1,5 +1,5 @@
 //! C exports of the calls of `perfdata_chunks`.
-ghost use Rattle.std.specs.Prelude.{◌≡◌, ◌≢◌, length};
+ghost use Rattle.std.specs.Prelude.{◌≡◌, ◌≢◌};
 ghost use Rattle.dewikura.specs.Numbers.{endian_from};
 ghost use Rattle.perfdata_arrays.specs.Status.{IsCodeOf};
 ghost use Rattle.perfdata_arrays.specs.declared.status.Status.TheVariants.{Success};
@@ -29,7 +29,8 @@ pub extern "C" fn dewikura_read_chunk_records(
     consumed: &mut u64,
 ) -> u32
     ensures { IsCodeOf result (λ s. ReadsChunk (endian_from is_big_endian) chunk.now attrs.now cursor.old
-        (length entries.old) (record { count = count.new; consumed = consumed.new; status = s }) cursor.new) }
+        entries.old (record { count = count.new; consumed = consumed.new; status = s }) cursor.new
+        entries.new) }
 {
     let endian = endian_from_flag(is_big_endian);
     let outcome = records::chunk_records(alloc, endian, chunk, attrs, ids, cursor, entries);

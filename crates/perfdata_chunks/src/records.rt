@@ -1,7 +1,8 @@
 //! The records of a chunk: a part of an input that starts at a record header.
-ghost use Rattle.std.specs.Prelude.{◌≡◌, ◌+◌, ◌<◌, ◌≤◌, ◌^◌, drop, length};
-ghost use Rattle.linux_perf_data.specs.RecordEntries.{one_if_some};
-ghost use Rattle.perfdata_chunks.specs.Chunks.{ReadsChunk, ReadsNext};
+ghost use Rattle.std.specs.Prelude.{◌≡◌, ◌+◌, ◌<◌, ◌≤◌, ◌^◌, ◌++◌, List, drop, length};
+ghost use Rattle.linux_perf_data.specs.RecordEntries.{one_if_some, with_prefix};
+ghost use Rattle.perfdata_arrays.specs.Entries.{list_of};
+ghost use Rattle.perfdata_chunks.specs.Chunks.{ReadsChunk, ReadsNext, place_at, place_of, rounds};
 
 use crate::attributes::ChunkAttributes;
 use crate::framing::{Frame, next_frame};
@@ -35,6 +36,7 @@ fn record_entry(
     position: RecordPosition,
 ) -> RecordEntry
     requires { start + 8 < 2 ^ 64 }
+    ensures { place_of result ≡ place_at position start header (length body.now + 8) }
 {
     let record_type = RecordType(header.type_);
     let is_event = record_type.is_builtin_type();
@@ -75,7 +77,7 @@ fn read_next(
     position: RecordPosition,
 ) -> Result<Option<NextFrame>, Status>
     requires { start ≤ length chunk.now }
-    ensures { ReadsNext endian position.offset (drop start chunk.now) result }
+    ensures { ReadsNext endian position start (drop start chunk.now) result }
 {
     let bytes = &chunk[start..];
     let Some(frame) = next_frame(endian, bytes, position.offset)? else {
@@ -99,6 +101,8 @@ fn write_next(entries: &mut [RecordEntry], count: usize, entry: Option<RecordEnt
     requires { count < length entries.old }
     ensures counted { result ≡ count + one_if_some entry }
     ensures fits { result ≤ length entries.old }
+    ensures written { (es before : List RecordEntry) → count ≡ length es → entries.old ≡ with_prefix es before
+        → entries.new ≡ with_prefix (es ++ list_of entry) before }
 {
     match entry {
         Some(entry) => {
@@ -109,14 +113,26 @@ fn write_next(entries: &mut [RecordEntry], count: usize, entry: Option<RecordEnt
     }
 }
 
+// Returns the number of round markers after a frame.
+fn round_after(round: u64, record_type: u32) -> u64
+    requires { round + 1 < 2 ^ 64 }
+    ensures { result ≡ round + rounds record_type }
+{
+    if record_type == PERF_RECORD_FINISHED_ROUND {
+        return round + 1;
+    }
+    round
+}
+
 // Returns the position after a frame.
 fn position_after(position: RecordPosition, frame: Frame) -> RecordPosition
-    ensures { result.offset ≡ frame.end }
+    requires { position.round + 1 < 2 ^ 64 }
+    ensures offset { result.offset ≡ frame.end }
+    ensures round { result.round ≡ position.round + rounds frame.header.type_ }
 {
-    let is_marker = frame.header.type_ == PERF_RECORD_FINISHED_ROUND;
     RecordPosition {
         offset: frame.end,
-        round: position.round.saturating_add(is_marker as u64),
+        round: round_after(position.round, frame.header.type_),
     }
 }
 
@@ -151,7 +167,7 @@ pub fn chunk_records(
     position: &mut RecordPosition,
     entries: &mut [RecordEntry],
 ) -> ChunkResult
-    ensures { ReadsChunk endian chunk.now attrs.now position.old (length entries.old) result position.new }
+    ensures { ReadsChunk endian chunk.now attrs.now position.old entries.old result position.new entries.new }
 {
     let Some(mut attributes) = ChunkAttributes::new(endian, attrs, ids) else {
         return chunk_result(0, 0, Status::NoAttributes);
