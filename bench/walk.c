@@ -2,7 +2,8 @@
 // of 4,096 records again and again, and `walk own PATH` fills the same array by plain C: the identifiers of the attributes are in a sorted
 // array, and time and identifier at fixed offsets. These print the number of records. `walk compare PATH` compares both arrays. `walk samples
 // PATH` and `walk own-samples PATH` fill arrays of samples and their frames, and print the number of samples; `walk compare-samples PATH`
-// compares them. `walk stacks PATH` fills arrays of stacks, frames, mappings and texts, and prints the number of stacks.
+// compares them. `walk stacks PATH` fills arrays of stacks, frames, mappings and texts, and prints the number of stacks. `walk plain PATH` writes
+// a recording of `perf record -z` without compression.
 #include "../tests/contexts.h"
 #include "dewikura.h"
 #include <fcntl.h>
@@ -223,6 +224,16 @@ static uint64_t read_stacks(const uint8_t *bytes, size_t size) {
     return totals.stack_count;
 }
 
+// Writes a recording without compression to standard output.
+static int write_plain(const uint8_t *bytes, size_t size) {
+    uint64_t needed = 0;
+    uint8_t none = 0;
+    if (dewikura_decompress(bytes, size, &none, 0, &needed) || !needed) return 2;
+    uint8_t *plain = malloc(needed);
+    if (!plain || dewikura_decompress(bytes, size, plain, needed, &needed)) return 2;
+    return fwrite(plain, 1, needed, stdout) != needed;
+}
+
 int main(int argc, char **argv) {
     struct stat file_stat;
     int file = argc == 3 ? open(argv[2], O_RDONLY) : -1;
@@ -233,6 +244,7 @@ int main(int argc, char **argv) {
     struct dewikura_record *records = mmap(NULL, capacity * sizeof *records, PROT_READ | PROT_WRITE, MAP_PRIVATE | MAP_ANONYMOUS | MAP_NORESERVE, -1, 0);
     uint64_t total = 0;
     if (bytes == MAP_FAILED || records == MAP_FAILED) return 1;
+    if (!strcmp(argv[1], "plain")) return write_plain(bytes, size);
     if (strstr(argv[1], "samples")) total = read_samples(argv[1], bytes, size);
     else if (!strcmp(argv[1], "stacks")) total = read_stacks(bytes, size);
     else if (!strcmp(argv[1], "own")) total = own(bytes, records);
