@@ -11,7 +11,7 @@ from . import _native, _structs
 from ._input import PathLike
 from .constants import InputKind, RecordType, Status
 from .errors import check, error_of
-from .recording import Kind, Recording, Records, Source, _attr_name, _finished, _read_attrs, input_kind, open as open_recording
+from .recording import Kind, Recording, Records, Source, _attr_name, _read_attrs, _written, input_kind, open as open_recording
 from ._structs import Record
 
 # The number of bytes that are read at once, and the sizes of a record header, of an AUXTRACE record before its aux data, and of a file's header.
@@ -165,7 +165,7 @@ class Follower(Iterator[Page], ContextManager["Follower"]):
         if self._path is not None and opening.records_size:
             self._metadata = open_recording(self._path, kind=Kind.FILE)
         else:
-            self._metadata = Recording(_finished(self._start), Kind.FILE)
+            self._metadata = Recording(_written(_native.finish_recording, self._start), Kind.FILE)
 
     def _limit(self) -> int:
         """How many of the pending bytes are those of records."""
