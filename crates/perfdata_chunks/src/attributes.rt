@@ -48,6 +48,13 @@ fn format_attr(attr: &Attr) -> PerfEventAttr {
     }
 }
 
+// Returns whether the records of two attributes have identifiers and times at the same offsets, because they
+// have the same fields.
+fn have_same_format(first: &Attr, second: &Attr) -> bool {
+    let differing = first.flags ^ second.flags;
+    first.sample_type == second.sample_type && differing & AttrFlags::SAMPLE_ID_ALL.0 == 0
+}
+
 // Returns where the records of an attribute have identifiers and times.
 pub(crate) fn parse_info(endian: Endianness, attr: &Attr) -> RecordParseInfo {
     RecordParseInfo::new(&format_attr(attr), endian)
@@ -127,6 +134,19 @@ impl<'a> ChunkAttributes<'a> {
         }
     }
 
+    // Takes the attribute with this index as the one that was used last.
+    fn set_last(&mut self, index: usize) {
+        match (self.attrs.get(index), self.attrs.get(self.last_index)) {
+            (Some(attr), Some(last)) => {
+                if !have_same_format(attr, last) {
+                    self.last = parse_info(self.endian, attr);
+                }
+                self.last_index = index;
+            }
+            _ => {}
+        }
+    }
+
     // Returns the time of a record of the attribute with this index.
     pub(crate) fn read_time(
         &mut self,
@@ -135,11 +155,7 @@ impl<'a> ChunkAttributes<'a> {
         body: &[u8],
     ) -> Option<u64> {
         if index != self.last_index {
-            self.last = match self.attrs.get(index) {
-                Some(attr) => parse_info(self.endian, attr),
-                None => self.first,
-            };
-            self.last_index = index;
+            self.set_last(index);
         }
         self.last.read_time(record_type, body)
     }
