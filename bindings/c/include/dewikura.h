@@ -1133,6 +1133,18 @@ DEWIKURA_NONNULL DEWIKURA_NODISCARD dewikura_status dewikura_read_late_attr(cons
     uint32_t is_big_endian, uint64_t ids_start, struct dewikura_attr *attr, uint64_t *ids, size_t capacity,
     uint64_t *ids_count);
 
+// Writes the complete records at the start of `chunk`, a part of a jitdump that begins at a record header, up to
+// `capacity`. `offset` is the offset of its first byte in the jitdump: that of the first record is the `size` of the
+// header (dewikura_read_jit_header), which says the byte order too. *count is the number of written records, and
+// *consumed their size.
+//
+// If the header of the record after them is there, but not the whole record, *has_next is 1 and *next is that record;
+// otherwise *has_next is 0 and *next is unchanged. DEWIKURA_JIT_BAD_RECORD_SIZE means that no record can start there.
+// Otherwise call again as for dewikura_read_chunk_records.
+DEWIKURA_NONNULL DEWIKURA_NODISCARD dewikura_status dewikura_read_jit_chunk(const void *chunk, size_t size,
+    uint32_t is_big_endian, uint64_t offset, struct dewikura_jit_record *records, size_t capacity, uint64_t *count,
+    uint64_t *consumed, uint8_t *has_next, struct dewikura_jit_record *next);
+
 #ifdef __cplusplus
 }
 #endif

@@ -1,5 +1,5 @@
 //! C exports of the calls of `perfdata_chunks`.
-ghost use Rattle.std.specs.Prelude.{◌≡◌, ◌≢◌};
+ghost use Rattle.std.specs.Prelude.{◌≡◌, ◌≢◌, ◌≤◌, length};
 ghost use Rattle.dewikura.specs.Numbers.{endian_from};
 ghost use Rattle.perfdata_arrays.specs.Status.{IsCodeOf};
 ghost use Rattle.perfdata_arrays.specs.declared.status.Status.TheVariants.{Success};
@@ -11,8 +11,9 @@ use crate::endian_from_flag;
 use linux_perf_data::in_memory::entries::RecordEntry;
 use linux_perf_data::in_memory::position::RecordPosition;
 use perfdata_arrays::attrs::Attr;
+use perfdata_arrays::jit::JitRecord;
 use perfdata_chunks::opening::Opening;
-use perfdata_chunks::{late_attr, opening, records};
+use perfdata_chunks::{jit_records, late_attr, opening, records};
 use std::alloc::Global;
 
 /// Reads the records of a chunk, as `records::chunk_records` does.
@@ -66,4 +67,27 @@ pub extern "C" fn dewikura_read_opening(start: &[u8], opening: &mut Opening) -> 
         ≡ opening.old) }
 {
     opening::read_opening(start, opening).code()
+}
+
+/// Reads the records of a chunk of a jitdump, as `jit_records::jit_chunk_records` does.
+#[unsafe(no_mangle)]
+pub extern "C" fn dewikura_read_jit_chunk(
+    chunk: &[u8],
+    is_big_endian: u32,
+    offset: u64,
+    entries: &mut [JitRecord],
+    count: &mut u64,
+    consumed: &mut u64,
+    has_next: &mut u8,
+    next: &mut JitRecord,
+) -> u32
+    ensures counted { count.new ≤ length entries.old }
+    ensures within { consumed.new ≤ length chunk.now }
+{
+    let endian = endian_from_flag(is_big_endian);
+    let outcome = jit_records::jit_chunk_records(endian, chunk, offset, entries, next);
+    *count = outcome.count;
+    *consumed = outcome.consumed;
+    *has_next = outcome.has_next;
+    outcome.status.code()
 }

@@ -8,6 +8,7 @@
 
 mod attributes;
 mod framing;
+pub mod jit_records;
 pub mod late_attr;
 pub mod laws;
 mod metadata;

@@ -516,6 +516,8 @@ _EXPORTS = {
     "dewikura_read_chunk_records": (u32, [c_void_p, c_size_t, u32, POINTER(Attr), c_size_t, POINTER(u64), c_size_t, POINTER(Cursor),
         POINTER(Record), c_size_t, POINTER(u64), POINTER(u64)]),
     "dewikura_read_late_attr": (u32, [c_void_p, c_size_t, u32, u64, POINTER(Attr), POINTER(u64), c_size_t, POINTER(u64)]),
+    "dewikura_read_jit_chunk": (u32, [c_void_p, c_size_t, u32, u64, POINTER(JitRecord), c_size_t, POINTER(u64), POINTER(u64), POINTER(u8),
+        POINTER(JitRecord)]),
 }
 
 
