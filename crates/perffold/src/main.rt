@@ -32,9 +32,9 @@ use perfdata_selection::options::FilterOptions;
 use perfdata_views::differences::OldCounts;
 use regex::bytes::Regex;
 use std::alloc::{AllocError, Global};
+use std::io;
 use std::io::IsTerminal;
 use std::process::ExitCode;
-use std::{io, mem};
 
 // The program's name.
 const NAME: &str = "perffold";
@@ -210,25 +210,30 @@ fn read_old<'a>(
     path: &str,
 ) -> Result<ReadInput<'a>, FoldError<'a>> {
     let mut output = TextOutput::new(rt, arguments.output);
-    let mut input = read_input(rt, arguments, filter, patterns, format, path, &mut output)?;
-    let read = mem::replace(&mut input.read, Ok(Ok(())));
-    read??;
-    if let Some(error) = input.resolver.take_kernel_list_error() {
-        return Err(error.into());
-    }
     let ReadInput {
         perf_file,
         counted,
-        ..
-    } = &input;
-    let reason = no_output_reason(rt.alloc(), perf_file, counted, arguments, format);
+        mut resolver,
+        read,
+    } = read_input(rt, arguments, filter, patterns, format, path, &mut output)?;
+    let read = read?;
+    read?;
+    if let Some(error) = resolver.take_kernel_list_error() {
+        return Err(error.into());
+    }
+    let reason = no_output_reason(rt.alloc(), &perf_file, &counted, arguments, format);
     if let Some(reason) = reason.map_err(|_| InputError::OutOfMemory)? {
         return Err(FoldError::NoOutput(reason));
     }
     if !arguments.is_quiet {
-        print_messages(rt, NAME, perf_file, counted, &input.resolver);
+        print_messages(rt, NAME, &perf_file, &counted, &resolver);
     }
-    Ok(input)
+    Ok(ReadInput {
+        perf_file,
+        counted,
+        resolver,
+        read: Ok(Ok(())),
+    })
 }
 
 // Writes the profile of the input at a path, or how it differs from another one.
@@ -251,7 +256,8 @@ fn fold<'a>(
 fn write_selected<'a>(
     rt: &'a HostRuntime,
     arguments: &Arguments<'a>,
-    selection: Selection<'a>,
+    filter: FilterOptions<'a>,
+    patterns: &'a FocusPatterns,
     format: OutputFormat,
     path: &str,
     old: Option<&ReadInput<'_>>,
@@ -264,26 +270,26 @@ fn write_selected<'a>(
         }),
         None => None,
     };
-    let Selection { filter, patterns } = selection;
-    match fold(rt, arguments, filter, &patterns, format, path, old) {
+    match fold(rt, arguments, filter, patterns, format, path, old) {
         Ok(()) => SUCCESS,
         Err(error) => print_fold_error(rt, path, error),
     }
 }
 
-// Writes the differences of the input at a path from the one at an old path. Returns the exit status.
+// Writes how the input at a path differs from the one at an old path. The filters are those of the old one and
+// of the new one. Returns the exit status.
 fn compare<'a>(
     rt: &'a HostRuntime,
     arguments: &Arguments<'a>,
-    old_selection: Selection<'a>,
-    selection: Selection<'a>,
+    filters: (FilterOptions<'a>, FilterOptions<'a>),
+    patterns: &'a FocusPatterns,
     format: OutputFormat,
     paths: (&str, &str),
 ) -> u8 {
+    let (old_filter, filter) = filters;
     let (old_path, path) = paths;
-    let Selection { filter, patterns } = old_selection;
-    match read_old(rt, arguments, filter, &patterns, format, old_path) {
-        Ok(old) => write_selected(rt, arguments, selection, format, path, Some(&old)),
+    match read_old(rt, arguments, old_filter, patterns, format, old_path) {
+        Ok(old) => write_selected(rt, arguments, filter, patterns, format, path, Some(&old)),
         Err(error) => print_fold_error(rt, old_path, error),
     }
 }
@@ -397,18 +403,19 @@ impl Program for Perffold {
             let _ = eprintln!(rt; "{NAME}: --{option} has no meaning for this format");
             return USAGE_ERROR;
         }
-        let selection = match parse_selection(rt, matches) {
+        let Selection { filter, patterns } = match parse_selection(rt, matches) {
             Ok(selection) => selection,
             Err(status) => return status,
         };
         let path = input_path(rt, arguments.options.file);
         let Some(old_path) = arguments.diff else {
-            return write_selected(rt, &arguments, selection, format, path, None);
+            return write_selected(rt, &arguments, filter, &patterns, format, path, None);
         };
-        match parse_selection(rt, matches) {
-            Ok(old) => compare(rt, &arguments, old, selection, format, (old_path, path)),
-            Err(status) => status,
-        }
+        let filters = match parse_filter(rt.alloc(), matches) {
+            Ok(old_filter) => (old_filter, filter),
+            Err(error) => return print_selection_error(rt, error),
+        };
+        compare(rt, &arguments, filters, &patterns, format, (old_path, path))
     }
 }
 
