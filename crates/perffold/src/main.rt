@@ -26,7 +26,7 @@ use perfdata_cli::recording::{Recording, RecordingRecords};
 use perfdata_cli::text_output::TextOutput;
 use perfdata_focus::FocusPatterns;
 use perfdata_profile::options::ProfileOptions;
-use perfdata_resolver::{FrameResolver, ResolverOptions};
+use perfdata_resolver::{FormatData, FrameResolver, ResolverOptions};
 use perfdata_selection::error::SelectionError;
 use perfdata_selection::options::FilterOptions;
 use perfdata_views::differences::OldCounts;
@@ -208,7 +208,7 @@ fn read_old<'a>(
     patterns: &'a FocusPatterns,
     format: OutputFormat,
     path: &str,
-) -> Result<ReadInput<'a>, FoldError<'a>> {
+) -> Result<(PerfFile, CountedSamples<'a>, FrameResolver<'a>), FoldError<'a>> {
     let mut output = TextOutput::new(rt, arguments.output);
     let ReadInput {
         perf_file,
@@ -228,12 +228,7 @@ fn read_old<'a>(
     if !arguments.is_quiet {
         print_messages(rt, NAME, &perf_file, &counted, &resolver);
     }
-    Ok(ReadInput {
-        perf_file,
-        counted,
-        resolver,
-        read: Ok(Ok(())),
-    })
+    Ok((perf_file, counted, resolver))
 }
 
 // Writes the profile of the input at a path, or how it differs from another one.
@@ -260,13 +255,13 @@ fn write_selected<'a>(
     patterns: &'a FocusPatterns,
     format: OutputFormat,
     path: &str,
-    old: Option<&ReadInput<'_>>,
+    old: Option<(&PerfFile, &CountedSamples<'_>, &FormatData)>,
 ) -> u8 {
     let old = match old {
-        Some(input) => Some(OldSamples {
-            perf_file: &input.perf_file,
-            counted: &input.counted,
-            data: &input.resolver.data,
+        Some((perf_file, counted, data)) => Some(OldSamples {
+            perf_file,
+            counted,
+            data,
         }),
         None => None,
     };
@@ -288,10 +283,13 @@ fn compare<'a>(
 ) -> u8 {
     let (old_filter, filter) = filters;
     let (old_path, path) = paths;
-    match read_old(rt, arguments, old_filter, patterns, format, old_path) {
-        Ok(old) => write_selected(rt, arguments, filter, patterns, format, path, Some(&old)),
-        Err(error) => print_fold_error(rt, old_path, error),
-    }
+    let read = read_old(rt, arguments, old_filter, patterns, format, old_path);
+    let (perf_file, counted, resolver) = match read {
+        Ok(read) => read,
+        Err(error) => return print_fold_error(rt, old_path, error),
+    };
+    let old = (&perf_file, &counted, &resolver.data);
+    write_selected(rt, arguments, filter, patterns, format, path, Some(old))
 }
 
 // Prints that the arguments are invalid. Returns the exit status.
