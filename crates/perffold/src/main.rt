@@ -271,8 +271,8 @@ fn write_selected<'a>(
     }
 }
 
-// Writes how the input at a path differs from the one at an old path. The filters are those of the old one and
-// of the new one. Returns the exit status.
+// Writes how the input at a path differs from the one at an old path. The filters are those of the old and of
+// the new one. Returns the exit status.
 fn compare<'a>(
     rt: &'a HostRuntime,
     arguments: &Arguments<'a>,
