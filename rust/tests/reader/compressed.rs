@@ -143,7 +143,8 @@ fn written_lines(is_pipe: bool, bytes: &[u8]) -> Vec<String> {
 pub fn push_decompressed(call: &Call<'_>, out: &mut Output) -> Tested {
     let is_pipe = is_pipe(call.case.call);
     if !is_pipe && !is_compressed_file(Global, &mut Cursor::new(call.bytes))? {
-        return Ok(writeln!(out, "not compressed"));
+        writeln!(out, "not compressed");
+        return Ok(());
     }
     let whole = plain(is_pipe, call.bytes, usize::MAX, usize::MAX)?;
     for (input, output) in PIECES.iter().flat_map(|input| PIECES.map(|output| (*input, output))) {
