@@ -7,9 +7,9 @@
     for (let i = 0; i < text.length; i++) decoded[i] = text.charCodeAt(i);
     return decoded;
   }
-  let bytes = decode("profile");
+  let bytes;
 
-  // The messages of the profile. A field with bytes is the range at which they are.
+  // The messages of a profile. A field with bytes is the range at which they are.
   // `low` is the last number modulo 2 ** 32 and signed, which doesn't lose the bits of a negative one.
   let at = 0, low = 0;
   function number() {
@@ -52,65 +52,78 @@
     });
     return place;
   }
-  const strings = [], types = [], ranges = [], mappings = [null], places = [null], names = [null];
-  let shown = 0;
-  message(bytes.length, (field, value, stop) => {
-    if (field === 1) types.push(fields(stop));
-    if (field === 2) ranges.push([at, stop]);
-    if (field === 3) mappings.push(fields(stop));
-    if (field === 4) places.push(placeFields(stop));
-    if (field === 5) names.push(fields(stop));
-    if (field === 6) strings.push(decoder.decode(bytes.subarray(at, stop)));
-    if (field === 14) shown = value;
-  });
-  const string = index => strings[index || 0];
+  function readProfile(id) {
+    const all = { strings: [], types: [], ranges: [], mappings: [null], places: [null], names: [null], shown: 0 };
+    bytes = decode(id);
+    at = 0;
+    message(bytes.length, (field, value, stop) => {
+      if (field === 1) all.types.push(fields(stop));
+      if (field === 2) all.ranges.push([at, stop]);
+      if (field === 3) all.mappings.push(fields(stop));
+      if (field === 4) all.places.push(placeFields(stop));
+      if (field === 5) all.names.push(fields(stop));
+      if (field === 6) all.strings.push(decoder.decode(bytes.subarray(at, stop)));
+      if (field === 14) all.shown = value;
+    });
+    all.string = index => all.strings[index || 0];
+    return all;
+  }
 
   // What is known of each function: its name, the file and the kind of code of one of its locations, its
   // source file and the lines of samples in it. The first is the root of the tree. After the functions come
-  // that of the locations without a function, and the functions where they are inlined.
+  // that of the locations without a function, and the functions where they are inlined. Those of a profile
+  // that this one is compared with follow.
+  const KINDS = [
+    [/^\[kernel|^\[guest|\.ko(\.|$)/, "kernel"], [/^\[(perf-|jit|anon)|^\/\/anon|jitted-/, "generated"]
+  ];
+  const functions = [];
   const describeFunction = (name, source, kind, inlined) =>
-    ({ name, file: "", source, first: 0, last: 0, kind, inlined, found: false });
-  const functions = names.map(row => row ? describeFunction(string(row[2]), string(row[4]), "unknown", false)
-    : describeFunction("all", "", "all", false));
-  functions.push(describeFunction("[unknown]", "", "unknown", false));
-  for (const row of names.slice(1)) {
-    functions.push(describeFunction(string(row[2]) + " (inlined)", string(row[4]), "unknown", true));
-  }
-  const codesOf = places.map(place => {
-    const lines = place && place.lines.length ? place.lines : [[]];
-    return lines.map(([, id, line], index) => {
-      if (!(id > 0 && id < names.length)) return names.length;
-      const code = index < lines.length - 1 ? names.length + id : id, one = functions[code];
-      if (line && (!one.first || line < one.first)) one.first = line;
-      if (line && line > one.last) one.last = line;
-      return code;
+    ({ name, plain: name, file: "", source, first: 0, last: 0, kind, inlined, found: false });
+  function addFunctions(profile) {
+    const { names, string } = profile, base = functions.length;
+    profile.unknown = base + names.length;
+    for (const row of names) {
+      functions.push(row ? describeFunction(string(row[2]), string(row[4]), "unknown", false)
+        : describeFunction("all", "", "all", false));
+    }
+    functions.push(describeFunction("[unknown]", "", "unknown", false));
+    for (const row of names.slice(1)) {
+      const name = string(row[2]), one = describeFunction(name + " (inlined)", string(row[4]), "unknown", true);
+      one.plain = name;
+      functions.push(one);
+    }
+    profile.codesOf = profile.places.map(place => {
+      const lines = place && place.lines.length ? place.lines : [[]];
+      return lines.map(([, id, line], index) => {
+        if (!(id > 0 && id < names.length)) return profile.unknown;
+        const code = (index < lines.length - 1 ? profile.unknown : base) + id, one = functions[code];
+        if (line && (!one.first || line < one.first)) one.first = line;
+        if (line && line > one.last) one.last = line;
+        return code;
+      });
     });
-  });
+    profile.places.forEach((place, id) => {
+      const mapping = place && profile.mappings[place[2] || 0];
+      for (const code of mapping ? profile.codesOf[id] : []) {
+        const one = functions[code];
+        if (one.file) continue;
+        one.file = string(mapping[5]);
+        one.kind = (KINDS.find(kind => kind[0].test(one.file)) || ["", one.file ? "user" : "unknown"])[1];
+      }
+    });
+  }
   function sourceOf({ source, first, last }, parts) {
     if (source === "") return "";
     const path = source.split("/").slice(-parts).join("/");
     return first === 0 ? path : path + ":" + first + (last > first ? "-" + last : "");
   }
-  const KINDS = [
-    [/^\[kernel|^\[guest|\.ko(\.|$)/, "kernel"], [/^\[(perf-|jit|anon)|^\/\/anon|jitted-/, "generated"]
-  ];
-  places.forEach((place, id) => {
-    const mapping = place && mappings[place[2] || 0];
-    for (const code of mapping ? codesOf[id] : []) {
-      const one = functions[code];
-      if (one.file) continue;
-      one.file = string(mapping[5]);
-      one.kind = (KINDS.find(kind => kind[0].test(one.file)) || ["", one.file ? "user" : "unknown"])[1];
-    }
-  });
-
   // The samples: the values of each, its thread, and the range of its functions in `codes`, the root first.
-  function labelText(end) {
+  function labelText(end, string) {
     const label = [];
     message(end, (field, value) => { label[field] = field === 3 ? low : value; });
     return label[2] ? string(label[2]) : string(label[1]) + " " + (label[3] || 0);
   }
-  let codes = new Int32Array(bytes.length), used = 0;
+  let codes = new Int32Array(1024), used = 0;
   function push(added) {
     if (used + added.length > codes.length) {
       const longer = new Int32Array(2 * codes.length + added.length);
@@ -119,21 +132,42 @@
     }
     for (const code of added) codes[used++] = code;
   }
-  function readSample([start, end]) {
+  function readSample([start, end], { codesOf, unknown, string }) {
     const sample = { from: used, to: used, values: [], thread: "" }, labels = [];
     at = start;
     message(end, (field, value, stop) => {
-      if (field === 1) while (at < stop) push(codesOf[number()] || [names.length]);
+      if (field === 1) while (at < stop) push(codesOf[number()] || [unknown]);
       if (field === 2) sample.values = numbers(stop);
-      if (field === 3) labels.push(labelText(stop));
+      if (field === 3) labels.push(labelText(stop, string));
     });
     sample.to = used;
     sample.thread = labels.join(", ");
     codes.subarray(sample.from, used).reverse();
     return sample;
   }
-  const samples = ranges.map(readSample);
-  samples.forEach((sample, id) => { sample.id = id; });
+  function readSamples(profile) {
+    addFunctions(profile);
+    const all = profile.ranges.map(range => readSample(range, profile));
+    all.forEach((sample, id) => { sample.id = id; });
+    return all;
+  }
+  const profile = readProfile("profile"), { string, types } = profile, samples = readSamples(profile);
+
+  // The profile that this one is compared with, if there is one, and its samples. `valueOf` has the index of
+  // the values in it of each type. Functions with the same name are one: `groups` has the first of them.
+  const ownFunctions = functions.length, before = readProfile("before"), samplesBefore = readSamples(before);
+  const valueOf = types.map(([, kind, unit]) => before.types.findIndex(
+    type => before.string(type[1]) === string(kind) && before.string(type[2]) === string(unit)));
+  const isScaled = element("before").dataset.counts === "scaled", byPlainName = new Map();
+  const groups = functions.map((one, code) => {
+    if (one.kind === "all") return 0;
+    if (!byPlainName.has(one.plain)) byPlainName.set(one.plain, code);
+    const first = functions[byPlainName.get(one.plain)];
+    if (!first.file) [first.file, first.kind] = [one.file, one.kind];
+    return byPlainName.get(one.plain);
+  });
+  let compares = false;
+  const shownCode = code => compares ? groups[code] : code;
 
   // The samples in order: of each its index above, its time in nanoseconds from the first one, its weight and
   // the index of its values. `start` is the time of the first one, by the clock of perf.
@@ -216,6 +250,8 @@
 
   // The samples of the chosen thread, what they add up to, and their tree: nodes by number, the root is 0.
   let column = 0, chosen = [], total = 0, tree, self, sums;
+  // The same of the profile that this one is compared with.
+  let chosenBefore = [], totalBefore = 0, selfBefore, sumsBefore;
   let zoomed = 0, current = 0, selected = 0, boxes = [];
   // The child of a node with this code, which is found by a hash of both.
   let slots = new Int32Array(0);
@@ -239,21 +275,24 @@
     return slots[slot];
   }
   // The trees of all samples, the callers first and the leaves first, are made once: of each node, whether no
-  // node above it is one of the same function, and of each sample the last node.
+  // node above it is one of the same function, and of each sample the last node. Those of comparisons have the
+  // samples of both profiles.
   const trees = [];
   function grow(leaves) {
+    const all = compares ? samples.concat(samplesBefore) : samples;
     let size = 1;
-    for (const sample of samples) size += sample.to - sample.from;
+    for (const sample of all) size += sample.to - sample.from;
     tree = {
       code: new Int32Array(size), parent: new Int32Array(size), weight: new Float64Array(size),
       first: new Int32Array(size), next: new Int32Array(size), depth: new Int32Array(size),
-      own: new Float64Array(size), isOuter: new Uint8Array(size), ends: new Int32Array(samples.length),
+      own: new Float64Array(size), isOuter: new Uint8Array(size), ends: new Int32Array(all.length),
+      before: new Float64Array(compares ? size : 0), ownBefore: new Float64Array(compares ? size : 0),
       count: 1, rows: 1
     };
     slots = new Int32Array(2 ** Math.ceil(Math.log2(size) + 1));
-    samples.forEach(({ from, to }, index) => {
+    all.forEach(({ from, to }, index) => {
       let node = 0;
-      for (let i = 0; i < to - from; i++) node = child(node, codes[leaves ? to - 1 - i : from + i]);
+      for (let i = 0; i < to - from; i++) node = child(node, shownCode(codes[leaves ? to - 1 - i : from + i]));
       tree.ends[index] = node;
     });
     slots = new Int32Array(0);
@@ -261,11 +300,15 @@
   }
   // Sets the tree to that of the chosen samples. A node is after its parent.
   function weigh(leaves) {
-    tree = trees[Number(leaves)] ||= grow(leaves);
-    tree.weight.fill(0);
-    tree.own.fill(0);
+    tree = trees[Number(leaves) + (compares ? 2 : 0)] ||= grow(leaves);
+    for (const numbers of [tree.weight, tree.own, tree.before, tree.ownBefore]) numbers.fill(0);
     tree.rows = 1;
     for (const { id, values } of chosen) tree.own[tree.ends[id]] += values[column];
+    for (const { id, values } of chosenBefore) tree.ownBefore[tree.ends[samples.length + id]] += values[valueOf[column]];
+    for (let node = compares ? tree.count - 1 : -1; node >= 0; node--) {
+      tree.before[node] += tree.ownBefore[node];
+      if (node) tree.before[tree.parent[node]] += tree.before[node];
+    }
     for (let node = tree.count - 1; node >= 0; node--) {
       tree.weight[node] += tree.own[node];
       if (node) tree.weight[tree.parent[node]] += tree.weight[node];
@@ -282,18 +325,36 @@
   }
 
   // The sums of each function. A sample counts once for a function, however often its stack has it.
+  function sumsOf(weights) {
+    const all = new Float64Array(functions.length);
+    for (let node = 1; node < tree.count; node++) {
+      if (tree.isOuter[node]) all[tree.code[node]] += weights[node];
+    }
+    return all;
+  }
+  function selfOf(weights) {
+    const all = new Float64Array(functions.length);
+    for (let node = 1; node < tree.count; node++) all[tree.code[node]] += weights[node];
+    return all;
+  }
   function add() {
-    self = new Float64Array(functions.length);
-    sums = new Float64Array(functions.length);
     weigh(false);
     total = tree.weight[0];
-    for (let node = 1; node < tree.count; node++) {
-      self[tree.code[node]] += tree.own[node];
-      if (tree.isOuter[node]) sums[tree.code[node]] += tree.weight[node];
-    }
+    totalBefore = compares ? tree.before[0] : 0;
+    [self, sums] = [selfOf(tree.own), sumsOf(tree.weight)];
+    if (compares) [selfBefore, sumsBefore] = [selfOf(tree.ownBefore), sumsOf(tree.before)];
   }
-  const share = weight =>
-    (total ? Math.floor((20000 * weight + total) / (2 * total)) / 100 : 0).toFixed(2) + " %";
+  const hundredths = (weight, all) => all ? Math.floor((20000 * weight + all) / (2 * all)) : 0;
+  const percent = hundredths => (hundredths / 100).toFixed(2) + " %";
+  const share = weight => percent(hundredths(weight, total));
+  const shareBefore = weight => percent(hundredths(weight, totalBefore));
+  // How a share changed, in hundredths of a percent, and what is written of it.
+  const changeOf = (old, now) => hundredths(now, total) - hundredths(old, totalBefore);
+  const signOf = change => change > 0 ? "+" : change < 0 ? "-" : "";
+  const pointsOf = change => signOf(change) + (Math.abs(change) / 100).toFixed(2);
+  // What was counted before, or as much of the total now.
+  const countBefore = weight => isScaled && totalBefore
+    ? Number(BigInt(weight) * BigInt(total) / BigInt(totalBefore)) : weight;
 
   // The table of functions, and those of the callers and callees of the selected one.
   function fill(table, title, heads, rows) {
@@ -307,23 +368,28 @@
       cell.textContent = name;
     }
     const body = table.createTBody();
-    for (const [code, ...weights] of rows) {
+    const insertText = row => {
+      const cell = row.insertCell();
+      cell.className = "text";
+      return cell;
+    };
+    for (const [code, ...numbers] of rows) {
       const row = body.insertRow(), button = document.createElement("button");
-      for (const weight of weights) row.insertCell().textContent = share(weight);
+      for (const number of numbers) row.insertCell().textContent = number;
       row.classList.toggle("chosen", code === selected);
       button.textContent = functions[code].name;
       button.value = code;
       button.setAttribute("aria-pressed", code === selected);
       button.onclick = () => {
         selected = code === selected ? 0 : code;
-        describe(code, sums[code]);
+        describe(code, sums[code], compares && sumsBefore[code]);
         list();
         draw();
         const again = element("functions").querySelector("button[value='" + code + "']");
         if (again) again.focus();
       };
-      row.insertCell().append(button);
-      if (heads.includes("source")) row.insertCell().textContent = sourceOf(functions[code], 2);
+      insertText(row).append(button);
+      if (heads.includes("source")) insertText(row).textContent = sourceOf(functions[code], 2);
     }
   }
   function neighbours(step) {
@@ -331,21 +397,37 @@
     for (const { from, to, values } of chosen) {
       const seen = new Set();
       for (let i = from; i < to; i++) {
-        if (codes[i] === selected && i + step >= from && i + step < to) seen.add(codes[i + step]);
+        const isBeside = i + step >= from && i + step < to;
+        if (isBeside && shownCode(codes[i]) === selected) seen.add(shownCode(codes[i + step]));
       }
       for (const other of seen) weights.set(other, (weights.get(other) || 0) + values[column]);
     }
-    return [...weights].sort((a, b) => b[1] - a[1]).slice(0, ROWS);
+    const sorted = [...weights].sort((a, b) => b[1] - a[1]).slice(0, ROWS);
+    return sorted.map(([code, weight]) => [code, share(weight)]);
+  }
+  const isCounted = code => sums[code] > 0 || compares && sumsBefore[code] > 0;
+  // The functions in the order of the table, with what it shows of them.
+  function usualRows(listed) {
+    const weights = element("order").value === "self" ? self : sums;
+    listed.sort((a, b) => weights[b] - weights[a] || sums[b] - sums[a] || byName(a, b));
+    return listed.slice(0, ROWS).map(code => [code, share(self[code]), share(sums[code])]);
+  }
+  function changeRows(listed) {
+    const [now, old] = element("order").value === "self" ? [self, selfBefore] : [sums, sumsBefore];
+    const distance = code => Math.abs(now[code] * (totalBefore || 1) - old[code] * (total || 1));
+    listed.sort((a, b) => distance(b) - distance(a) || byName(a, b));
+    return listed.slice(0, ROWS).map(code => {
+      const count = now[code] - countBefore(old[code]), change = changeOf(old[code], now[code]);
+      return [code, shareBefore(old[code]), share(now[code]), pointsOf(change), signOf(count) + Math.abs(count)];
+    });
   }
   function list() {
-    const weights = element("order").value === "self" ? self : sums, all = element("search").value === "";
-    const listed = [...functions.keys()].filter(code => sums[code] > 0 && (all || functions[code].found));
-    listed.sort((a, b) => weights[b] - weights[a] || sums[b] - sums[a] || byName(a, b));
+    const all = element("search").value === "";
+    const listed = [...functions.keys()].filter(code => isCounted(code) && (all || functions[code].found));
     const title = listed.length > ROWS ? "the first " + ROWS + " of " + listed.length : "";
-    const rows = listed.slice(0, ROWS).map(code => [code, self[code], sums[code]]);
-    const heads = ["self", "total", "function"];
+    const heads = compares ? ["old", "new", "points", unitOf(), "function"] : ["self", "total", "function"];
     if (functions.some(one => one.source !== "")) heads.push("source");
-    fill(element("functions"), title, heads, rows);
+    fill(element("functions"), title, heads, compares ? changeRows(listed) : usualRows(listed));
     const name = functions[selected].name;
     fill(element("callers"), "Callers of " + name, ["total", "function"], selected && neighbours(-1));
     fill(element("callees"), "Callees of " + name, ["total", "function"], selected && neighbours(1));
@@ -365,12 +447,40 @@
     const light = (dark.matches ? 28 : 72) + kind % 7 + (one.inlined ? 11 : 0);
     return "hsl(" + (hue - 18 + kind % 37) + "," + (dim ? 8 : strength) + "%," + light + "%)";
   }
-  const box = (node, left, width, top) => drawBox(tree.code[node], left, width, top, node === current);
-  function drawBox(code, left, width, top, isCurrent) {
+  // A change is red for more and blue for less, and what has less is hatched too. A tenth of all samples, or
+  // more, has the full hue.
+  function changeColour(change, dim) {
+    const strength = change ? Math.max(0.1, Math.min(Math.abs(change) / 1000, 1)) : 0;
+    const light = dark.matches ? 24 + 12 * strength : 94 - 22 * strength;
+    return "hsl(" + (change < 0 ? 215 : 5) + "," + (change && !dim ? dark.matches ? 55 : 85 : change && 8) + "%," + light + "%)";
+  }
+  function hatching() {
+    const tile = document.createElement("canvas"), lines = tile.getContext("2d");
+    tile.width = tile.height = 8;
+    lines.strokeStyle = ink;
+    lines.globalAlpha = 0.3;
+    for (const x of [-8, 0, 8]) {
+      lines.moveTo(x, 8);
+      lines.lineTo(x + 8, 0);
+    }
+    lines.stroke();
+    return context.createPattern(tile, "repeat");
+  }
+  let hatch = null;
+  function box(node, left, width, top) {
+    const change = compares ? changeOf(tree.before[node], tree.weight[node]) : 0;
+    drawBox(tree.code[node], left, width, top, node === current, change);
+  }
+  function drawBox(code, left, width, top, isCurrent, change) {
     const one = functions[code], searching = element("search").value !== "";
     const dim = searching && !one.found || selected && code !== selected;
-    context.fillStyle = colour(code, dim);
-    context.fillRect(left, top, Math.max(width - (width > 3 ? 1 : 0), NARROWEST), ROW - 1);
+    const drawn = Math.max(width - (width > 3 ? 1 : 0), NARROWEST);
+    context.fillStyle = compares ? changeColour(change, dim) : colour(code, dim);
+    context.fillRect(left, top, drawn, ROW - 1);
+    if (change < 0) {
+      context.fillStyle = hatch;
+      context.fillRect(left, top, drawn, ROW - 1);
+    }
     if (isCurrent) {
       context.strokeStyle = ink;
       context.strokeRect(left + 1, top + 1, width - 3, ROW - 3);
@@ -378,8 +488,8 @@
     const fits = Math.floor((width - 8) / 7.3);
     if (fits < 3) return;
     context.fillStyle = ink;
-    const name = one.name.length > fits ? one.name.slice(0, fits - 1) + "\u2026" : one.name;
-    context.fillText(name, left + 4, top + 13);
+    const text = (change ? signOf(change) + " " : "") + one.name;
+    context.fillText(text.length > fits ? text.slice(0, fits - 1) + "\u2026" : text, left + 4, top + 13);
   }
   let ink = "#000";
   // The strip of time: a row a thread, the one with most samples first, and one for the others.
@@ -508,7 +618,7 @@
     for (const { code, left, width: size, depth } of all) {
       const y = depth * ROW - top;
       if (y >= height || y <= -ROW) continue;
-      drawBox(code, left, size, y, false);
+      drawBox(code, left, size, y, false, 0);
       boxes.push([-1 - code, left, size, y]);
     }
   }
@@ -523,6 +633,7 @@
     context.scale(ratio, ratio);
     context.font = "12px monospace";
     ink = getComputedStyle(document.body).color;
+    hatch = hatching();
     boxes = [];
     drawStrip(...(range || []));
     element("all").disabled = !zoomed && !selected && !range && !element("search").value;
@@ -551,14 +662,19 @@
     const [, kind, unit] = types[column] || [];
     return string(unit) === "count" ? string(kind) : string(unit) + " of " + string(kind);
   }
-  function describe(code, weight) {
-    const one = functions[code];
-    const parts = [weight + " " + what(), share(weight), one.file, sourceOf(one, Infinity)];
+  function unitOf() {
+    const [, kind, unit] = types[column] || [];
+    return string(unit === undefined || string(unit) === "count" ? kind : unit);
+  }
+  function describe(code, weight, old) {
+    const one = functions[code], parts = [weight + " " + what(), share(weight)];
+    if (compares) parts.push(pointsOf(changeOf(old, weight)) + " points", "before " + countBefore(old));
+    parts.push(one.file, sourceOf(one, Infinity));
     element("details").textContent = one.name + "\n" + parts.filter(part => part !== "").join(", ");
   }
   function show(node) {
     current = node;
-    describe(tree.code[node], tree.weight[node]);
+    describe(tree.code[node], tree.weight[node], tree.before[node]);
     draw();
   }
   function nodeAt({ offsetX: x, offsetY: y }) {
@@ -577,12 +693,12 @@
     let count = 0, weight = 0;
     functions.forEach((one, code) => {
       one.found = code > 0 && Boolean(wanted) && wanted.test(one.name);
-      if (one.found && sums[code] > 0) count++;
+      if (one.found && isCounted(code)) count++;
     });
     const found = functions.map(one => one.found);
     for (const { from, to, values } of wanted ? chosen : []) {
       let i = from;
-      while (i < to && !found[codes[i]]) i++;
+      while (i < to && !found[shownCode(codes[i])]) i++;
       if (i < to) weight += values[column];
     }
     const words = count + (count === 1 ? " function, " : " functions, ") + share(weight);
@@ -608,18 +724,22 @@
   function choose() {
     const thread = element("thread").value;
     column = element("column").selectedIndex;
+    compares = before.types.length > 0 && element("compare").checked && !isChart();
+    selected = compares ? groups[selected] : selected < ownFunctions ? selected : 0;
     selectTimes();
-    chosen = samples.filter(sample =>
-      sample.values[column] > 0 && (thread === "" || sample.thread === thread));
+    const isChosen = (sample, value) => sample.values[value] > 0 && (thread === "" || sample.thread === thread);
+    chosen = samples.filter(sample => isChosen(sample, column));
+    chosenBefore = compares ? samplesBefore.filter(sample => isChosen(sample, valueOf[column])) : [];
     add();
     if (element("view").value === "leaves first") weigh(true);
     zoomed = current = 0;
     const kind = isChart() ? "Chart in order of time, thread " + (chartStacks(1).thread || "none") + ", "
       : "Flame graph of " + chosen.length + " stacks, ";
-    canvas.setAttribute("aria-label", kind + total + " " + what());
+    const old = compares ? ", compared with " + totalBefore + " before" : "";
+    canvas.setAttribute("aria-label", kind + total + " " + what() + old);
     if (isChart()) element("details").textContent = kind + "most samples of those that are shown";
     const times = range ? ", " + seconds(range[0]) + " to " + seconds(range[1]) + " from the start" : "";
-    element("shown").textContent = total + " " + what() + times;
+    element("shown").textContent = total + " " + what() + times + old;
     strip.setAttribute("aria-label", "Samples over time, " + seconds(spread()) + ": drag to select a range, "
       + "click a thread, arrows move the range, Escape shows all");
     search();
@@ -709,7 +829,7 @@
   element("all").onclick = showAll;
   element("search").oninput = search;
   element("order").onchange = list;
-  for (const id of ["thread", "column", "view"]) element(id).onchange = choose;
+  for (const id of ["thread", "column", "view", "compare"]) element(id).onchange = choose;
   area.onscroll = draw;
   window.onresize = () => {
     threadRows();
@@ -724,7 +844,8 @@
   const threads = new Set(samples.map(sample => sample.thread));
   for (const thread of [...threads].sort()) element("thread").add(new Option(thread));
   for (const type of types) element("column").add(new Option(string(type[1])));
-  element("column").selectedIndex = Math.max(0, types.findIndex(type => type[1] === shown));
+  element("column").selectedIndex = Math.max(0, types.findIndex(type => type[1] === profile.shown));
+  element("changes").hidden = before.types.length === 0;
   if (order.count && order.last > order.first) {
     element("times").hidden = false;
     element("view").add(new Option("order of time"));

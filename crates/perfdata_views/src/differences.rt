@@ -27,6 +27,26 @@ pub struct CountPair {
     pub new: u64,
 }
 
+/// How what an old profile counts is written.
+#[derive(Clone, Copy, Debug, PartialEq, Eq)]
+pub enum OldCounts {
+    /// As it was counted.
+    Recorded,
+    /// As if all of it added up to what the new profile counts, rounded down.
+    Scaled,
+}
+
+/// Two profiles that are compared.
+#[derive(Clone, Copy)]
+pub struct Comparison<'a> {
+    /// The old one.
+    pub old: &'a Profile,
+    /// The new one.
+    pub new: &'a Profile,
+    /// How what the old one counts is written.
+    pub counts: OldCounts,
+}
+
 // The counts of texts in two profiles.
 #[derive(Drop)]
 pub(crate) struct PairedCounts {
@@ -62,6 +82,27 @@ impl CountPair {
         let new = self.new as u128 * totals.old.max(1) as u128;
         let old = self.old as u128 * totals.new.max(1) as u128;
         new.max(old) - new.min(old)
+    }
+}
+
+impl OldCounts {
+    /// Returns what is written of a count in an old profile. `totals` are the sums of all counts.
+    pub(crate) fn written(self, count: u64, totals: CountPair) -> u64 {
+        if self == OldCounts::Recorded || totals.old == 0 {
+            return count;
+        }
+        let scaled = count as u128 * totals.new as u128 / totals.old as u128;
+        u64::try_from(scaled).unwrap_or(u64::MAX)
+    }
+}
+
+impl<'a> Comparison<'a> {
+    // Returns the sums of all counts.
+    fn totals(&self) -> CountPair {
+        CountPair {
+            old: self.old.sums.total().weight,
+            new: self.new.sums.total().weight,
+        }
     }
 }
 
@@ -147,12 +188,14 @@ fn paired_lines(alloc: Global, old: &Profile, new: &Profile) -> Result<PairedCou
 }
 
 // Returns the folded lines of two profiles as text.
-fn paired_text(alloc: Global, old: &Profile, new: &Profile) -> io::Result<Vec<u8>> {
-    let pairs = paired_lines(alloc, old, new)?;
+fn paired_text(alloc: Global, compared: Comparison<'_>) -> io::Result<Vec<u8>> {
+    let pairs = paired_lines(alloc, compared.old, compared.new)?;
+    let totals = compared.totals();
     let mut text = Vec::new(alloc);
     for (line, counts) in pairs.pairs.iter() {
         text.extend_from_slice(line.as_slice())?;
-        writeln!(text, " {} {}", counts.old, counts.new)?;
+        let old = compared.counts.written(counts.old, totals);
+        writeln!(text, " {old} {}", counts.new)?;
     }
     Ok(text)
 }
@@ -163,13 +206,12 @@ fn paired_text(alloc: Global, old: &Profile, new: &Profile) -> io::Result<Vec<u8
 /// Fails if memory runs out or if the output can't be written.
 pub fn write_paired_lines<W: Write>(
     alloc: Global,
-    old: &Profile,
-    new: &Profile,
+    compared: Comparison<'_>,
     out: &mut W,
 ) -> io::Result<()>
     ensures { OnOk result ((text : List ℕ) × Appends (W.contents out.old) (W.contents out.new) text) }
 {
-    out.write_all(paired_text(alloc, old, new)?.as_slice())
+    out.write_all(paired_text(alloc, compared)?.as_slice())
 }
 
 // Returns which row is first: that of the greater difference of shares.
@@ -234,13 +276,14 @@ fn set_row(
     alloc: Global,
     line: &mut Vec<u8>,
     row: &DifferenceRow<'_>,
+    written: OldCounts,
     width: usize,
 ) -> io::Result<()> {
     let DifferenceRow { counts, totals, .. } = *row;
     let (old, new) = counts.hundredths(totals);
     let mut points = Vec::new(alloc);
     push_points(&mut points, old, new)?;
-    let (sign, size) = signed_difference(counts.old, counts.new);
+    let (sign, size) = signed_difference(written.written(counts.old, totals), counts.new);
     let mut samples = Vec::new(alloc);
     write!(samples, "{sign}{size}")?;
     line.clear();
@@ -269,6 +312,7 @@ fn paired_functions(
 fn table_text(
     alloc: Global,
     shown: &[DifferenceRow<'_>],
+    written: OldCounts,
     options: TableOptions<'_>,
 ) -> io::Result<Vec<u8>> {
     let widths = shown.iter().map(|row| character_count(row.name));
@@ -281,7 +325,7 @@ fn table_text(
     line.extend_from_slice(b"file")?;
     write_line(line.as_slice(), options.width, &mut text)?;
     for row in shown.iter() {
-        set_row(alloc, &mut line, row, width)?;
+        set_row(alloc, &mut line, row, written, width)?;
         write_line(line.as_slice(), options.width, &mut text)?;
     }
     Ok(text)
@@ -294,19 +338,15 @@ fn table_text(
 /// Fails if memory runs out or if the output can't be written.
 pub fn write_differences<W: Write>(
     alloc: Global,
-    old: &Profile,
-    new: &Profile,
+    compared: Comparison<'_>,
     options: TableOptions<'_>,
     out: &mut W,
 ) -> io::Result<()>
     ensures { OnOk result ((text : List ℕ) × Appends (W.contents out.old) (W.contents out.new) text) }
 {
-    let pairs = paired_functions(alloc, old, new)?;
-    let totals = CountPair {
-        old: old.sums.total().weight,
-        new: new.sums.total().weight,
-    };
-    let sorted = sorted_rows(alloc, &pairs, totals)?;
+    let pairs = paired_functions(alloc, compared.old, compared.new)?;
+    let sorted = sorted_rows(alloc, &pairs, compared.totals())?;
     let count = options.rows.unwrap_or(sorted.len()).min(sorted.len());
-    out.write_all(table_text(alloc, &sorted[..count], options)?.as_slice())
+    let text = table_text(alloc, &sorted[..count], compared.counts, options)?;
+    out.write_all(text.as_slice())
 }

@@ -26,6 +26,7 @@ ghost use Rattle.pprof.specs.Builders.{tables_of};
 ghost use Rattle.pprof.specs.Messages.{profile_value};
 ghost use Rattle.pprof.specs.Tables.{no_rows};
 
+use crate::differences::OldCounts;
 use crate::entries::{find_entry, find_name, find_stack};
 use crate::flame::xml_text::XmlText;
 use crate::sample_times::{SamplePlace, sample_times};
@@ -43,7 +44,7 @@ use pprof::builder::{
     Builder, FunctionNames, LocationRow, MappedFile, SampleThread, Summary, WeightedSamples,
 };
 use pprof::encode::encode;
-use pprof::html::{PageTexts, profile_page};
+use pprof::html::{OldProfile, PageTexts, profile_page};
 use pprof::profile::{Label, Line, Profile as PprofProfile, ValueType};
 use std::alloc::{AllocError, Global};
 use std::cmp::Ordering;
@@ -78,6 +79,15 @@ pub struct Description<'a> {
     pub program: Option<ProgramFile<'a>>,
     /// The recorded command line, or nothing.
     pub command_line: &'a [u8],
+}
+
+/// A profile, and what its tables don't say.
+#[derive(Clone, Copy)]
+pub struct DescribedProfile<'a> {
+    /// The profile.
+    pub profile: &'a Profile,
+    /// What its tables don't say.
+    pub description: Description<'a>,
 }
 
 /// The first executable mapping of a program.
@@ -823,16 +833,17 @@ pub fn write_pprof<W: Write>(
     out.write_all(profile_bytes(alloc, profile, description)?.as_slice())
 }
 
-/// Writes a page that shows a profile.
-///
-/// Fails if memory runs out or if the output can't be written.
-pub fn write_page<W: Write>(
+// Returns a page that shows a profile, and how it differs from an old one.
+fn page_text(
     alloc: Global,
-    profile: &Profile,
-    description: Description<'_>,
+    shown: DescribedProfile<'_>,
     caption: PageCaption<'_>,
-    out: &mut W,
-) -> io::Result<()> {
+    old: OldProfile<'_>,
+) -> io::Result<String> {
+    let DescribedProfile {
+        profile,
+        description,
+    } = shown;
     let (made, places) = convert_with_places(alloc, profile, description)?;
     let bytes = encode(alloc, &made)?;
     let times = match &profile.samples {
@@ -845,5 +856,37 @@ pub fn write_page<W: Write>(
         title: title.as_str(),
         heading: heading.as_str(),
     };
-    out.write_all(profile_page(alloc, texts, bytes.as_slice(), times.as_slice())?.as_bytes())
+    let (bytes, times) = (bytes.as_slice(), times.as_slice());
+    Ok(profile_page(alloc, texts, bytes, times, old)?)
+}
+
+/// Writes a page that shows a profile.
+///
+/// Fails if memory runs out or if the output can't be written.
+pub fn write_page<W: Write>(
+    alloc: Global,
+    shown: DescribedProfile<'_>,
+    caption: PageCaption<'_>,
+    out: &mut W,
+) -> io::Result<()> {
+    out.write_all(page_text(alloc, shown, caption, OldProfile::NONE)?.as_bytes())
+}
+
+/// Writes a page that shows a new profile, and how it differs from an old one.
+///
+/// Fails if memory runs out or if the output can't be written.
+pub fn write_changed_page<W: Write>(
+    alloc: Global,
+    old: DescribedProfile<'_>,
+    counts: OldCounts,
+    new: DescribedProfile<'_>,
+    caption: PageCaption<'_>,
+    out: &mut W,
+) -> io::Result<()> {
+    let bytes = profile_bytes(alloc, old.profile, old.description)?;
+    let before = OldProfile {
+        profile: bytes.as_slice(),
+        is_scaled: counts == OldCounts::Scaled,
+    };
+    out.write_all(page_text(alloc, new, caption, before)?.as_bytes())
 }

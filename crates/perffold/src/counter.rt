@@ -69,6 +69,8 @@ pub(crate) struct CountedSamples<'a> {
 pub(crate) struct OldSamples<'a> {
     pub(crate) perf_file: &'a PerfFile,
     pub(crate) counted: &'a CountedSamples<'a>,
+    /// What the format needs beside names.
+    pub(crate) data: &'a FormatData,
 }
 
 impl<'a> CountedSamples<'a> {

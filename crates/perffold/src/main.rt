@@ -256,6 +256,7 @@ fn write_selected<'a>(
         Some(input) => Some(OldSamples {
             perf_file: &input.perf_file,
             counted: &input.counted,
+            data: &input.resolver.data,
         }),
         None => None,
     };

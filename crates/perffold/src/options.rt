@@ -11,6 +11,7 @@ use perfdata_overview::weight::WeightKind;
 use perfdata_profile::options::ThreadIds;
 use perfdata_resolver::{NameKind, ResolverOptions, SourceOptions};
 use perfdata_views::call_tree::MinShare;
+use perfdata_views::differences::OldCounts;
 use std::alloc::{AllocError, Global};
 
 // What the program does.
@@ -136,7 +137,7 @@ const OPTIONS: &[OptionText] = &[
         conflicts: &[],
         help: concat!(
             "Compare FILE with the recording OLD: the functions whose shares differ, lines with two ",
-            "counts, or a flame graph of FILE with the differences"
+            "counts, or a flame graph or a page of FILE with the differences"
         ),
     },
     OptionText {
@@ -326,6 +327,8 @@ pub(crate) struct Arguments<'a> {
     pub(crate) output: Option<&'a str>,
     /// The recording that the input is compared with, if there is one.
     pub(crate) diff: Option<&'a str>,
+    /// How the counts of that recording are written.
+    pub(crate) old_counts: OldCounts,
     /// The number of rows of the table, if an argument says it.
     pub(crate) rows: Option<usize>,
     /// The options that select samples, if they are given.
@@ -485,7 +488,7 @@ pub(crate) fn meaningless_option(
     }
     let compares = matches!(
         format,
-        OutputFormat::Lines | OutputFormat::Top | OutputFormat::Svg
+        OutputFormat::Lines | OutputFormat::Top | OutputFormat::Svg | OutputFormat::Html
     );
     if !compares && matches.get_str(DIFF).is_some() {
         return Some(DIFF);
@@ -526,6 +529,7 @@ impl<'a> Arguments<'a> {
             format: parse_format(matches),
             output: matches.get_str(OUTPUT),
             diff: matches.get_str(DIFF),
+            old_counts: OldCounts::Recorded,
             rows: matches.get_one::<usize>(ROWS),
             filters: given_filters(matches),
             is_quiet: is_quiet(matches),

@@ -3,7 +3,7 @@
 use crate::counter::{CountedSamples, OldSamples};
 use crate::json_output::write_json;
 use crate::options::{Arguments, OutputFormat};
-use crate::pprof_output::{ProfileInput, write_page, write_pprof};
+use crate::pprof_output::{ProfileInput, write_changed_page, write_page, write_pprof};
 use code_files::PathError;
 use linux_perf_data::PerfFile;
 use perfdata_cli::error::{InputError, ProgramError};
@@ -15,7 +15,7 @@ use perfdata_profile::mapping_order::MappingOrder;
 use perfdata_profile::options::Detail;
 use perfdata_resolver::{FormatData, FrameListing, ScriptListing, SourceOptions};
 use perfdata_views::call_tree::{MinShare, TreeOptions, write_call_tree};
-use perfdata_views::differences::{write_differences, write_paired_lines};
+use perfdata_views::differences::{Comparison, write_differences, write_paired_lines};
 use perfdata_views::flame::svg::{Caption, write_changes, write_svg};
 use perfdata_views::lines::write_lines;
 use perfdata_views::pprof_profile::PageCaption;
@@ -253,8 +253,16 @@ fn write_comparison<W: Write>(
     let mut heading = before.heading;
     heading.extend_from_slice(b" -> ")?;
     heading.extend_from_slice(folded.overview.heading.as_slice())?;
-    let (profile, old) = (&folded.recorded.counted.profile, &old.counted.profile);
+    let compared = Comparison {
+        old: &old.counted.profile,
+        new: &folded.recorded.counted.profile,
+        counts: folded.arguments.old_counts,
+    };
     let unit = folded.arguments.options.weight.unit();
+    let page_caption = PageCaption {
+        title: folded.overview.title.as_slice(),
+        heading: heading.as_slice(),
+    };
     let caption = Caption {
         title: heading.as_slice(),
         unit,
@@ -267,10 +275,14 @@ fn write_comparison<W: Write>(
     };
     match (folded.format, folded.recorded.data) {
         (OutputFormat::Svg, FormatData::Kinds(kinds)) => {
-            write_changes(alloc, old, profile, Some(kinds), caption, out)
+            write_changes(alloc, compared, Some(kinds), caption, out)
         }
-        (OutputFormat::Top, _) => write_differences(alloc, old, profile, options, out),
-        _ => write_paired_lines(alloc, old, profile, out),
+        (OutputFormat::Html, _) => {
+            let counts = compared.counts;
+            write_changed_page(alloc, folded.recorded, old, counts, page_caption, out)
+        }
+        (OutputFormat::Top, _) => write_differences(alloc, compared, options, out),
+        _ => write_paired_lines(alloc, compared, out),
     }
 }
 

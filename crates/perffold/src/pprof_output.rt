@@ -1,12 +1,13 @@
 //! The profile that pprof reads, and the page that shows it.
 
-use crate::counter::CountedSamples;
+use crate::counter::{CountedSamples, OldSamples};
 use linux_perf_data::PerfFile;
 use perfdata_overview::events::{counts_time, push_event_name};
 use perfdata_resolver::FormatData;
+use perfdata_views::differences::OldCounts;
 use perfdata_views::pprof_profile;
 use perfdata_views::pprof_profile::{
-    COUNT, Column, Description, PageCaption, ProgramFile, SAMPLES,
+    COUNT, Column, DescribedProfile, Description, PageCaption, ProgramFile, SAMPLES,
 };
 use std::alloc::{AllocError, Global};
 use std::io;
@@ -74,6 +75,14 @@ impl<'a> ProfileInput<'a> {
             command_line: self.command_line,
         }
     }
+
+    // Returns the profile, and what its tables don't say.
+    fn described(&self, columns: &'a [Column]) -> DescribedProfile<'a> {
+        DescribedProfile {
+            profile: &self.counted.profile,
+            description: self.description(columns),
+        }
+    }
 }
 
 /// Writes a profile that pprof reads.
@@ -95,6 +104,29 @@ pub(crate) fn write_page<W: Write>(
     out: &mut W,
 ) -> io::Result<()> {
     let columns = event_columns(alloc, recorded.perf_file)?;
-    let description = recorded.description(columns.as_slice());
-    pprof_profile::write_page(alloc, &recorded.counted.profile, description, caption, out)
+    let shown = recorded.described(columns.as_slice());
+    pprof_profile::write_page(alloc, shown, caption, out)
+}
+
+/// Writes a page that shows a profile, and how it differs from that of an old recording.
+pub(crate) fn write_changed_page<W: Write>(
+    alloc: Global,
+    recorded: ProfileInput<'_>,
+    old: OldSamples<'_>,
+    counts: OldCounts,
+    caption: PageCaption<'_>,
+    out: &mut W,
+) -> io::Result<()> {
+    let columns = event_columns(alloc, recorded.perf_file)?;
+    let new = recorded.described(columns.as_slice());
+    let before = ProfileInput {
+        perf_file: old.perf_file,
+        counted: old.counted,
+        data: old.data,
+        command_line: &[],
+        shows_weights: recorded.shows_weights,
+    };
+    let columns = event_columns(alloc, before.perf_file)?;
+    let before = before.described(columns.as_slice());
+    pprof_profile::write_changed_page(alloc, before, counts, new, caption, out)
 }

@@ -1,7 +1,7 @@
 //! What the boxes of a flame graph were in an old profile.
 
 use crate::counts::LineCounts;
-use crate::differences::push_points;
+use crate::differences::{CountPair, OldCounts, push_points};
 use crate::entry_tree::EntryTree;
 use crate::flame::boxes::FlameBox;
 use crate::share::Share;
@@ -26,7 +26,7 @@ pub(crate) struct OldLines {
 /// How the share of a box changed, in hundredths of a percent.
 #[derive(Clone, Copy)]
 pub(crate) struct ShareChange {
-    /// The weight in the old profile.
+    /// The weight in the old profile, as it is written.
     pub(crate) weight: u64,
     old: u64,
     new: u64,
@@ -34,9 +34,13 @@ pub(crate) struct ShareChange {
 
 impl ShareChange {
     /// Returns the change from an old weight to a new one, of totals.
-    pub(crate) fn of_weights(old: Share, new: Share) -> ShareChange {
+    pub(crate) fn of_weights(old: Share, new: Share, counts: OldCounts) -> ShareChange {
+        let totals = CountPair {
+            old: old.total,
+            new: new.total,
+        };
         ShareChange {
-            weight: old.part,
+            weight: counts.written(old.part, totals),
             old: old.hundredths(),
             new: new.hundredths(),
         }

@@ -3,6 +3,7 @@ ghost use Rattle.std.specs.Prelude.{ℕ, List, OnOk};
 ghost use Rattle.std.specs.Io.KnownBytes.{Appends};
 
 use crate::counts::LineCounts;
+use crate::differences::{Comparison, OldCounts};
 use crate::entry_tree::{EntryTree, entry_tree};
 use crate::flame::boxes::{DrawnBoxes, FlameBox, GRAPH_WIDTH, drawn_boxes};
 use crate::flame::changes::{OldLines, ShareChange};
@@ -106,6 +107,8 @@ struct OldProfile<'a> {
     lines: &'a OldLines,
     /// The sum of all weights.
     total: u64,
+    /// How what it counts is written.
+    counts: OldCounts,
 }
 
 // What is written in a box, and of it.
@@ -173,7 +176,7 @@ impl<'a> Picture<'a> {
             part: flame_box.span.weight(),
             total: self.total,
         };
-        Ok(Some(ShareChange::of_weights(before, now)))
+        Ok(Some(ShareChange::of_weights(before, now, old.counts)))
     }
 
     // Writes what is shown for a box under the pointer: its name, its weight, its share of all weights and
@@ -434,18 +437,19 @@ pub fn write_svg<W: Write>(
 // Returns the flame graph of a profile with the changes since another one, whose lines have counts.
 fn changed_graph(
     alloc: Global,
-    counts: &LineCounts,
-    profile: &Profile,
+    old_counts: &LineCounts,
+    compared: Comparison<'_>,
     function_kinds: Option<&FunctionKinds>,
     caption: Caption<'_>,
 ) -> io::Result<Vec<u8>> {
-    let old_lines = OldLines::of_counts(alloc, counts)?;
+    let old_lines = OldLines::of_counts(alloc, old_counts)?;
     let old = OldProfile {
         alloc,
         lines: &old_lines,
-        total: counts.total(),
+        total: old_counts.total(),
+        counts: compared.counts,
     };
-    flame_graph(alloc, profile, function_kinds, Some(old), caption)
+    flame_graph(alloc, compared.new, function_kinds, Some(old), caption)
 }
 
 /// Writes the flame graph of a new profile as an SVG file, in which the color of a box and the sign before
@@ -454,14 +458,14 @@ fn changed_graph(
 /// Fails if memory runs out or if the output can't be written.
 pub fn write_changes<W: Write>(
     alloc: Global,
-    old: &Profile,
-    new: &Profile,
+    compared: Comparison<'_>,
     function_kinds: Option<&FunctionKinds>,
     caption: Caption<'_>,
     out: &mut W,
 ) -> io::Result<()>
     ensures { OnOk result ((picture : List ℕ) × Appends (W.contents out.old) (W.contents out.new) picture) }
 {
-    let counts = lines(alloc, old)?;
-    out.write_all(changed_graph(alloc, &counts, new, function_kinds, caption)?.as_slice())
+    let old_counts = lines(alloc, compared.old)?;
+    let graph = changed_graph(alloc, &old_counts, compared, function_kinds, caption)?;
+    out.write_all(graph.as_slice())
 }
