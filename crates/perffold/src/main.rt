@@ -29,6 +29,7 @@ use perfdata_profile::options::ProfileOptions;
 use perfdata_resolver::{FrameResolver, ResolverOptions};
 use perfdata_selection::error::SelectionError;
 use perfdata_selection::options::FilterOptions;
+use perfdata_views::differences::OldCounts;
 use regex::bytes::Regex;
 use std::alloc::{AllocError, Global};
 use std::io::IsTerminal;
@@ -344,6 +345,9 @@ fn format_error(
     let is_to_terminal = arguments.output.is_none() && rt.stdout().is_terminal();
     if format == OutputFormat::Pprof && is_to_terminal {
         return Some("a profile isn't written to a terminal: name a file with -o");
+    }
+    if arguments.old_counts == OldCounts::Scaled && arguments.diff.is_none() {
+        return Some("--normalize has no meaning without --diff");
     }
     if arguments.min_share.is_none() {
         return Some("--min-percent: not a number from 0 to 100");

@@ -81,6 +81,9 @@ const MIN_PERCENT: &str = "min-percent";
 /// The option of the recording that another one is compared with.
 const DIFF: &str = "diff";
 
+// The option that scales what the old recording counts.
+const NORMALIZE: &str = "normalize";
+
 // The values of the option of the weight.
 const PERIOD: &str = "period";
 
@@ -139,6 +142,12 @@ const OPTIONS: &[OptionText] = &[
             "Compare FILE with the recording OLD: the functions whose shares differ, lines with two ",
             "counts, or a flame graph or a page of FILE with the differences"
         ),
+    },
+    OptionText {
+        name: NORMALIZE,
+        value: None,
+        conflicts: &[],
+        help: "Scale the counts of OLD, so that their sum is that of FILE",
     },
     OptionText {
         name: MIN_PERCENT,
@@ -507,6 +516,15 @@ pub(crate) fn meaningless_option(
     flags.find(|name| matches.get_flag(*name))
 }
 
+// Parses how the counts of an old recording are written.
+fn parse_old_counts(matches: &ArgMatches<'_>) -> OldCounts {
+    if matches.get_flag(NORMALIZE) {
+        OldCounts::Scaled
+    } else {
+        OldCounts::Recorded
+    }
+}
+
 // Parses the least share of what a call tree has.
 fn parse_min_share(matches: &ArgMatches<'_>) -> Option<MinShare> {
     match matches.get_str(MIN_PERCENT) {
@@ -529,7 +547,7 @@ impl<'a> Arguments<'a> {
             format: parse_format(matches),
             output: matches.get_str(OUTPUT),
             diff: matches.get_str(DIFF),
-            old_counts: OldCounts::Recorded,
+            old_counts: parse_old_counts(matches),
             rows: matches.get_one::<usize>(ROWS),
             filters: given_filters(matches),
             is_quiet: is_quiet(matches),
