@@ -3,7 +3,7 @@ use Rattle.std.proofs.Common.{◌≡◌, ◌∙◌, ◌+◌, ◌-◌, ◌<◌, �
 use Rattle.std.proofs.lemmas.Cmp.{nat_list_cmp_total, tied_itself}
 use Rattle.std.proofs.lemmas.List.{append-nil, drop_all, drop_more, get_or-map, length-map, map_more, reverse-append, take_all}
 use Rattle.std.proofs.lemmas.List.Concat.{flat_map-append}
-use Rattle.std.proofs.lemmas.List.Sums.{sum_by-cons, sum_by_more_le}
+use Rattle.std.proofs.lemmas.List.Sums.{sum_by-append, sum_by-cons}
 use Rattle.std.proofs.lemmas.Map.Lookups.{exact_bytes}
 use Rattle.std.proofs.lemmas.Option.{get_or_from_slice_get, slice_get-map, slice_get_within, unwrap_or-slice_get}
 use Rattle.std.specs.Cmp.Lexicographic.{slice_cmp}
@@ -21,7 +21,7 @@ use Rattle.perfdata_profile.specs.Sums.{entry_weight}
 use Rattle.perfdata_profile.specs.declared.names.NameId.{NameId}
 use Rattle.perfdata_profile.specs.declared.sums.SampleKey.{SampleKey}
 use Rattle.perfdata_profile.specs.declared.sums.Sums.{Sums}
-use Rattle.perfdata_views.specs.Counts.{Added, Counts, IsAscending, ListsLines, counted_lines, is_line, sum_of, sum_of_counts, weights_of}
+use Rattle.perfdata_views.specs.Counts.{Added, Counts, IsAscending, ListsLines, count_of, counted_lines, is_line, sum_of, sum_of_counts, weights_of}
 use Rattle.perfdata_views.specs.declared.counts.LineCounts.{LineCounts}
 use Rattle.perfdata_views.specs.Entries.{Entry, weight_of, weight_where}
 use Rattle.perfdata_views.specs.Lines.{AreLinesOf, line_of, names_text, next_name}
@@ -101,6 +101,15 @@ sum_is : (weights : List ℕ) (sum : ℕ) → sum_of weights ≡ Some sum → su
 sum_is [] sum is = cc
 sum_is (w ∷ ws) sum is = sym (some_same (sum_by (λ n. n) (w ∷ ws)) sum is)
 
+-- The sum of the weights of a line's entries is its count.
+sum_or_none : (weights : List ℕ) → unwrap_or (sum_of weights) 0 ≡ sum_by (λ w. w) weights
+sum_or_none [] = refl
+sum_or_none (w ∷ ws) = refl
+
+pub count_is : (entries : List Entry) (counts : LineCounts) (line : List ℕ) → Counts (map added_of entries) counts → unwrap_or (count_of counts line) 0 ≡ weight_where (is_in line) entries
+count_is entries counts line is =
+    ap (λ (o : Option ℕ). unwrap_or o 0) (is.lines line) ∙ sum_or_none (weights_of line (map added_of entries)) ∙ weights_sum line entries
+
 -- The line of an entry has a sum, and a line with a sum is that of an entry.
 abbrev matching : List ℕ → List Entry → List Added
 matching line entries = filter (λ (a : Added). is_line line a.line) (map added_of entries)
@@ -143,6 +152,9 @@ lines_are entries counts is ascend lists = record {
   sum = sym (sum_by_map (λ (line : Vec ℕ Global × ℕ). line.1) (λ (line : Vec ℕ Global × ℕ). line.1) (λ count. count) (counted_lines counts) (λ line. refl)) ∙ is.sum ∙ sum_by_map added_of weight_of weight_added entries (λ e. refl);
 }
 
+pub column_of_both : (line : List ℕ) (old new : List Entry) → weight_where (is_in line) (old ++ new) ≡ weight_where (is_in line) old + weight_where (is_in line) new
+column_of_both line old new = sum_by-append (λ (entry : Entry). cond (is_in line entry) (weight_of entry) 0) old new
+
 -- Entries by values have the weights of those by ids.
 pub valued_weights : (lists : Lists) (entries : List (SampleKey × Sums)) → sum_by weight_of (map (valued_entry lists) entries) ≡ sum_by entry_weight entries
 valued_weights lists entries = sum_by_map (valued_entry lists) entry_weight weight_of entries (λ e. refl)
@@ -165,18 +177,10 @@ module _ (lists : Lists) (keys : List (SampleKey × Sums)) (index : ℕ) (entry 
       ∙ ap (λ (e : Entry). map added_of (take index entries) ++ added_of e ∷ []) (sym same)
       ∙ sym (map_more added_of entries index (valued_entry lists entry) inside)
 
-  pub sum_within : (counts : LineCounts) → Counts (map added_of (take index entries)) counts → sum_of_counts counts + entry.1.weight ≤ sum_by entry_weight keys
-  sum_within counts is =
-      let all = valued_weights lists keys in
-      let before = sum_by_map added_of weight_of weight_added (take index entries) (λ e. refl) in
-      let more = sum_by_more_le weight_of entries index (valued_entry lists entry) inside in
-      let last : weight_of (get_or entries index (valued_entry lists entry)) ≡ entry.1.weight = ap weight_of value_at in
-      omega (arith, is.sum, before, more, all, last)
-
-pub all_lines : (lists : Lists) (keys : List (SampleKey × Sums)) (index : ℕ) (counts : LineCounts) → length keys ≤ index → Counts (map added_of (take index (map (valued_entry lists) keys))) counts → Counts (map added_of (map (valued_entry lists) keys)) counts
-all_lines lists keys index counts past is =
+pub all_entries : (lists : Lists) (keys : List (SampleKey × Sums)) (index : ℕ) → length keys ≤ index → take index (map (valued_entry lists) keys) ≡ map (valued_entry lists) keys
+all_entries lists keys index past =
     let count = length-map keys (valued_entry lists) in
-    subst (λ (es : List Entry). Counts (map added_of es) counts) (take_all index (map (valued_entry lists) keys) (omega (arith, count))) is
+    take_all index (map (valued_entry lists) keys) (omega (arith, count))
 
 pub sum_of_lines : (lists : Lists) (keys : List (SampleKey × Sums)) (counts : LineCounts) → Counts (map added_of (map (valued_entry lists) keys)) counts → sum_of_counts counts ≡ sum_by entry_weight keys
 sum_of_lines lists keys counts is = is.sum ∙ sum_by_map added_of weight_of weight_added (map (valued_entry lists) keys) (λ e. refl) ∙ valued_weights lists keys

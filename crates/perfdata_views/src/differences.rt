@@ -1,13 +1,20 @@
 //! The lines and the functions of two profiles, side by side.
 
-ghost use Rattle.std.specs.Prelude.{ℕ, List, OnOk};
+ghost use Rattle.std.specs.Prelude.{◌≡◌, ◌∷◌, ◌++◌, ℕ, List, IfOk, OnOk};
+ghost use Rattle.std.specs.Fmt.{decimal};
 ghost use Rattle.std.specs.Io.KnownBytes.{Appends};
+ghost use Rattle.std.specs.List.{flat_map};
+ghost use Rattle.perfdata_views.specs.Counts.{counted_lines};
+ghost use Rattle.perfdata_views.specs.Differences.{IsTextOfColumns, line_text, totals_of, written_count};
+ghost use Rattle.perfdata_views.specs.Entries.{entries_in};
+ghost use Rattle.perfdata_views.specs.steps.Differences.{counted_text};
 
 use crate::counts::LineCounts;
-use crate::lines::lines;
+use crate::lines::{add_lines, lines};
 use crate::share::Share;
 use crate::table::rows;
 use crate::top::{TableOptions, character_count, push_name, split_file, write_line};
+use itoa::Buffer;
 use perfdata_profile::profile::Profile;
 use std::alloc::{AllocError, Global};
 use std::cmp::Ordering;
@@ -87,7 +94,9 @@ impl CountPair {
 
 impl OldCounts {
     /// Returns what is written of a count in an old profile. `totals` are the sums of all counts.
-    pub(crate) fn written(self, count: u64, totals: CountPair) -> u64 {
+    pub(crate) fn written(self, count: u64, totals: CountPair) -> u64
+        ensures { result ≡ written_count self totals count }
+    {
         if self == OldCounts::Recorded || totals.old == 0 {
             return count;
         }
@@ -98,7 +107,9 @@ impl OldCounts {
 
 impl<'a> Comparison<'a> {
     // Returns the sums of all counts.
-    fn totals(&self) -> CountPair {
+    fn totals(&self) -> CountPair
+        ensures { result ≡ totals_of self.now.old.now self.now.new.now }
+    {
         CountPair {
             old: self.old.sums.total().weight,
             new: self.new.sums.total().weight,
@@ -125,30 +136,6 @@ impl PairedCounts {
             new: known.new.saturating_add(counts.new),
         };
         self.pairs.insert(key, counts)?;
-        Ok(())
-    }
-
-    // Adds the counts of lines of the old profile.
-    fn add_old(&mut self, counts: &LineCounts) -> Result<(), AllocError> {
-        for (line, count) in counts.iter() {
-            let counts = CountPair {
-                old: *count,
-                new: 0,
-            };
-            self.add(line.as_slice(), counts)?;
-        }
-        Ok(())
-    }
-
-    // Adds the counts of lines of the new profile.
-    fn add_new(&mut self, counts: &LineCounts) -> Result<(), AllocError> {
-        for (line, count) in counts.iter() {
-            let counts = CountPair {
-                old: 0,
-                new: *count,
-            };
-            self.add(line.as_slice(), counts)?;
-        }
         Ok(())
     }
 
@@ -179,25 +166,62 @@ impl PairedCounts {
     }
 }
 
-// Returns the lines of two profiles with their counts in both.
-fn paired_lines(alloc: Global, old: &Profile, new: &Profile) -> Result<PairedCounts, AllocError> {
-    let mut pairs = PairedCounts::new(alloc);
-    pairs.add_old(&lines(alloc, old)?)?;
-    pairs.add_new(&lines(alloc, new)?)?;
-    Ok(pairs)
+// Appends a blank and a count.
+fn push_count(text: &mut Vec<u8>, count: u64) -> Result<(), AllocError>
+    ensures { OnOk result (text.new.items ≡ text.old.items ++ 32 ∷ decimal count) }
+{
+    text.push(b' ')?;
+    let mut buffer = Buffer::new();
+    text.extend_from_slice(buffer.format(count).as_bytes())
+}
+
+// Appends a line with its counts in two profiles.
+fn push_columns(text: &mut Vec<u8>, line: &[u8], counts: CountPair) -> Result<(), AllocError>
+    ensures { OnOk result (text.new.items ≡ text.old.items ++ line_text line.now counts.old counts.new) }
+{
+    text.extend_from_slice(line)?;
+    push_count(text, counts.old)?;
+    push_count(text, counts.new)?;
+    text.extend_from_slice(b"\n")
+}
+
+// Returns the lines of two profiles with their counts in both as text. `old` and `both` have the counts in
+// the old one, and the sums of both.
+fn columns_text(
+    alloc: Global,
+    old: &LineCounts,
+    both: &LineCounts,
+    written: OldCounts,
+    totals: CountPair,
+) -> Result<Vec<u8>, AllocError>
+    ensures { IfOk result (λ text. text.items
+        ≡ flat_map (counted_text old.now (written_count written totals)) (counted_lines both.now)) }
+{
+    let mut text = Vec::new(alloc);
+    'lines: for (line, sum) in both.iter() {
+        let before = old.count(line);
+        let counts = CountPair {
+            old: written.written(before, totals),
+            new: sum.saturating_sub(before),
+        };
+        push_columns(&mut text, line.as_slice(), counts)?;
+    }
+    Ok(text)
 }
 
 // Returns the folded lines of two profiles as text.
-fn paired_text(alloc: Global, compared: Comparison<'_>) -> io::Result<Vec<u8>> {
-    let pairs = paired_lines(alloc, compared.old, compared.new)?;
-    let totals = compared.totals();
-    let mut text = Vec::new(alloc);
-    for (line, counts) in pairs.pairs.iter() {
-        text.extend_from_slice(line.as_slice())?;
-        let old = compared.counts.written(counts.old, totals);
-        writeln!(text, " {old} {}", counts.new)?;
-    }
-    Ok(text)
+fn paired_text(alloc: Global, compared: Comparison<'_>) -> Result<Vec<u8>, AllocError>
+    ensures { IfOk result (λ text. IsTextOfColumns (entries_in compared.entry.old.now)
+        (entries_in compared.entry.new.now)
+        (written_count compared.entry.counts (totals_of compared.entry.old.now compared.entry.new.now))
+        text.items) }
+{
+    let old = lines(alloc, compared.old)?;
+    let mut both = LineCounts::new(alloc);
+    add_lines(alloc, &mut both, compared.old)?;
+    add_lines(alloc, &mut both, compared.new)?;
+    let _lines = both.iter(); // for the prover
+    columns_text(alloc, &old, &both, compared.counts, compared.totals())
 }
 
 /// Writes the folded lines of two profiles, ascending by bytes, each with its count in the old one and in the
@@ -209,7 +233,11 @@ pub fn write_paired_lines<W: Write>(
     compared: Comparison<'_>,
     out: &mut W,
 ) -> io::Result<()>
-    ensures { OnOk result ((text : List ℕ) × Appends (W.contents out.old) (W.contents out.new) text) }
+    ensures { OnOk result ((text : List ℕ)
+        × IsTextOfColumns (entries_in compared.entry.old.now) (entries_in compared.entry.new.now)
+        (written_count compared.entry.counts
+        (totals_of compared.entry.old.now compared.entry.new.now)) text
+        × Appends (W.contents out.old) (W.contents out.new) text) }
 {
     out.write_all(paired_text(alloc, compared)?.as_slice())
 }

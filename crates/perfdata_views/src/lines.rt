@@ -1,12 +1,13 @@
 //! The folded lines of a profile.
 
-ghost use Rattle.std.specs.Prelude.{◌≡◌, ◌+◌, ◌^◌, ◌<◌, [], ◌∷◌, ◌++◌, List, IfOk, OnOk};
+ghost use Rattle.std.specs.Prelude.{◌≡◌, [], ◌∷◌, ◌++◌, List, map, IfOk, OnOk};
 ghost use Rattle.std.specs.Fmt.{signed_decimal};
 ghost use Rattle.perfdata_profile.specs.Profiles.{lists_of};
 ghost use Rattle.perfdata_profile.specs.Values.{sample_value, thread_key};
 ghost use Rattle.perfdata_views.specs.Counts.{Added, Counts, counted_lines, sum_of_counts};
 ghost use Rattle.perfdata_views.specs.Entries.{entries_in, total_weight};
 ghost use Rattle.perfdata_views.specs.Lines.{AreLinesOf, id_text, line_of, thread_text};
+ghost use Rattle.perfdata_views.specs.steps.Lines.{added_of};
 
 use crate::counts::{LineCountError, LineCounts};
 use crate::entries::{find_entry, find_functions, find_name};
@@ -72,15 +73,34 @@ fn push_line(
 
 // Adds a weight to the number of a line.
 fn add_line(counts: &mut LineCounts, line: &[u8], weight: u64) -> Result<(), AllocError>
-    requires { sum_of_counts counts.old + weight < 2 ^ 64 }
     ensures { OnOk result ((added : List Added) → Counts added counts.old →
         Counts (added ++ record { line = line.now; weight = weight } ∷ []) counts.new) }
 {
     match counts.add(line, weight) {
         Ok(()) => Ok(()),
-        Err(LineCountError::Memory) => Err(AllocError),
-        Err(LineCountError::Overflow) => unreachable!(),
+        Err(LineCountError::Memory | LineCountError::Overflow) => Err(AllocError),
     }
+}
+
+/// Adds the lines of a profile with their weights, in the order of its entries.
+///
+/// Fails if memory runs out, or if the sum of all weights is 2^64 or more.
+pub(crate) fn add_lines(
+    alloc: Global,
+    counts: &mut LineCounts,
+    profile: &Profile,
+) -> Result<(), AllocError>
+    ensures { OnOk result ((added : List Added) → Counts added counts.old →
+        Counts (added ++ map added_of (entries_in profile.now)) counts.new) }
+{
+    let mut line = Vec::new(alloc);
+    'entries: for index in 0..profile.sums.len() {
+        let (key, sums) = find_entry(&profile.sums, index);
+        line.clear();
+        push_line(alloc, &mut line, &profile.tables, &key)?;
+        add_line(counts, line.as_slice(), sums.weight)?;
+    }
+    Ok(())
 }
 
 /// Returns the lines of a profile with the sums of their weights, ascending by bytes. Each entry is in one
@@ -90,16 +110,10 @@ fn add_line(counts: &mut LineCounts, line: &[u8], weight: u64) -> Result<(), All
 pub fn lines(alloc: Global, profile: &Profile) -> Result<LineCounts, AllocError>
     ensures lines { IfOk result (λ counts. AreLinesOf (entries_in profile.now) (counted_lines counts)) }
     ensures total { IfOk result (λ counts. sum_of_counts counts ≡ total_weight profile.now) }
+    ensures counts { IfOk result (λ counts. Counts (map added_of (entries_in profile.now)) counts) }
 {
-    let _total = profile.sums.total().weight; // for the prover
     let mut counts = LineCounts::new(alloc);
-    let mut line = Vec::new(alloc);
-    'entries: for index in 0..profile.sums.len() {
-        let (key, sums) = find_entry(&profile.sums, index);
-        line.clear();
-        push_line(alloc, &mut line, &profile.tables, &key)?;
-        add_line(&mut counts, line.as_slice(), sums.weight)?;
-    }
+    add_lines(alloc, &mut counts, profile)?;
     let _lines = counts.iter(); // for the prover
     Ok(counts)
 }
