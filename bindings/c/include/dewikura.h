@@ -1091,7 +1091,7 @@ DEWIKURA_NONNULL DEWIKURA_NODISCARD dewikura_status dewikura_demangle(const char
 //
 // DEWIKURA_MORE means that the header isn't complete, or of a pipe the metadata records that open it, whose end the
 // next record header shows. At the end of the input it means that the opening is truncated, or that a pipe has no
-// records: dewikura_read_pipe_attrs tells which. The errors are DEWIKURA_BAD_MAGIC, DEWIKURA_BAD_DATA_SECTION,
+// records: dewikura_read_pipe_attrs says so. The errors are DEWIKURA_BAD_MAGIC, DEWIKURA_BAD_DATA_SECTION,
 // DEWIKURA_INVALID_HEADER_SIZE and DEWIKURA_BAD_RECORD_SIZE. After DEWIKURA_MORE and after an error *opening is
 // unchanged.
 //
