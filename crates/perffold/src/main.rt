@@ -1,22 +1,14 @@
 //! Writes the stacks of a recording's samples as folded lines, a flame graph, a profile, a page or a table.
 #![tactic(auto)]
 
-mod counter;
-mod json_output;
-mod messages;
 mod options;
 mod output;
-mod pprof_output;
 
 use clap::{ArgMatches, Command};
 use code_files::PathError;
-use counter::{CountedSamples, OldSamples, SampleCounter};
 use linux_perf_data::PerfFile;
-use messages::print_messages;
-use options::{
-    Arguments, FOCUS, IGNORE, Options, OutputFormat, command_with_options, meaningless_option,
-};
-use output::{FoldError, no_output_reason, profile_bytes};
+use options::{Arguments, FOCUS, IGNORE, command_with_options, meaningless_option};
+use output::{FoldError, output_error, output_format, output_options};
 use perfdata_cli::arguments::{parse_filter, recording_filter};
 use perfdata_cli::command_line::{FAILURE, Program, SUCCESS, USAGE_ERROR, run_program};
 use perfdata_cli::error::{InputError, ProgramError, print_content_end, print_error};
@@ -25,8 +17,11 @@ use perfdata_cli::progress::Progress;
 use perfdata_cli::recording::{Recording, RecordingRecords};
 use perfdata_cli::text_output::TextOutput;
 use perfdata_focus::FocusPatterns;
-use perfdata_profile::options::ProfileOptions;
-use perfdata_resolver::{FormatData, FrameResolver, ResolverOptions};
+use perfdata_fold::counter::{CountedSamples, OldSamples, SampleCounter};
+use perfdata_fold::format::OutputFormat;
+use perfdata_fold::messages::print_messages;
+use perfdata_fold::output::{no_output_reason, profile_bytes};
+use perfdata_resolver::{FormatData, FrameResolver};
 use perfdata_selection::error::SelectionError;
 use perfdata_selection::options::FilterOptions;
 use perfdata_views::differences::OldCounts;
@@ -56,14 +51,6 @@ struct ReadInput<'a> {
     read: Result<Result<(), InputError>, FoldError<'a>>,
 }
 
-// Returns the error of writing the output.
-fn output_error<'a>(arguments: &Arguments<'a>, error: io::Error) -> FoldError<'a> {
-    match arguments.output {
-        Some(path) => FoldError::File(PathError { path, error }),
-        None => FoldError::Program(ProgramError::Output(error)),
-    }
-}
-
 // Counts all samples. A text of samples is written as it comes. Returns the number of records, or why they
 // ended.
 fn add_all(
@@ -83,7 +70,7 @@ fn add_all(
             output.add(text)?;
         }
     }
-    Ok(Ok(counter.records))
+    Ok(Ok(counter.records()))
 }
 
 // Writes what was counted, unless there is a reason not to: also the samples before an error.
@@ -102,7 +89,8 @@ fn write_read<'a>(
         read,
     } = input;
     let read = read?;
-    let reason = no_output_reason(rt.alloc(), &perf_file, &counted, arguments, format);
+    let options = output_options(rt, arguments, format);
+    let reason = no_output_reason(rt.alloc(), options, &perf_file, &counted);
     let reason = reason.map_err(|_| InputError::OutOfMemory)?;
     if counted.notes.lacks_cpu {
         output.remove();
@@ -121,7 +109,7 @@ fn write_read<'a>(
         Some(text) => output.finish(text.as_slice()),
         None => {
             let data = &resolver.data;
-            let bytes = profile_bytes(rt, arguments, format, &perf_file, &counted, data, old);
+            let bytes = profile_bytes(rt.alloc(), options, &perf_file, &counted, data, old);
             output.finish(bytes.map_err(|_| InputError::OutOfMemory)?.as_slice())
         }
     };
@@ -142,13 +130,8 @@ fn read_input<'a>(
     path: &str,
     output: &mut TextOutput<'a>,
 ) -> Result<ReadInput<'a>, FoldError<'a>> {
-    let data = format.data(rt.alloc());
-    let names = arguments.options.names;
-    let names = ResolverOptions {
-        source: format.source(names.source),
-        ..names
-    };
-    let resolver = FrameResolver::open(rt, &names, data)?;
+    let names = arguments.resolver_options(format);
+    let resolver = FrameResolver::open(rt, &names, format.data(rt.alloc()))?;
     let input = OpenInput::open_recording(rt, path)?;
     let mut progress = Progress::start(rt, input.size).unless_quiet(arguments.is_quiet);
     let Recording { reader, kind } = Recording::open(rt.alloc(), input)?;
@@ -158,21 +141,11 @@ fn read_input<'a>(
     let mut perf_file = reader.perf_file;
     let mut records = RecordingRecords::new(rt.alloc(), kind, &perf_file, reader.record_iter);
     let filter = recording_filter(filter, &perf_file)?;
-    let options = Options {
-        events: format.events(arguments.options.events),
-        weight: format.weight(arguments.options.weight),
-        ..arguments.options
-    };
-    let profile_options = ProfileOptions {
-        detail: format.detail(patterns.is_given()),
-        thread_ids: options.thread_ids,
-        times: format.has_times(),
-    };
     let mut counter = SampleCounter::new(
         rt.alloc(),
         &perf_file,
-        &options,
-        profile_options,
+        arguments.count_options(format),
+        arguments.profile_options(format, patterns.is_given()),
         resolver,
         filter,
         patterns,
@@ -221,7 +194,8 @@ fn read_old<'a>(
     if let Some(error) = resolver.take_kernel_list_error() {
         return Err(error.into());
     }
-    let reason = no_output_reason(rt.alloc(), &perf_file, &counted, arguments, format);
+    let options = output_options(rt, arguments, format);
+    let reason = no_output_reason(rt.alloc(), options, &perf_file, &counted);
     if let Some(reason) = reason.map_err(|_| InputError::OutOfMemory)? {
         return Err(FoldError::NoOutput(reason));
     }
@@ -393,7 +367,7 @@ impl Program for Perffold {
     // Folds the input that the arguments name. Returns the exit status.
     fn run(rt: &HostRuntime, matches: &ArgMatches<'_>) -> u8 {
         let arguments = Arguments::new(matches);
-        let format = OutputFormat::from_arguments(rt, &arguments);
+        let format = output_format(rt, &arguments);
         if let Some(error) = format_error(rt, &arguments, format) {
             return print_usage_error(rt, error);
         }

@@ -5,10 +5,12 @@ use code_files::FileOptions;
 use demangle::Style;
 use perfdata_cli::arguments::{FILTERS, OptionText, input_argument, is_quiet};
 use perfdata_cli::command_line::{RECORDING_HELP, command};
+use perfdata_fold::counter::CountOptions;
+use perfdata_fold::format::OutputFormat;
 use perfdata_names::KernelList;
 use perfdata_overview::events::EventSelection;
 use perfdata_overview::weight::WeightKind;
-use perfdata_profile::options::ThreadIds;
+use perfdata_profile::options::{ProfileOptions, ThreadIds};
 use perfdata_resolver::{NameKind, ResolverOptions, SourceOptions};
 use perfdata_views::call_tree::MinShare;
 use perfdata_views::differences::OldCounts;
@@ -290,29 +292,6 @@ const OPTIONS: &[OptionText] = &[
     },
 ];
 
-/// What is written.
-#[derive(Clone, Copy, PartialEq, Eq)]
-pub(crate) enum OutputFormat {
-    /// Folded lines.
-    Lines,
-    /// A flame graph.
-    Svg,
-    /// A profile that pprof reads.
-    Pprof,
-    /// A page that shows such a profile.
-    Html,
-    /// The table of the functions with the most samples.
-    Top,
-    /// The call tree.
-    Tree,
-    /// The frames of each sample.
-    Frames,
-    /// The text of `perf script`.
-    Script,
-    /// The tables of a profile, as JSON.
-    Json,
-}
-
 /// What the arguments select.
 #[derive(Clone, Copy)]
 pub(crate) struct Options<'a> {
@@ -552,6 +531,36 @@ impl<'a> Arguments<'a> {
             filters: given_filters(matches),
             is_quiet: is_quiet(matches),
             min_share: parse_min_share(matches),
+        }
+    }
+
+    /// Returns which samples are counted for a format.
+    pub(crate) fn count_options(&self, format: OutputFormat) -> CountOptions<'a> {
+        CountOptions {
+            events: format.events(self.options.events),
+            weight: format.weight(self.options.weight),
+        }
+    }
+
+    /// Returns what the profile has for a format.
+    pub(crate) fn profile_options(
+        &self,
+        format: OutputFormat,
+        selects_stacks: bool,
+    ) -> ProfileOptions {
+        ProfileOptions {
+            detail: format.detail(selects_stacks),
+            thread_ids: self.options.thread_ids,
+            times: format.has_times(),
+        }
+    }
+
+    /// Returns how frames are named for a format.
+    pub(crate) fn resolver_options(&self, format: OutputFormat) -> ResolverOptions<'a> {
+        let names = self.options.names;
+        ResolverOptions {
+            source: format.source(names.source),
+            ..names
         }
     }
 

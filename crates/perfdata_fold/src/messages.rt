@@ -25,7 +25,7 @@ fn print_other_events(
 }
 
 /// Writes on standard error which samples aren't counted, which names are missing, and why.
-pub(crate) fn print_messages(
+pub fn print_messages(
     rt: &HostRuntime,
     name: &str,
     perf_file: &PerfFile,

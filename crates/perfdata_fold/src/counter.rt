@@ -1,6 +1,5 @@
 //! Counts the samples of a recording.
 
-use crate::options::Options;
 use linux_perf_data::event::{RawEventRecord, RecordType};
 use linux_perf_data::{Error, PerfFile, PerfFileRecord, UserRecordType};
 use perfdata_cli::arguments::missing_cpu_error;
@@ -30,9 +29,18 @@ use perfdata_selection::filter::SampleFilter;
 use std::alloc::{AllocError, Global};
 use std::io;
 
+/// Which samples are counted, and what each counts.
+#[derive(Clone, Copy)]
+pub struct CountOptions<'a> {
+    /// The selected events.
+    pub events: EventSelection<'a>,
+    /// What a sample counts.
+    pub weight: WeightKind,
+}
+
 /// Counts the samples of a recording.
 #[derive(Drop)]
-pub(crate) struct SampleCounter<'a> {
+pub struct SampleCounter<'a> {
     alloc: Global,
     builder: ProfileBuilder<FrameResolver<'a>>,
     formats: EventFormats,
@@ -44,8 +52,7 @@ pub(crate) struct SampleCounter<'a> {
     is_streamed: bool,
     /// Whether the metadata of the recording was read for its symbols.
     has_metadata: bool,
-    /// The number of records.
-    pub(crate) records: u64,
+    records: u64,
     /// The greatest offset of a record.
     read: u64,
     notes: RecordNotes,
@@ -55,27 +62,27 @@ pub(crate) struct SampleCounter<'a> {
 
 /// What was counted.
 #[derive(Drop)]
-pub(crate) struct CountedSamples<'a> {
-    pub(crate) profile: Profile,
+pub struct CountedSamples<'a> {
+    pub profile: Profile,
     /// Which events were counted.
-    pub(crate) events: EventTable<'a>,
-    pub(crate) notes: RecordNotes,
+    pub events: EventTable<'a>,
+    pub notes: RecordNotes,
     /// The file of the program that was executed.
-    pub(crate) main_file: Option<MainFile>,
+    pub main_file: Option<MainFile>,
 }
 
 /// What was read of a recording that another one is compared with.
 #[derive(Clone, Copy)]
-pub(crate) struct OldSamples<'a> {
-    pub(crate) perf_file: &'a PerfFile,
-    pub(crate) counted: &'a CountedSamples<'a>,
+pub struct OldSamples<'a> {
+    pub perf_file: &'a PerfFile,
+    pub counted: &'a CountedSamples<'a>,
     /// What the format needs beside names.
-    pub(crate) data: &'a FormatData,
+    pub data: &'a FormatData,
 }
 
 impl<'a> CountedSamples<'a> {
     /// Returns what was counted, beside the profile.
-    pub(crate) fn counted_events(&'a self, perf_file: &'a PerfFile) -> CountedEvents<'a> {
+    pub fn counted_events(&'a self, perf_file: &'a PerfFile) -> CountedEvents<'a> {
         CountedEvents {
             perf_file,
             events: &self.events,
@@ -95,11 +102,11 @@ fn count_error(error: ProfileError) -> Error {
 
 impl<'a> SampleCounter<'a> {
     /// Creates a counter of no samples. A text of samples is written before the end if it is known by then
-    /// which events are selected, and that each part of `--event` names one.
-    pub(crate) fn new(
+    /// which events are selected, and that each part of the selection names one.
+    pub fn new(
         alloc: Global,
         perf_file: &PerfFile,
-        options: &Options<'a>,
+        options: CountOptions<'a>,
         profile_options: ProfileOptions,
         resolver: FrameResolver<'a>,
         filter: SampleFilter<'a>,
@@ -271,7 +278,7 @@ impl<'a> SampleCounter<'a> {
     }
 
     /// Adds the next record. Returns whether there is one.
-    pub(crate) fn add_next(
+    pub fn add_next(
         &mut self,
         records: &mut RecordingRecords,
         perf_file: &mut PerfFile,
@@ -296,9 +303,14 @@ impl<'a> SampleCounter<'a> {
         }
     }
 
+    /// Returns the number of records that were added.
+    pub fn records(&self) -> u64 {
+        self.records
+    }
+
     /// Returns the text of the samples so far, if it is written before the end: the events are known that are
     /// selected.
-    pub(crate) fn text(&mut self) -> Option<&mut Vec<u8>> {
+    pub fn text(&mut self) -> Option<&mut Vec<u8>> {
         if self.is_streamed {
             self.builder.resolver.data.text()
         } else {
@@ -308,7 +320,7 @@ impl<'a> SampleCounter<'a> {
 
     /// Returns what was counted, of the profile the selected events and the stacks that options leave, and
     /// what named the frames.
-    pub(crate) fn finish(
+    pub fn finish(
         self,
         perf_file: &PerfFile,
     ) -> Result<(CountedSamples<'a>, FrameResolver<'a>), ProfileError> {
