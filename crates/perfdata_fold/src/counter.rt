@@ -52,7 +52,8 @@ pub struct SampleCounter<'a> {
     is_streamed: bool,
     /// Whether the metadata of the recording was read for its symbols.
     has_metadata: bool,
-    records: u64,
+    /// The number of records that were added.
+    pub records: u64,
     /// The greatest offset of a record.
     read: u64,
     notes: RecordNotes,
@@ -301,11 +302,6 @@ impl<'a> SampleCounter<'a> {
             Ok(None) => Ok(false),
             Err(cause) => Err(InputError::with_position(self.position(None), cause)),
         }
-    }
-
-    /// Returns the number of records that were added.
-    pub fn records(&self) -> u64 {
-        self.records
     }
 
     /// Returns the text of the samples so far, if it is written before the end: the events are known that are

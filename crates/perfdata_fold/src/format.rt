@@ -1,4 +1,6 @@
 //! The formats of a profile, and what each needs.
+ghost use Rattle.std.specs.Prelude.{◌≡◌, ◌≢◌, ◌↔◌, ◌⊎◌, IsTrue, true, false};
+ghost use Rattle.perfdata_fold.specs.Formats.{HasTables, HasNamesAlone};
 
 use perfdata_overview::events::EventSelection;
 use perfdata_overview::weight::WeightKind;
@@ -32,8 +34,15 @@ pub enum OutputFormat {
 }
 
 impl OutputFormat {
+    ghost use Rattle.perfdata_fold.specs.declared.format.OutputFormat.TheVariants as formats;
+    ghost use Rattle.perfdata_overview.specs.declared.weight.WeightKind.TheVariants as weights;
+    ghost use Rattle.perfdata_overview.specs.declared.events.EventSelection.TheVariants as selections;
+    ghost use Rattle.perfdata_profile.specs.declared.options.Detail.TheVariants as details;
+
     // Returns whether the format has the tables of a profile: both the number of samples and their weights.
-    fn is_profile(self) -> bool {
+    fn is_profile(self) -> bool
+        ensures { IsTrue result ↔ HasTables self }
+    {
         matches!(
             self,
             OutputFormat::Pprof | OutputFormat::Html | OutputFormat::Json
@@ -41,7 +50,10 @@ impl OutputFormat {
     }
 
     /// Returns what a sample counts.
-    pub fn weight(self, weight: WeightKind) -> WeightKind {
+    pub fn weight(self, weight: WeightKind) -> WeightKind
+        ensures tables { HasTables self → result ≡ weights.Period }
+        ensures others { ¬ HasTables self → result ≡ weight }
+    {
         if self.is_profile() {
             WeightKind::Period
         } else {
@@ -50,7 +62,11 @@ impl OutputFormat {
     }
 
     /// Returns which events are selected. The text of `perf script` has the samples of all by default.
-    pub fn events<'a>(self, events: EventSelection<'a>) -> EventSelection<'a> {
+    pub fn events<'a>(self, events: EventSelection<'a>) -> EventSelection<'a>
+        ensures script { self ≡ formats.Script → events.entry ≡ selections.First → result ≡ selections.All }
+        ensures selected { events.entry ≢ selections.First → result ≡ events.entry }
+        ensures others { self ≢ formats.Script → result ≡ events.entry }
+    {
         match (self, events) {
             (OutputFormat::Script, EventSelection::First) => EventSelection::All,
             _ => events,
@@ -58,7 +74,11 @@ impl OutputFormat {
     }
 
     /// Returns what the locations of the profile have. Stacks are selected by the files of their frames too.
-    pub fn detail(self, selects_stacks: bool) -> Detail {
+    pub fn detail(self, selects_stacks: bool) -> Detail
+        ensures tables { HasTables self → result ≡ details.Locations }
+        ensures selects { selects_stacks ≡ true → result ≡ details.Locations }
+        ensures others { ¬ HasTables self → selects_stacks ≡ false → result ≡ details.Functions }
+    {
         if self.is_profile() || selects_stacks {
             Detail::Locations
         } else {
@@ -67,13 +87,20 @@ impl OutputFormat {
     }
 
     /// Returns whether the profile has the list of its samples.
-    pub fn has_times(self) -> bool {
+    pub fn has_times(self) -> bool
+        ensures { IsTrue result ↔ ((self ≡ formats.Json) ⊎ (self ≡ formats.Html)) }
+    {
         matches!(self, OutputFormat::Json | OutputFormat::Html)
     }
 
     /// Returns what is looked up in debugging information. Formats that don't write source lines into names
     /// have them beside these, unless inlined functions aren't wanted.
-    pub fn source(self, source: SourceOptions) -> SourceOptions {
+    pub fn source(self, source: SourceOptions) -> SourceOptions
+        ensures inlined { self ≢ formats.Script → result.has_inlined ≡ source.has_inlined }
+        ensures names { HasNamesAlone self → result ≡ source }
+        ensures tables { HasTables self → result.has_lines ≡ source.has_inlined }
+        ensures script { self ≡ formats.Script → (result.has_inlined ≡ false) × (result.has_lines ≡ false) }
+    {
         match self {
             OutputFormat::Lines | OutputFormat::Top => source,
             OutputFormat::Svg

@@ -70,7 +70,7 @@ fn add_all(
             output.add(text)?;
         }
     }
-    Ok(Ok(counter.records()))
+    Ok(Ok(counter.records))
 }
 
 // Writes what was counted, unless there is a reason not to: also the samples before an error.

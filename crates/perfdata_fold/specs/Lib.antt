@@ -1,0 +1,2 @@
+-- The specifications that contracts use.
+pub mod Formats
