@@ -32,6 +32,7 @@ use Rattle.linux_perf_data.specs.steps.RecordViews.{IdentifiesRecord}
 use Rattle.linux_perf_data.specs.Iter.{iter_source_state, section_size_of, SameInput, HasRemainingRecords, ReturnsRecord, ReachesEnd, ReturnsEnd, IsMismatchedPerfFile, IsErrorCause, StopsAtError, ReturnsError, NeedsLargerBuffer, BuffersMetadata, ConsumesMetadata}
 use Rattle.linux_perf_data.specs.steps.Iter.{TestsMayStart}
 use Rattle.linux_perf_data.specs.steps.IterSteps.{RawRecordExceedsBuffer, RawRecordRead, RawRecordTruncated, RawRecordError, SameButLookup, RecordProcessed, RecordRejected}
+use Rattle.linux_perf_data.specs.steps.ItemSteps.{IsStopped}
 use Rattle.linux_perf_data.specs.steps.Reading.{ReadSoFar}
 use Rattle.linux_perf_data.proofs.AddedAttributes.{adds_none, added_one}
 use Rattle.linux_perf_data.proofs.RecordHeaders.{record_least, total_size_plain}
@@ -51,7 +52,7 @@ lift None b first_part P Q is more h = _
 lift (Some x) None first_part P Q is more h = absurd cc
 lift (Some x) (Some y) first_part P Q is more h = more x y refl refl h
 
-lift_on : (a b : Option (List ℕ)) (first_part : List ℕ) (P Q : List ℕ → Type 0) → a ≡ prepend first_part b → ((rest : List ℕ) → Q rest → P (first_part ++ rest)) → IfSome b Q → IfSome a P
+pub lift_on : (a b : Option (List ℕ)) (first_part : List ℕ) (P Q : List ℕ → Type 0) → a ≡ prepend first_part b → ((rest : List ℕ) → Q rest → P (first_part ++ rest)) → IfSome b Q → IfSome a P
 lift_on a b first_part P Q is more h = lift a b first_part P Q is (λ x y e f q. let same : x ≡ first_part ++ y = cc (is, e, ap (prepend first_part) f) in subst P (sym same) (more y q)) h
 
 holds_in_all : (a b : Option (List ℕ)) (first_part : List ℕ) (P : List ℕ → Type 0) → a ≡ prepend first_part b → ((rest : List ℕ) → P (first_part ++ rest)) → IfSome a P
@@ -119,7 +120,7 @@ module _ {R : Type 0} (state : R → State) where
   same_more a b c x y = record { same_endian = y.same_endian ∙ x.same_endian; section_size = y.section_size ∙ x.section_size }
 
   -- an iterator of the same input with the same lookup represents the same attributes
-  still_represents : (old new : PerfRecordIter R) (attrs : List Attribute) → SameInput state old new → new.attribute_lookup ≡ old.attribute_lookup → Represents old.endian old.attribute_lookup attrs → Represents new.endian new.attribute_lookup attrs
+  pub still_represents : (old new : PerfRecordIter R) (attrs : List Attribute) → SameInput state old new → new.attribute_lookup ≡ old.attribute_lookup → Represents old.endian old.attribute_lookup attrs → Represents new.endian new.attribute_lookup attrs
   still_represents old new attrs same known k = subst (λ o. Represents o new.attribute_lookup attrs) (sym same.same_endian) (subst (λ n. Represents old.endian n attrs) (sym known) k)
 
   -- the attributes that a raw record adds
@@ -139,7 +140,7 @@ module _ {R : Type 0} (state : R → State) where
       subst (λ k. RemainingIn old (p ++ rest) attrs (if k == 68 then rs else record_view_in old.endian old.offset old.round attrs p ∷ rs) e) t.record_type
       (remaining_more old.endian (p ++ rest) rest p b old.offset old.round new.round attrs rs e is refl more turn c3)
 
-  marker_next : (old new : PerfRecordIter R) (header : PerfEventHeader) (t : RawRecordRead state old header new) → header.type_ ≡ 68 → MayStartAt (section_size_of state old) old.offset → (rest : List ℕ) (attrs : List Attribute) (rs : List RecordView) (e : LayoutEnd)
+  pub marker_next : (old new : PerfRecordIter R) (header : PerfEventHeader) (t : RawRecordRead state old header new) → header.type_ ≡ 68 → MayStartAt (section_size_of state old) old.offset → (rest : List ℕ) (attrs : List Attribute) (rs : List RecordView) (e : LayoutEnd)
       → RemainingIn new rest attrs rs e → RemainingIn old (t.raw_record ++ rest) attrs rs e
   marker_next old new header t is more rest attrs rs e come =
       let kind = t.record_type ∙ is in
@@ -300,13 +301,13 @@ module _ {R : Type 0} (state : R → State) where
         offset_fits = (let f = t.offset_fits in let a = after.offset in omega (arith, f, a));
       }
 
-  source_error_later : (order : Endianness) (bound : SectionSize) (a b c : State) (first_part consumed_bytes : List ℕ) (e : Error) → Consumed a first_part b → SourceErrorInRecord order bound b consumed_bytes e c → SourceErrorInRecord order bound a consumed_bytes e c
+  pub source_error_later : (order : Endianness) (bound : SectionSize) (a b c : State) (first_part consumed_bytes : List ℕ) (e : Error) → Consumed a first_part b → SourceErrorInRecord order bound b consumed_bytes e c → SourceErrorInRecord order bound a consumed_bytes e c
   source_error_later order bound a b c first_part consumed_bytes e before (inl (short, inl (is, failed))) = inl (short, inl (is, failed_later a b c first_part before failed))
   source_error_later order bound a b c first_part consumed_bytes e before (inl (short, inr (is, file, paused))) = inl (short, inr (is, file, paused_later a b c first_part before paused))
   source_error_later order bound a b c first_part consumed_bytes e before (inr (long, is, inl failed)) = inr (long, is, inl (failed_later a b c first_part before failed))
   source_error_later order bound a b c first_part consumed_bytes e before (inr (long, is, inr (within, paused))) = inr (long, is, inr (within, paused_later a b c first_part before paused))
 
-  source_error_same : (o o' : Endianness) (b b' : SectionSize) (a c : State) (consumed_bytes : List ℕ) (e : Error) → o ≡ o' → b ≡ b' → SourceErrorInRecord o b a consumed_bytes e c → SourceErrorInRecord o' b' a consumed_bytes e c
+  pub source_error_same : (o o' : Endianness) (b b' : SectionSize) (a c : State) (consumed_bytes : List ℕ) (e : Error) → o ≡ o' → b ≡ b' → SourceErrorInRecord o b a consumed_bytes e c → SourceErrorInRecord o' b' a consumed_bytes e c
   source_error_same o o' b b' a c consumed_bytes e po pb source_error = subst (λ x. SourceErrorInRecord x b' a consumed_bytes e c) po (subst (λ x. SourceErrorInRecord o x a consumed_bytes e c) pb source_error)
 
   -- the bytes of an iterator have a layout error that `e` reports, and the `PerfFile` passes the checks before it
@@ -334,13 +335,6 @@ module _ {R : Type 0} (state : R → State) where
   error_cause old now new file consumed_bytes e i more (inr source) =
       inr (inl (source_error_same now.endian old.endian (section_size_of state now) (section_size_of state old) (iter_source_state state old) (iter_source_state state new) consumed_bytes e i.same.same_endian i.same.section_size
       (source_error_later now.endian (section_size_of state now) (iter_source_state state old) (iter_source_state state now) (iter_source_state state new) i.markers consumed_bytes e i.consumption source)))
-
-  -- the same iterator except for its stage
-  pub record IsStopped (new new' : PerfRecordIter R) : Type 0 where
-    pub source : new'.source ≡ new.source
-    pub input : new'.input ≡ new.input
-    pub body : new'.body ≡ new.body
-    pub round : new'.round ≡ new.round
 
   same_view : (new new' : PerfRecordIter R) → new'.source ≡ new.source → new'.input ≡ new.input → iter_source_state state new' ≡ iter_source_state state new
   same_view new new' source input = ap (λ i. input_source_state i (state new'.source)) input ∙ ap (λ s. input_source_state new.input (state s)) source

@@ -4,6 +4,8 @@ pub mod TruncatedRecords
 pub mod RecordHeaders
 pub mod MetadataAccumulation
 pub mod IterCalls
+mod ItemCalls
+pub mod MarkerCalls
 pub mod LayoutSteps
 pub mod LayoutUniqueness
 pub mod FileAttributes

@@ -32,6 +32,7 @@ pub mod LateMetadata
 pub mod OpenedPipe
 pub mod PipeOpening
 pub mod Reading
+pub mod Items
 pub mod FileReading
 pub mod PipeReading
 pub mod InMemory

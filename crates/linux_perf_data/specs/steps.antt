@@ -11,6 +11,7 @@ pub mod Pauses
 pub mod RecordViews
 pub mod Iter
 pub mod IterSteps
+pub mod ItemSteps
 pub mod BufferedRecord
 pub mod FeatureData
 pub mod FileOpening

@@ -11,7 +11,7 @@ use crate::perf_file::PerfFile;
 use crate::pipe::opening::{PipeOpening, open_pipe};
 use crate::records::input::RecordInput;
 use crate::records::iter::Stage;
-pub use crate::records::iter::{PerfRecordIter, RecordPlace};
+pub use crate::records::iter::{PerfItem, PerfRecordIter, RecordPlace};
 use perfdata_base::source::{PlacedSource, Source};
 use perfdata_sections::error::Error;
 use std::alloc::Global;

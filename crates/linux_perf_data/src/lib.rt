@@ -44,7 +44,7 @@ mod pipe;
 mod records;
 pub mod truncation;
 
-pub use file_reader::{PerfFileReader, PerfRecordIter, RecordPlace};
+pub use file_reader::{PerfFileReader, PerfItem, PerfRecordIter, RecordPlace};
 pub use input_kind::InputKind;
 pub use perf_file::PerfFile;
 pub use perfdata_base::features::{Feature, FeatureSet, FeatureSetIter};

@@ -160,6 +160,26 @@ impl IdentifiedRecord {
     }
 }
 
+// A record without its body, or the end of the round with this number.
+#[derive(Clone, Copy)]
+pub(crate) enum IdentifiedItem {
+    Record(IdentifiedRecord),
+    RoundEnd(u64),
+}
+
+/// A record, or the end of a round.
+#[derive(Clone, Copy)]
+pub enum PerfItem<'a> {
+    /// A record with its place.
+    Record(RecordPlace, PerfFileRecord<'a>),
+    /// The end of a round: a round marker (FINISHED_ROUND).
+    RoundEnd {
+        /// The number of markers before this one, which is also the round of the records before it, up to
+        /// the previous marker.
+        round: u64,
+    },
+}
+
 /// Returns the records of a source one by one, in the order of the source, and reuses one buffer for their
 /// bodies.
 ///
@@ -219,6 +239,8 @@ impl<R: Source> PerfRecordIter<R> {
     ghost use Rattle.linux_perf_data.specs.Iter.{section_size_of, iter_source_state};
     ghost use Rattle.linux_perf_data.specs.steps.IterSteps.{RawRecordExceedsBuffer, ReadsRawRecord};
     ghost use Rattle.linux_perf_data.specs.steps.IterSteps.{ProcessesRecord};
+    ghost use Rattle.linux_perf_data.specs.steps.ItemSteps.{Steps, AdvancesItem};
+    ghost use Rattle.linux_perf_data.specs.Items.{NextItem};
     ghost use Rattle.std.specs.Io.BufRead.{Rests};
     ghost use Rattle.std.specs.Borrow.{sem};
     ghost use Rattle.linux_perf_data.specs.contracts.records.iter.PerfRecordIter.{the_row};
@@ -334,6 +356,45 @@ impl<R: Source> PerfRecordIter<R> {
         }
     }
 
+    // Reads and processes the next raw record. The body of a record is then in `self.body`.
+    #[inline(always)]
+    fn step(&mut self, perf_file: &mut PerfFile) -> Result<Option<IdentifiedItem>, Error>
+        requires empty { self.old.body.items ≡ [] }
+        ensures steps { Steps R.state self.old perf_file.old result self.new perf_file.new }
+        ensures pauses { PausesOnlyAtEndOrError (R.state self.old.source) result (R.state self.new.source) }
+        ensures same_loan { R.loan self.new.source ≡ R.loan self.old.source }
+    {
+        if !self.may_start_record() {
+            self.stage = Stage::Ended;
+            return Ok(None);
+        }
+        let offset = self.offset;
+        let round = self.round;
+        match self.next_raw_record() {
+            Ok(Some(header)) => {
+                if header.type_ == PERF_RECORD_FINISHED_ROUND {
+                    return Ok(Some(IdentifiedItem::RoundEnd(round)));
+                }
+                match self.process_record(perf_file, offset, round, header) {
+                    Ok(identified) => Ok(Some(IdentifiedItem::Record(identified))),
+                    Err(error) => {
+                        self.offset = offset;
+                        self.stage = Stage::Failed;
+                        Err(error)
+                    }
+                }
+            }
+            Ok(None) => {
+                self.stage = Stage::Ended;
+                Ok(None)
+            }
+            Err(error) => {
+                self.stage = Stage::Failed;
+                Err(error)
+            }
+        }
+    }
+
     // Reads up to the end of the next record, whose body is then in `self.body`.
     #[inline(always)]
     fn advance(&mut self, perf_file: &mut PerfFile) -> Result<Option<IdentifiedRecord>, Error>
@@ -350,34 +411,59 @@ impl<R: Source> PerfRecordIter<R> {
         self.body.clear();
         // For the prover: the offset has 64 bits.
         let _offset = self.offset;
-        'raw_records: while self.may_start_record() {
-            let offset = self.offset;
-            let round = self.round;
-            match self.next_raw_record() {
-                Ok(Some(header)) => {
-                    if header.type_ != PERF_RECORD_FINISHED_ROUND {
-                        match self.process_record(perf_file, offset, round, header) {
-                            Ok(identified) => return Ok(Some(identified)),
-                            Err(error) => {
-                                self.offset = offset;
-                                self.stage = Stage::Failed;
-                                return Err(error);
-                            }
-                        }
-                    }
-                }
-                Ok(None) => {
-                    self.stage = Stage::Ended;
-                    return Ok(None);
-                }
-                Err(error) => {
-                    self.stage = Stage::Failed;
-                    return Err(error);
-                }
+        'raw_records: loop {
+            match self.step(perf_file) {
+                Ok(Some(IdentifiedItem::Record(identified))) => return Ok(Some(identified)),
+                Ok(Some(IdentifiedItem::RoundEnd(_))) => {}
+                Ok(None) => return Ok(None),
+                Err(error) => return Err(error),
             }
         }
-        self.stage = Stage::Ended;
-        Ok(None)
+    }
+
+    // Reads up to the end of the next record or marker.
+    #[inline(always)]
+    fn advance_item(&mut self, perf_file: &mut PerfFile) -> Result<Option<IdentifiedItem>, Error>
+        ensures advances { AdvancesItem R.state self.old perf_file.old result self.new perf_file.new }
+        ensures memory_only_to_grow { MemoryOnlyToGrow R.state self.old result self.new }
+        ensures pauses { PausesOnlyAtEndOrError (R.state self.old.source) result (R.state self.new.source) }
+        ensures same_loan { R.loan self.new.source ≡ R.loan self.old.source }
+    {
+        match self.stage {
+            Stage::Running => {}
+            Stage::Failed => return Err(Error::Failed),
+            Stage::Ended => return Ok(None),
+        }
+        self.body.clear();
+        // For the prover: the offset has 64 bits.
+        let _offset = self.offset;
+        self.step(perf_file)
+    }
+
+    /// Returns the next record, or the end of a round, or `Ok(None)` at the end of the records.
+    ///
+    /// A call consumes one record or one round marker (FINISHED_ROUND), and no byte more: it returns the end
+    /// of a round before a byte after the marker is read. Without the ends of rounds, the items are the
+    /// records that [`PerfRecordIter::next_record`] returns, and calls of the two can be mixed. `perf_file`
+    /// and the errors are as there.
+    #[inline(always)]
+    pub fn next_item(&mut self, perf_file: &mut PerfFile) -> Result<Option<PerfItem<'_>>, Error>
+        ensures named_error { IfErr result IsRecordError }
+        ensures* after_borrow { sem 𝓛 (Rests (the_row R.row) self.entry
+            (λ new. NextItem R.state R.loan self.old perf_file.old result new perf_file.new)) }
+    {
+        match self.advance_item(perf_file) {
+            Ok(Some(IdentifiedItem::Record(identified))) => {
+                let endian = self.endian;
+                let parse_info = *self.attribute_lookup.parse_info(identified.attr_index());
+                let body = RawData::Single(self.body.as_slice());
+                let record = identified.into_record(parse_info, endian, body);
+                Ok(Some(PerfItem::Record(identified.place, record)))
+            }
+            Ok(Some(IdentifiedItem::RoundEnd(round))) => Ok(Some(PerfItem::RoundEnd { round })),
+            Ok(None) => Ok(None),
+            Err(error) => Err(error),
+        }
     }
 
     /// Returns the next record with its [`RecordPlace`], or `Ok(None)` at the end of the records.
