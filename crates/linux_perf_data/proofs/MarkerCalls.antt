@@ -21,7 +21,8 @@ use Rattle.linux_perf_data.specs.LateMetadata.{IsMetadataType, HasValidMetadata,
 use Rattle.linux_perf_data.specs.Layout.{SectionSize, MayStartAt, IsEnd, IsRecord, record_type_of, AreMarkerRecords, ConsistsOfMarkers, RecordView, LayoutError, RemainingRecords, ends_complete, ends_with_error, attributes_in_record}
 use Rattle.linux_perf_data.specs.RecordFraming.{IsErrorFor, ShownBy, MayNeedMemory, IsTruncatedAfterHeader, StaysWithinRecord}
 use Rattle.linux_perf_data.specs.Iter.{iter_source_state, section_size_of, HasRemainingRecords, ReturnsRecord, ReturnsEnd, ReturnsError, IsMismatchedPerfFile, IsErrorCause, NeedsMemoryFor}
-use Rattle.linux_perf_data.specs.Items.{ReturnsRoundEnd}
+use Rattle.linux_perf_data.specs.Items.{ItemView, item_record, item_round_end, records_of_items, ReturnsRoundEnd, SameNext, ReturnsItems, ItemsAreRecords}
+use Rattle.linux_perf_data.specs.Reading.{ReturnsRecords}
 use Rattle.linux_perf_data.proofs.IterCalls.{Idles, running_not_ended, running_not_failed, lift_on, still_represents, source_error_later, source_error_same}
 
 are_append : (order : Endianness) (bound : SectionSize) (offset : ℕ) (ps qs : List (List ℕ)) → AreMarkerRecords order bound offset ps → AreMarkerRecords order bound (offset + length (concat ps)) qs → AreMarkerRecords order bound offset (ps ++ qs)
@@ -231,3 +232,37 @@ module _ {R : Type 0} (state : R → State) where
         };
         same_file = r.same_file;
       }
+
+  -- the next call returns the same after markers as before them
+  pub same_next : (a b : PerfRecordIter R) → Idles state a b → SameNext state a b
+  same_next a b i = record {
+    same_record = λ file h c file' r. record_after a b c file file' h i r;
+    same_end = λ file c file' r. end_after a b c file file' i r;
+    same_error = λ file e c file' r. error_after a b c file file' e i r;
+  }
+
+  pub same_next_none : (a : PerfRecordIter R) → SameNext state a a
+  same_next_none a = record { same_record = λ file h c file' r. r; same_end = λ file c file' r. r; same_error = λ file e c file' r. r }
+
+  pub same_next_more : (a b c : PerfRecordIter R) → SameNext state a b → SameNext state b c → SameNext state a c
+  same_next_more a b c x y = record {
+    same_record = λ file h d file' r. x.same_record file h d file' (y.same_record file h d file' r);
+    same_end = λ file d file' r. x.same_end file d file' (y.same_end file d file' r);
+    same_error = λ file e d file' r. x.same_error file e d file' (y.same_error file e d file' r);
+  }
+
+  -- records that are returned after markers are returned by calls before them
+  returned_after : (a b last now : PerfRecordIter R) (file file' : PerfFile) (records : List RecordView) → SameNext state a b → ReturnsRecords state b file records last file' → SameNext state last now
+      → (from : PerfRecordIter R) × (ReturnsRecords state a file records from file' × SameNext state from now)
+  returned_after a b last now file file' [] same (none, same_file) next = (a, ((refl, same_file), same_next_more a b now same (subst (λ i. SameNext state i now) none next)))
+  returned_after a b last now file file' (h ∷ hs) same (c, (c_file, first, more)) next = (last, ((c, (c_file, same.same_record file h c c_file first, more)), next))
+
+  pub items_are_records : ItemsAreRecords state
+  items_are_records old now file file' [] (none, same_file) = (old, ((refl, same_file), subst (SameNext state old) (sym none) (same_next_none old)))
+  items_are_records old now file file' (item_record h ∷ items) (next, (next_file, first, more)) =
+      let rest = items_are_records next now next_file file' items more in
+      (rest.0, ((next, (next_file, first.returned, rest.1.0)), rest.1.1))
+  items_are_records old now file file' (item_round_end ended ∷ items) (next, (next_file, first, more)) =
+      let rest = items_are_records next now next_file file' items more in
+      returned_after old next rest.0 now file file' (records_of_items items) (same_next old next (marker_skipped old next file next_file ended first))
+      (subst (λ f. ReturnsRecords state next f (records_of_items items) rest.0 file') first.file_unchanged rest.1.0) rest.1.1

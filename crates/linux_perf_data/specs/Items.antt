@@ -78,10 +78,10 @@ module _ {R : Type 0} (state : R → State) where
 
   -- What the next call of `next_record` returns at `now`, it returns at `old` too: only markers are between.
   pub record SameNext (old now : PerfRecordIter R) : Type 0 where
-    pub record_after : (file : PerfFile) (h : RecordView) (new : PerfRecordIter R) (file' : PerfFile) → ReturnsRecord state now file h new file'
+    pub same_record : (file : PerfFile) (h : RecordView) (new : PerfRecordIter R) (file' : PerfFile) → ReturnsRecord state now file h new file'
         → ReturnsRecord state old file h new file'
-    pub end_after : (file : PerfFile) (new : PerfRecordIter R) (file' : PerfFile) → ReturnsEnd state now file new file' → ReturnsEnd state old file new file'
-    pub error_after : (file : PerfFile) (e : Error) (new : PerfRecordIter R) (file' : PerfFile) → ReturnsError state now file e new file'
+    pub same_end : (file : PerfFile) (new : PerfRecordIter R) (file' : PerfFile) → ReturnsEnd state now file new file' → ReturnsEnd state old file new file'
+    pub same_error : (file : PerfFile) (e : Error) (new : PerfRecordIter R) (file' : PerfFile) → ReturnsError state now file e new file'
         → ReturnsError state old file e new file'
 
   -- One call of `next_item` returned this item.

@@ -4,6 +4,7 @@ ghost use Rattle.linux_perf_data.specs.BuildIds.{BuildIdListIsUnique, KeysEqualB
 ghost use Rattle.linux_perf_data.specs.LateMetadata.{AccumulatesNone, AccumulatesOneMore};
 ghost use Rattle.linux_perf_data.specs.LateMetadata.{EventDescStaysValid};
 ghost use Rattle.linux_perf_data.specs.Reading.{NoCalls, OneCallMore};
+ghost use Rattle.linux_perf_data.specs.Items.{ItemsAreRecords};
 ghost use Rattle.linux_perf_data.specs.FileReading.{ReadingFilePartly, ReadingFileToEnd, ReadingFileToError};
 ghost use Rattle.linux_perf_data.specs.PipeReading.{ReadingPipePartly, ReadingPipeToEnd, ReadingPipeToError};
 ghost use Rattle.linux_perf_data.specs.PipeReading.{LongestRun, OpeningHasNoError};
@@ -140,6 +141,12 @@ pub fn keys_equal_by_texts()
 pub fn consecutive_calls<R: Source>()
     ensures none { NoCalls R.state }
     ensures more { OneCallMore R.state }
+{}
+
+/// Consecutive calls of `next_item` return the records that calls of `next_record` return, and the ends of
+/// rounds between them. The next call of `next_record` then returns what it returns without these calls.
+pub fn items_are_records<R: Source>()
+    ensures { ItemsAreRecords R.state }
 {}
 
 /// A whole reading of a file: the result of `parse_file`, then consecutive calls of `next_record`, each with

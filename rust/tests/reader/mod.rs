@@ -4,6 +4,7 @@ mod compressed;
 mod derives;
 mod events;
 mod in_memory;
+mod items;
 mod jitdump;
 mod listing;
 mod metadata;
@@ -33,6 +34,7 @@ pub fn call(call: &Call<'_>, out: &mut Output) -> Tested<bool> {
         "flush" => output::push_flush(call, out)?,
         "finish" => output::push_finish(call, out)?,
         "read-file" | "read-unfinished" | "read-pipe" => reading::push_reading(call, out)?,
+        "items-file" | "items-pipe" => items::push_items(call, out)?,
         "order-file" | "order-pipe" => orders::push_ordered(call, out)?,
         "sort" => orders::push_sorted(call, out)?,
         "decompressed-file" | "decompressed-pipe" => compressed::push_decompressed(call, out)?,

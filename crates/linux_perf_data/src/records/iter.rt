@@ -452,17 +452,16 @@ impl<R: Source> PerfRecordIter<R> {
         ensures* after_borrow { sem 𝓛 (Rests (the_row R.row) self.entry
             (λ new. NextItem R.state R.loan self.old perf_file.old result new perf_file.new)) }
     {
-        match self.advance_item(perf_file) {
-            Ok(Some(IdentifiedItem::Record(identified))) => {
+        match self.advance_item(perf_file)? {
+            Some(IdentifiedItem::Record(identified)) => {
                 let endian = self.endian;
                 let parse_info = *self.attribute_lookup.parse_info(identified.attr_index());
                 let body = RawData::Single(self.body.as_slice());
                 let record = identified.into_record(parse_info, endian, body);
                 Ok(Some(PerfItem::Record(identified.place, record)))
             }
-            Ok(Some(IdentifiedItem::RoundEnd(round))) => Ok(Some(PerfItem::RoundEnd { round })),
-            Ok(None) => Ok(None),
-            Err(error) => Err(error),
+            Some(IdentifiedItem::RoundEnd(round)) => Ok(Some(PerfItem::RoundEnd { round })),
+            None => Ok(None),
         }
     }
 
