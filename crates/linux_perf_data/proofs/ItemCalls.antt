@@ -96,8 +96,8 @@ module _ {R : Type 0} (state : R → State) where
   step_memory old now new file file' e i kept s m = elim s.cause [
     | inl reading ↦ inl (larger_buffer state old now reading.piece new i kept (reading.only_to_grow m) reading.stopped)
     | inr processing ↦
-      let buffers = buffers_metadata state old now processing.piece processing.rejecting file file' processing.header e i processing.raw_record processing.no_marker processing.rejected in
-      inr (buffers.0, (buffers.1.0, buffers.1.1, buffers.1.2, ap (λ v. v.items) processing.stopped.body ∙ buffers.1.3))
+        let buffers = buffers_metadata state old now processing.piece processing.rejecting file file' processing.header e i processing.raw_record processing.no_marker processing.rejected in
+        inr (buffers.0, (buffers.1.0, buffers.1.1, buffers.1.2, ap (λ v. v.items) processing.stopped.body ∙ buffers.1.3))
   ]
 
   -- the next raw record is a marker
@@ -155,6 +155,10 @@ module _ {R : Type 0} (state : R → State) where
       → Steps state (record old { body = body; rounds_fit = fit }) file r new file' → MemoryOnlyToGrow state old r new
   item_memory old body fit new file file' (Ok found) ran fits empty kept s = tt
   item_memory old body fit new file file' (Err e) ran fits empty kept s = λ m. step_memory old (record old { body = body; rounds_fit = fit }) new file file' e (idles_none old body fit ran fits empty) kept s m
+
+  -- the result of a step, if it is known
+  pub steps_by : (old new : PerfRecordIter R) (file file' : PerfFile) (r s : Option IdentifiedItem) → r ≡ s → Steps state old file (Ok r) new file' → Steps state old file (Ok s) new file'
+  steps_by old new file file' r s is steps = subst (λ o. Steps state old file (Ok o) new file') is steps
 
 -- a call that returns an item counts no pause
 pub item_no_pause : {A : Type 0} (a b : State) (r : Option A) (x : A) → r ≡ Some x → PausesOnlyAtEndOrError {E = Error} a (Ok r) b → b.pauses ≡ a.pauses

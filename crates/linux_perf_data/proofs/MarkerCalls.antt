@@ -78,7 +78,7 @@ module _ {R : Type 0} (state : R → State) where
   unfolding markers_append markers_from markers_on
   record_after a b c file file' h i r =
       let adds : attributes_in_record a.endian (section_size_of state a) h.record_type h.body ≡ attributes_in_record b.endian (section_size_of state b) h.record_type h.body =
-          ap (λ o. attributes_in_record o (section_size_of state a) h.record_type h.body) (sym i.same.same_endian) ∙ ap (λ s. attributes_in_record b.endian s h.record_type h.body) (sym i.same.section_size) in
+      ap (λ o. attributes_in_record o (section_size_of state a) h.record_type h.body) (sym i.same.same_endian) ∙ ap (λ s. attributes_in_record b.endian s h.record_type h.body) (sym i.same.section_size) in
       let knows = λ (attrs : List Attribute) (k : Represents a.endian a.attribute_lookup attrs). still_represents state a b attrs i.same i.known k in
       let later = r.valid_markers in
       record {

@@ -10,7 +10,6 @@ use Rattle.linux_perf_data.specs.steps.RecordInput.{AnswersTruncation}
 use Rattle.linux_perf_data.specs.steps.RecordFraming.{RecordTruncatedAt, RecordErrorAt}
 use Rattle.linux_perf_data.specs.Iter.{iter_source_state, section_size_of, SameInput}
 use Rattle.linux_perf_data.specs.steps.IterSteps.{RawRecordRead, RawRecordTruncated, ReadsRawRecord}
-use Rattle.linux_perf_data.specs.Pauses.{PausesOnlyAtEndOrError}
 use Rattle.linux_perf_data.proofs.SourceViews.{truncated_by}
 
 module _ {R : Type 0} (state : R → State) where
@@ -28,6 +27,3 @@ module _ {R : Type 0} (state : R → State) where
 
   pub no_record : (old new : PerfRecordIter R) (r : Option PerfEventHeader) → r ≡ None → ReadsRawRecord state old (Ok r) new → RawRecordTruncated state old new
   no_record old new r is next = subst (λ o. ReadsRawRecord state old (Ok o) new) is next
-
-pub no_pause : (a b : State) (r : Option PerfEventHeader) (header : PerfEventHeader) → r ≡ Some header → PausesOnlyAtEndOrError {E = Error} a (Ok r) b → b.pauses ≡ a.pauses
-no_pause a b r header is next = subst (λ o. PausesOnlyAtEndOrError {E = Error} a (Ok o) b) is next

@@ -412,11 +412,10 @@ impl<R: Source> PerfRecordIter<R> {
         // For the prover: the offset has 64 bits.
         let _offset = self.offset;
         'raw_records: loop {
-            match self.step(perf_file) {
-                Ok(Some(IdentifiedItem::Record(identified))) => return Ok(Some(identified)),
-                Ok(Some(IdentifiedItem::RoundEnd(_))) => {}
-                Ok(None) => return Ok(None),
-                Err(error) => return Err(error),
+            match self.step(perf_file)? {
+                Some(IdentifiedItem::Record(identified)) => return Ok(Some(identified)),
+                Some(IdentifiedItem::RoundEnd(_)) => {}
+                None => return Ok(None),
             }
         }
     }
