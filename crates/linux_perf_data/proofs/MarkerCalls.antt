@@ -1,6 +1,5 @@
 -- Lemmas on calls after markers: what `next_item` returns one by one is what `next_record` returns.
-use Rattle.std.proofs.Common.{◌≡◌, ℕ, ◌+◌, List, [], ◌∷◌, ◌++◌, length, drop, Option, None, Some, refl, sym, ap, ◌∙◌, subst, inl, inr, arith, append_assoc, length-append}
-use Rattle.std.specs.Prelude.{◌⊎◌}
+use Rattle.std.proofs.Common.{◌≡◌, ℕ, ◌+◌, List, [], ◌∷◌, ◌++◌, length, drop, Some, refl, sym, ap, ◌∙◌, subst, inl, inr, arith, append_assoc, length-append}
 use Rattle.std.specs.List.{concat}
 use Rattle.std.proofs.lemmas.List.{append-nil}
 use Rattle.std.proofs.lemmas.List.Folds.{concat-append}
@@ -21,7 +20,7 @@ use Rattle.linux_perf_data.specs.LateMetadata.{IsMetadataType, HasValidMetadata,
 use Rattle.linux_perf_data.specs.Layout.{SectionSize, MayStartAt, IsEnd, IsRecord, record_type_of, AreMarkerRecords, ConsistsOfMarkers, RecordView, LayoutError, RemainingRecords, ends_complete, ends_with_error, attributes_in_record}
 use Rattle.linux_perf_data.specs.RecordFraming.{IsErrorFor, ShownBy, MayNeedMemory, IsTruncatedAfterHeader, StaysWithinRecord}
 use Rattle.linux_perf_data.specs.Iter.{iter_source_state, section_size_of, HasRemainingRecords, ReturnsRecord, ReturnsEnd, ReturnsError, IsMismatchedPerfFile, IsErrorCause, NeedsMemoryFor}
-use Rattle.linux_perf_data.specs.Items.{ItemView, item_record, item_round_end, records_of_items, ReturnsRoundEnd, SameNext, ReturnsItems, ItemsAreRecords}
+use Rattle.linux_perf_data.specs.Items.{item_record, item_round_end, records_of_items, ReturnsRoundEnd, SameNext, ItemsAreRecords}
 use Rattle.linux_perf_data.specs.Reading.{ReturnsRecords}
 use Rattle.linux_perf_data.proofs.IterCalls.{Idles, running_not_ended, running_not_failed, lift_on, still_represents, source_error_later, source_error_same}
 
