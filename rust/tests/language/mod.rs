@@ -13,6 +13,22 @@
 //! 0 0 20 0 9 0 8
 //! end
 //! ```
+//!
+//! An input consists of bytes (`0a`), texts in quotes, `u8`, `u16`, `u32` and `u64` of numbers, `digits(NUMBER)`, `repeat(COUNT, ..)`,
+//! `cut(SIZE, ..)` (the first bytes), `patch(OFFSET, NEW, ..)`, `for(COUNT, ..)`, in which `n` is the number of the turn, and names that
+//! the file defines by `let`, or `builders.test` for all files. A number is a sum or difference of numbers, of `length(..)` and of
+//! `times(.., ..)`. The driver `test_rows` knows neither `for` nor `times` nor `digits`.
+//!
+//! Options:
+//!
+//! - `big-endian`, or `each-order` for both byte orders;
+//! - `each=FIRST..LAST` for each of these values of `n` in the input, where `N` ends a line of the result that ends with the number;
+//! - `each-length` for each prefix of the input, `each-split` for two slices;
+//! - `source=STEPS` for a source (`1` byte, `pause`, `fail(KIND)`, `grow(N)`, `N*STEP`, `rest`);
+//! - `each-read=STEPS` and `each-seek=fail(KIND)` for each place in turn.
+//!
+//! Numbers with the same result are one line of the result, such as `0..103: open: IoError(UnexpectedEof)`. An option that the call
+//! doesn't ask for is an error.
 
 mod call;
 mod case;
