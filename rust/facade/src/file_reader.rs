@@ -149,20 +149,17 @@ struct HeldRecord {
 ///
 /// Records are read in rounds, which end at perf's round markers (`FINISHED_ROUND`) or after 1,024 records of
 /// simpleperf. The records of a round are held until the next one ends: those that are older than all of the
-/// next round are returned in the order of their times.
+/// next round are returned in the order of their times. They are returned before a byte after the marker is
+/// read, so a pipe that perf still writes needn't go on for them.
 pub struct PerfRecordIter<R: Read> {
     records: inner::PerfRecordIter<Buffered<Input<R>>>,
     sorter: inner::Sorter<SortKey, HeldRecord>,
     bodies: Bodies,
-    // The record that was read after the end of a round, with its round.
-    next_round: Option<(u64, SortKey, HeldRecord)>,
     // The record that the caller has.
     returned: Option<Body>,
     parse_infos: Vec<RecordParseInfo>,
     endian: inner::Endianness,
     kind: Kind,
-    // The number of markers before the current round.
-    round: u64,
     // The records of the current round that are counted, and how many end it.
     count: usize,
     round_size: usize,
@@ -213,12 +210,10 @@ impl<R: Read> PerfRecordIter<R> {
             records,
             sorter: inner::Sorter::new(inner::Global),
             bodies: Bodies::new(),
-            next_round: None,
             returned: None,
             parse_infos: Vec::new(),
             endian: perf_file.inner.endian(),
             kind,
-            round: 0,
             count: 0,
             round_size: if is_simpleperf {
                 SIMPLEPERF_ROUND
@@ -332,18 +327,17 @@ impl<R: Read> PerfRecordIter<R> {
         Ok(())
     }
 
-    // Reads until records are available in the sorter. `false` at the end of the records.
+    // Reads until records are available in the sorter, and no byte after the marker that made them so. `false` at
+    // the end of the records.
     fn read_records(&mut self, perf_file: &mut PerfFile) -> Result<bool, Error> {
-        if let Some((round, key, held)) = self.next_round.take() {
-            if self.end_rounds(round)? {
-                self.next_round = Some((round, key, held));
-                return Ok(true);
-            }
-            if self.insert(key, held)? {
-                return Ok(true);
-            }
-        }
-        while let Some((place, record)) = self.records.next_record(&mut perf_file.inner)? {
+        while let Some(item) = self.records.next_item(&mut perf_file.inner)? {
+            let inner::PerfItem::Record(place, record) = item else {
+                self.end_round()?;
+                if self.sorter.has_more() {
+                    return Ok(true);
+                }
+                continue;
+            };
             let parts = RecordParts::new(record);
             let inner::RawData::Single(bytes) = parts.body else {
                 unreachable!("the library returns the body of a record in one slice");
@@ -360,28 +354,7 @@ impl<R: Read> PerfRecordIter<R> {
                 self.add_parse_infos(perf_file)?;
                 perf_file.update(held.record_type)?;
             }
-            if place.round != self.round && self.end_rounds(place.round)? {
-                self.next_round = Some((place.round, key, held));
-                return Ok(true);
-            }
             if self.insert(key, held)? {
-                return Ok(true);
-            }
-        }
-        Ok(false)
-    }
-
-    // Ends rounds until `round` is the current one or records are available. Returns whether they are.
-    fn end_rounds(&mut self, round: u64) -> Result<bool, Error> {
-        while self.round < round {
-            self.end_round()?;
-            if self.sorter.is_empty() {
-                // More ends of rounds change nothing.
-                self.round = round;
-            } else {
-                self.round += 1;
-            }
-            if self.sorter.has_more() {
                 return Ok(true);
             }
         }

@@ -9,7 +9,7 @@ mod events;
 pub(crate) use events::*;
 
 pub(crate) use dewikura::linux_perf_data::{
-    Error, PerfFile, PerfFileReader, PerfFileRecord, PerfRecordIter, ReadError,
+    Error, PerfFile, PerfFileReader, PerfFileRecord, PerfItem, PerfRecordIter, ReadError,
 };
 pub(crate) use dewikura::perfdata_base::attr::PerfEventAttr;
 pub(crate) use dewikura::perfdata_base::event::{CpuMode, RecordType, user_types};
