@@ -1,5 +1,6 @@
 // Makes the calls on chunks fail at each of their allocations in turn, and at all later ones: they return DEWIKURA_OUT_OF_MEMORY after the records before, of
-// which each is written once, and a call with memory goes on there. Only records of a pipe with metadata need memory.
+// which each is written once, and a call with memory goes on there. Only records of a pipe with metadata need memory. Does the same with
+// dewikura_dso_kind, which writes nothing.
 #include "dewikura.h"
 #include <stdio.h>
 #include <stdlib.h>
@@ -85,6 +86,23 @@ static uint64_t read_all(uint64_t *failures)
     return total;
 }
 
+static void check_dso_kind(const char *path, uint16_t misc, uint32_t wanted, int needs_memory)
+{
+    uint32_t kind = 77;
+    dewikura_status status;
+    failing_request = 0;
+    do {
+        failing_request++;
+        requests = 0;
+        is_counting = 1;
+        status = dewikura_dso_kind(path, strlen(path), misc, &kind);
+        is_counting = 0;
+        if (status == DEWIKURA_OUT_OF_MEMORY && (kind != 77 || requests < failing_request)) fail("a kind without memory", kind);
+    } while (status == DEWIKURA_OUT_OF_MEMORY);
+    if (status != DEWIKURA_OK || kind != wanted || requests >= failing_request) fail("another kind", kind);
+    if ((failing_request > 1) != needs_memory) fail("the number of allocations of a kind", failing_request);
+}
+
 int main(int argc, char **argv)
 {
     uint64_t wanted, failures = 0, before;
@@ -100,5 +118,9 @@ int main(int argc, char **argv)
         if (read_all(&failures) != wanted) fail("another number of records", failing_request);
     } while (failures > before);
     if (failing_request < 2) fail("the number of allocations", failing_request);
+    check_dso_kind("/usr/bin/true", DEWIKURA_MODE_USER, DEWIKURA_DSO_USER, 1);
+    check_dso_kind("/lib/ext4.ko", DEWIKURA_MODE_KERNEL, DEWIKURA_DSO_KERNEL_MODULE, 1);
+    check_dso_kind("[vdso]", DEWIKURA_MODE_USER, DEWIKURA_DSO_VDSO64, 0);
+    check_dso_kind("//anon", DEWIKURA_MODE_USER, DEWIKURA_DSO_NONE, 0);
     return 0;
 }

@@ -637,6 +637,7 @@ static void check_details(void)
 static void check_build_id(void)
 {
     struct dewikura_build_id entry;
+    size_t i;
     size = 0;
     put(0, 16);
     put_header(0, 2, 36 + 24); // the mode: user
@@ -652,7 +653,41 @@ static void check_build_id(void)
     CHECK(entry.next_offset, 16 + 60);
     CHECK(entry.pid, 77);
     CHECK(entry.dso_kind, DEWIKURA_DSO_USER);
+    CHECK(entry.misc, DEWIKURA_MODE_USER);
+    for (i = 0; i < sizeof entry.reserved; i++)
+        CHECK(entry.reserved[i], 0);
     CHECK(dewikura_read_build_id(input, size, 0, entry.next_offset, &entry), DEWIKURA_TRUNCATED);
+}
+
+// Paths, the misc bits of a record, and what they name.
+static void check_dso_kinds(void)
+{
+    static const struct {
+        const char *path;
+        uint16_t misc;
+        uint32_t kind;
+    } cases[] = {
+        {"//anon", DEWIKURA_MODE_USER, DEWIKURA_DSO_NONE},
+        {"/usr/bin/true", DEWIKURA_MODE_USER, DEWIKURA_DSO_USER},
+        {"/usr/bin/true", 0x2000 | DEWIKURA_MODE_GUEST_USER, DEWIKURA_DSO_USER},
+        {"/usr/bin/true", DEWIKURA_MODE_UNKNOWN, DEWIKURA_DSO_NONE},
+        {"[kernel.kallsyms]_text", DEWIKURA_MODE_KERNEL, DEWIKURA_DSO_KERNEL},
+        {"[kernel.kallsyms]", DEWIKURA_MODE_GUEST_KERNEL, DEWIKURA_DSO_GUEST_KERNEL},
+        {"[guest.kernel.kallsyms.9]", DEWIKURA_MODE_USER, DEWIKURA_DSO_GUEST_KERNEL},
+        {"/lib/modules/ext4.ko", DEWIKURA_MODE_KERNEL, DEWIKURA_DSO_KERNEL_MODULE},
+        {"/boot/vmlinuz", DEWIKURA_MODE_KERNEL, DEWIKURA_DSO_KERNEL},
+        {"[vdso]", DEWIKURA_MODE_USER, DEWIKURA_DSO_VDSO64},
+        {"[vdso32]", DEWIKURA_MODE_USER, DEWIKURA_DSO_VDSO32},
+        {"[vdsox32]", DEWIKURA_MODE_USER, DEWIKURA_DSO_VDSOX32},
+        {"[vsyscall]", DEWIKURA_MODE_USER, DEWIKURA_DSO_VSYSCALL},
+        {"", DEWIKURA_MODE_USER, DEWIKURA_DSO_USER},
+    };
+    size_t i;
+    for (i = 0; i < sizeof cases / sizeof *cases; i++) {
+        uint32_t kind = 0xabababab;
+        CHECK(dewikura_dso_kind(cases[i].path, strlen(cases[i].path), cases[i].misc, &kind), DEWIKURA_OK);
+        CHECK(kind, cases[i].kind);
+    }
 }
 
 static void check_string(void)
@@ -1278,6 +1313,7 @@ int main(void)
     check_counters();
     check_details();
     check_build_id();
+    check_dso_kinds();
     check_string();
     check_meta_info();
     check_file_section();

@@ -61,7 +61,7 @@ enum dewikura_status_code {
     DEWIKURA_OK = 0,                      // no error in what was read
     DEWIKURA_OUT_OF_MEMORY = 1,           // an allocation failed; what was written is valid, and may be incomplete
     DEWIKURA_TRUNCATED = 2,               // the input ends inside a header, a section or an entry
-    DEWIKURA_INVALID_DATA = 3,            // a metadata record of a pipe has an attribute size of 1 to 63
+    DEWIKURA_INVALID_DATA = 3,            // a metadata record has an attribute size of 1 to 63, or a body is malformed
     DEWIKURA_INVALID_HEADER_SIZE = 4,     // the header size can't be skipped (past 2^63)
     DEWIKURA_COMPRESSED = 5,              // a compressed record: see dewikura_decompress
     DEWIKURA_OTHER = 6,                   // the attribute of a sample selects a field that isn't known
@@ -324,6 +324,8 @@ struct dewikura_build_id {
     uint64_t next_offset; // of the next entry
     int32_t pid;          // -1 mostly
     uint32_t dso_kind;    // DEWIKURA_DSO_*
+    uint16_t misc;        // misc bits of the entry's header; `misc & 7` is a DEWIKURA_MODE_*
+    uint8_t reserved[6];  // 0
 };
 
 // A string of a feature section. Offsets are in bytes from the start of the section.
@@ -480,7 +482,7 @@ DEWIKURA_CHECK_SIZE(dewikura_stack_totals, 32);
 DEWIKURA_CHECK_SIZE(dewikura_attr, 168);
 DEWIKURA_CHECK_SIZE(dewikura_attr_totals, 24);
 DEWIKURA_CHECK_SIZE(dewikura_feature_set, 32);
-DEWIKURA_CHECK_SIZE(dewikura_build_id, 48);
+DEWIKURA_CHECK_SIZE(dewikura_build_id, 56);
 DEWIKURA_CHECK_SIZE(dewikura_string, 24);
 DEWIKURA_CHECK_SIZE(dewikura_meta_pair, 32);
 DEWIKURA_CHECK_SIZE(dewikura_symbol_file, 72);
@@ -987,6 +989,11 @@ DEWIKURA_NONNULL DEWIKURA_NODISCARD dewikura_status dewikura_decompress(const vo
 // section has no complete entry at the offset, as at its end.
 DEWIKURA_NONNULL DEWIKURA_NODISCARD dewikura_status dewikura_read_build_id(const void *section, size_t size,
     uint32_t is_big_endian, uint64_t offset, struct dewikura_build_id *entry);
+
+// Writes what a path names: a DEWIKURA_DSO_*, as the entry of a build id has it. `misc` is that of the record of a
+// mapping, or of an entry. Returns DEWIKURA_OK, or DEWIKURA_OUT_OF_MEMORY: then *kind is unchanged.
+DEWIKURA_NONNULL DEWIKURA_NODISCARD dewikura_status dewikura_dso_kind(const char *path, size_t size, uint16_t misc,
+    uint32_t *kind);
 
 // Writes the positions of the string at an offset of a feature section. HOSTNAME, OSRELEASE, VERSION, ARCH, CPUDESC and
 // CPUID have one string, at offset 0. CMDLINE has a count in four bytes, and then that many strings. DEWIKURA_TRUNCATED

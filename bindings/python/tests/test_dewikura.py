@@ -140,6 +140,8 @@ class RecordingTest(unittest.TestCase):
     def test_build_ids(self):
         with dewikura.open(CALLS) as recording:
             found = sorted((entry.path, entry.build_id.hex(), entry.kind.name) for entry in recording.build_ids)
+            misc = {entry.path[:1]: entry.misc for entry in recording.build_ids if entry.path != b"[vdso]"}
+        self.assertEqual(misc, {b"/": 0x8002, b"[": 0x8001})  # PERF_RECORD_MISC_BUILD_ID_SIZE, and the modes of programs and of the kernel
         self.assertEqual(found, [
             (b"/usr/bin/bash", "135afc8c6d1b9e02356cce218bf0109c3687ad9f", "USER"),
             (b"/usr/lib/x86_64-linux-gnu/ld-linux-x86-64.so.2", "7ebc65e52f2bbea498b4040fa92f7238377aaba9", "USER"),

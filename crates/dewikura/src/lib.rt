@@ -10,7 +10,7 @@ ghost use Rattle.std.specs.List.{starts_with};
 ghost use Rattle.perfdata_sources.specs.declared.endian.Endianness.TheVariants.{BigEndian};
 ghost use Rattle.perfdata_base.specs.Header.{magic_of};
 ghost use Rattle.perfdata_arrays.specs.Attrs.{ReadsFileAttrs, ReadsPipeAttrs};
-ghost use Rattle.perfdata_arrays.specs.BuildIds.{ReadsBuildId};
+ghost use Rattle.perfdata_arrays.specs.BuildIds.{FindsDsoKind, ReadsBuildId};
 ghost use Rattle.perfdata_arrays.specs.Counters.{ReadsCounterPage, ReadsPipeCounters};
 ghost use Rattle.perfdata_arrays.specs.Details.{ReadsDetails, format_of_attr};
 ghost use Rattle.perfdata_arrays.specs.FeatureSets.{ReadsFileFeatures, ReadsPipeFeatures};
@@ -531,6 +531,14 @@ pub extern "C" fn dewikura_read_build_id(
         entry,
     )
     .code()
+}
+
+/// Finds the DSO kind of a path, as `build_ids::find_dso_kind` does.
+#[unsafe(no_mangle)]
+pub extern "C" fn dewikura_dso_kind(alloc: Global, path: &[u8], misc: u16, kind: &mut u32) -> u32
+    ensures { IsCodeOf result (λ s. FindsDsoKind path.now misc kind.old s kind.new) }
+{
+    build_ids::find_dso_kind(alloc, path, misc, kind).code()
 }
 
 /// Reads a string of a feature section, as `strings::find_string` does.

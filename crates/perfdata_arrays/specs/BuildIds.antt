@@ -4,7 +4,7 @@ use Rattle.perfdata_sources.specs.Endian.{number_in}
 use Rattle.perfdata_sources.specs.CpuMode.{cpu_mode_of}
 use Rattle.perfdata_sources.specs.declared.endian.Endianness.{Endianness}
 use Rattle.perfdata_records.specs.BuildIdEvent.{BuildIdEntry as Entry, IsTruncatedBuildIdEntry, IsBuildIdEntry}
-use Rattle.perfdata_records.specs.DsoKey.{Key, kernel, guest_kernel, vdso_32, vdso_x32, vdso_64, vsyscall, kernel_module, user, key_of}
+use Rattle.perfdata_records.specs.DsoKey.{Key, kernel, guest_kernel, vdso_32, vdso_x32, vdso_64, vsyscall, kernel_module, user, key_of, HasTexts}
 use Rattle.linux_perf_data.specs.RecordEntries.{HasBytesAt}
 use Rattle.perfdata_arrays.specs.declared.build_ids.BuildId.{BuildId}
 use Rattle.perfdata_arrays.specs.declared.status.Status.{Status}
@@ -22,6 +22,12 @@ dso_kind_number (Some vsyscall) = 6
 dso_kind_number (Some (kernel_module name)) = 7
 dso_kind_number (Some (user file_name full_path)) = 8
 
+-- the kind of a path in the CPU mode of a record header is written; or memory ran out for the strings of its key, and the old value is unchanged
+abbrev pub FindsDsoKind : List ℕ → ℕ → ℕ → Status → ℕ → Type 0
+FindsDsoKind path misc old status new =
+    ((status ≡ Success) × (new ≡ dso_kind_number (key_of path (cpu_mode_of (misc % 8)))))
+    ⊎ ((status ≡ OutOfMemory) × HasTexts (key_of path (cpu_mode_of (misc % 8))) × (new ≡ old))
+
 -- the key of an entry's path, in the CPU mode of its record header
 abbrev pub dso_key_of_entry : Entry → Option Key
 dso_key_of_entry e = key_of e.path (cpu_mode_of (e.header.misc % 8))
@@ -36,6 +42,9 @@ build_id_entry offset size e = record {
   next_offset = offset + size;
   pid = e.pid;
   dso_kind = dso_kind_number (dso_key_of_entry e);
+  misc = e.header.misc;
+  reserved = 0;
+  reserved_2 = 0;
 }
 
 module _ (endian : Endianness) where

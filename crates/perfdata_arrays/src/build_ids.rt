@@ -2,7 +2,7 @@
 ghost use Rattle.std.specs.Prelude.{◌≡◌};
 ghost use Rattle.std.specs.Option.{option_map};
 ghost use Rattle.perfdata_records.specs.DsoKey.{key_in};
-ghost use Rattle.perfdata_arrays.specs.BuildIds.{ReadsBuildId, dso_kind_number};
+ghost use Rattle.perfdata_arrays.specs.BuildIds.{FindsDsoKind, ReadsBuildId, dso_kind_number};
 
 use crate::array::byte_count;
 use crate::status::Status;
@@ -37,9 +37,15 @@ pub struct BuildId {
     /// The DSO kind of the path: 0 no mapped file, 1 the kernel, 2 a guest kernel, 3 the 32-bit vDSO, 4 the
     /// x32 vDSO, 5 the 64-bit vDSO, 6 the vsyscall page, 7 a kernel module, 8 a file that a program maps.
     pub dso_kind: u32,
+    /// The misc flags of the entry's header. The CPU mode is in the lowest three bits.
+    pub misc: u16,
+    /// 0.
+    pub reserved: u16,
+    /// 0.
+    pub reserved_2: u32,
 }
 
-const _: () = prove!(size_of::<BuildId>() == 48);
+const _: () = prove!(size_of::<BuildId>() == 56);
 
 // The number of a key's DSO kind; 0 for `None`.
 fn dso_kind(key: &Option<DsoKey>) -> u32
@@ -93,6 +99,23 @@ pub fn read_build_id(
         next_offset: (section.len() - rest.len()) as u64,
         pid: entry._pid,
         dso_kind: dso_kind(&key),
+        misc: entry.header.misc,
+        reserved: 0,
+        reserved_2: 0,
     };
+    Status::Success
+}
+
+/// Writes the number of the DSO kind of a path, as `dso_kind` of an entry has it, into `out`.
+///
+/// `misc` has the CPU mode in its lowest three bits, as the header of a mapping or of an entry has it.
+/// Returns `OutOfMemory` if memory runs out, and otherwise `Success`. After an error `out` is unchanged.
+pub fn find_dso_kind(alloc: Global, path: &[u8], misc: u16, out: &mut u32) -> Status
+    ensures { FindsDsoKind path.now misc out.old result out.new }
+{
+    let Ok(key) = DsoKey::detect(alloc, path, CpuMode::from_misc(misc)) else {
+        return Status::OutOfMemory;
+    };
+    *out = dso_kind(&key);
     Status::Success
 }

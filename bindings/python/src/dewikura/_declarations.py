@@ -263,8 +263,9 @@ class BuildId(ctypes.Structure):
     next_offset: int
     pid: int
     dso_kind: int
+    misc: int
     _fields_ = [("id_offset", u64), ("id_size", u64), ("path_offset", u64), ("path_size", u64), ("next_offset", u64), ("pid", i32),
-        ("dso_kind", u32)]
+        ("dso_kind", u32), ("misc", u16), ("_reserved", u8 * 6)]
 
 
 class StringEntry(ctypes.Structure):
@@ -444,7 +445,7 @@ _LAYOUTS = {
     Attr: (168, (0, 8, 16, 24, 32, 40, 48, 56, 64, 72, 80, 88, 96, 104, 112, 120, 128, 132, 136, 140, 144, 148, 152, 156, 160, 164)),
     AttrTotals: (24, (0, 8, 16)),
     FeatureSet: (32, (0, 8, 16, 24)),
-    BuildId: (48, (0, 8, 16, 24, 32, 40, 44)),
+    BuildId: (56, (0, 8, 16, 24, 32, 40, 44, 48, 50)),
     StringEntry: (24, (0, 8, 16)),
     MetaPair: (32, (0, 8, 16, 24)),
     SymbolFile: (72, (0, 8, 16, 24, 32, 40, 48, 56, 64, 68)),
@@ -498,6 +499,7 @@ _EXPORTS = {
     "dewikura_finish_recording": (u32, [c_void_p, c_size_t, c_void_p, c_size_t, POINTER(u64)]),
     "dewikura_decompress": (u32, [c_void_p, c_size_t, c_void_p, c_size_t, POINTER(u64)]),
     "dewikura_read_build_id": (u32, [c_void_p, c_size_t, u32, u64, POINTER(BuildId)]),
+    "dewikura_dso_kind": (u32, [c_void_p, c_size_t, u16, POINTER(u32)]),
     "dewikura_read_string": (u32, [c_void_p, c_size_t, u32, u64, POINTER(StringEntry)]),
     "dewikura_read_meta_info": (u32, [c_void_p, c_size_t, POINTER(MetaPair), c_size_t, POINTER(u64)]),
     "dewikura_read_symbol_tables": (u32, [c_void_p, c_size_t, u32, u32, POINTER(SymbolFile), c_size_t, POINTER(Symbol), c_size_t, c_void_p,

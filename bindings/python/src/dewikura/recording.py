@@ -317,6 +317,7 @@ class BuildId(NamedTuple):
     path: bytes
     kind: DsoKind
     pid: int
+    misc: int
 
 
 class Symbol(NamedTuple):
@@ -803,7 +804,7 @@ class Recording(OpenInput["Recording"]):
             while (status := _native.read_build_id(address, size, is_big_endian, entry.next_offset, entry)) == Status.OK:
                 build_id = bytes(section[entry.id_offset:entry.id_offset + entry.id_size])
                 path = bytes(section[entry.path_offset:entry.path_offset + entry.path_size])
-                found.append(BuildId(build_id, path, DsoKind(entry.dso_kind), entry.pid))
+                found.append(BuildId(build_id, path, DsoKind(entry.dso_kind), entry.pid, entry.misc))
         if status != Status.TRUNCATED:
             check(status)
         return tuple(found)

@@ -34,6 +34,9 @@ returns c =
         next_offset = next i;
         pid = process i;
         dso_kind = key i;
+        misc = c.in-Ok.entry.header.misc;
+        reserved = 0;
+        reserved_2 = 0;
       }),
     )
 
