@@ -690,6 +690,120 @@ static void check_dso_kinds(void)
     }
 }
 
+// A sample and a record with sample_id fields: who wrote them. Their first words, and the last ones, have different numbers.
+static void check_common(void)
+{
+    static const uint64_t words = DEWIKURA_SAMPLE_IDENTIFIER | DEWIKURA_SAMPLE_IP | DEWIKURA_SAMPLE_TID | DEWIKURA_SAMPLE_TIME | DEWIKURA_SAMPLE_ADDR
+                                  | DEWIKURA_SAMPLE_ID | DEWIKURA_SAMPLE_STREAM_ID | DEWIKURA_SAMPLE_CPU;
+    struct dewikura_attr attr;
+    struct dewikura_record record;
+    struct dewikura_common common;
+    int is_sample;
+    memset(&attr, 0, sizeof attr);
+    memset(&record, 0, sizeof record);
+    for (is_sample = 0; is_sample < 2; is_sample++) {
+        attr.sample_type = words;
+        attr.flags = is_sample ? 0 : DEWIKURA_ATTR_SAMPLE_ID_ALL;
+        record.type = is_sample ? DEWIKURA_RECORD_SAMPLE : DEWIKURA_RECORD_LOST_SAMPLES;
+        record.body_offset = 8;
+        size = 0;
+        put(0, 8);
+        put(is_sample ? 0x801 : 7, 8); // the identifier, or the number of lost samples
+        if (is_sample)
+            put(0x802, 8); // ip
+        put((uint32_t)-3, 4);
+        put(0x804, 4);
+        put(0x805, 8);
+        if (is_sample)
+            put(0x806, 8); // address
+        put(0x807, 8);
+        put(0x808, 8);
+        put(0x809, 4);
+        put(0, 4);
+        if (!is_sample)
+            put(0x801, 8);
+        record.body_size = size - 8;
+        memset(&common, 0xab, sizeof common);
+        CHECK(dewikura_read_common(input, size, 0, &attr, 1, &record, &common), DEWIKURA_OK);
+        CHECK(common.timestamp, 0x805);
+        CHECK(common.id, 0x801);
+        CHECK(common.stream_id, 0x808);
+        CHECK(common.fields, words & ~(DEWIKURA_SAMPLE_IP | DEWIKURA_SAMPLE_ADDR));
+        CHECK(common.cpu, 0x809);
+        CHECK(common.pid, -3);
+        CHECK(common.tid, 0x804);
+        attr.sample_type &= ~DEWIKURA_SAMPLE_IDENTIFIER;
+        if (is_sample)
+            record.body_offset += 8;
+        record.body_size -= 8;
+        CHECK(dewikura_read_common(input, size, 0, &attr, 1, &record, &common), DEWIKURA_OK);
+        CHECK(common.id, 0x807);
+        record.body_size = 31;
+        memset(&common, 0xab, sizeof common);
+        CHECK(dewikura_read_common(input, size, 0, &attr, 1, &record, &common), DEWIKURA_TRUNCATED);
+        CHECK(common.cpu, 0xabababab);
+        CHECK(dewikura_read_common(input, size, 0, &attr, 0, &record, &common), DEWIKURA_NO_ATTRIBUTES);
+        CHECK(dewikura_read_common(input, 38, 0, &attr, 1, &record, &common), DEWIKURA_TRUNCATED_RECORD);
+        CHECK(common.cpu, 0xabababab);
+    }
+    // Without sample_id fields, and a record that a tool wrote.
+    record.type = DEWIKURA_RECORD_LOST_SAMPLES;
+    CHECK(dewikura_read_common(input, size, 0, &attr, 1, &record, &common), DEWIKURA_OK);
+    CHECK(common.fields | common.cpu | common.timestamp | common.id | common.stream_id, 0);
+    attr.flags = DEWIKURA_ATTR_SAMPLE_ID_ALL;
+    record.type = DEWIKURA_RECORD_HEADER_ATTR;
+    CHECK(dewikura_read_common(input, size, 0, &attr, 1, &record, &common), DEWIKURA_OK);
+    CHECK(common.fields | common.cpu | common.timestamp | common.id | common.stream_id, 0);
+}
+
+// Records that can't be parsed, and the status of each.
+static void check_event_errors(void)
+{
+    static const struct {
+        uint32_t type;
+        uint16_t misc;
+        unsigned body_size;
+        uint8_t fill;
+        dewikura_status status;
+    } cases[] = {
+        {DEWIKURA_RECORD_COMM, 0, 7, 0, DEWIKURA_TRUNCATED},
+        {DEWIKURA_RECORD_COMM, 0, 16, 'x', DEWIKURA_INVALID_DATA}, // no NUL
+        {DEWIKURA_RECORD_FORK, 0, 23, 0, DEWIKURA_TRUNCATED},
+        {DEWIKURA_RECORD_EXIT, 0, 24, 0, DEWIKURA_OK},
+        {DEWIKURA_RECORD_MMAP, 0, 31, 0, DEWIKURA_TRUNCATED},
+        {DEWIKURA_RECORD_MMAP2, 0x4000, 80, 21, DEWIKURA_INVALID_DATA}, // a build id of 21 bytes
+        {DEWIKURA_RECORD_READ, 0, 15, 0, DEWIKURA_TRUNCATED},
+        {DEWIKURA_RECORD_READ, 0, 16, 0, DEWIKURA_OK},
+        {DEWIKURA_RECORD_HEADER_ATTR, 0, 3, 0, DEWIKURA_OK},
+        {63, 0, 3, 0, DEWIKURA_OK},
+    };
+    struct dewikura_attr attr;
+    struct dewikura_record record;
+    struct dewikura_sample sample;
+    struct dewikura_task task;
+    struct dewikura_mapping mapping;
+    struct dewikura_counter counter;
+    size_t i;
+    memset(&attr, 0, sizeof attr);
+    for (i = 0; i < sizeof cases / sizeof *cases; i++) {
+        uint64_t frames_count = 7, counters_count = 7;
+        memset(&record, 0, sizeof record);
+        record.type = cases[i].type;
+        record.misc = cases[i].misc;
+        record.body_size = cases[i].body_size;
+        memset(input, cases[i].fill, cases[i].body_size);
+        memset(&task, 0xab, sizeof task);
+        memset(&mapping, 0xab, sizeof mapping);
+        CHECK(dewikura_read_event(input, cases[i].body_size, 0, &attr, 1, &record, &sample, NONE, 0, &frames_count, &task, &mapping, &counter, 1,
+                  &counters_count),
+            cases[i].status);
+        CHECK(frames_count, 0);
+        CHECK(counters_count, cases[i].type == DEWIKURA_RECORD_READ && cases[i].status == DEWIKURA_OK);
+        CHECK(task.type, cases[i].type == DEWIKURA_RECORD_EXIT ? DEWIKURA_RECORD_EXIT : 0xabababab);
+        CHECK(mapping.type, 0xabababab);
+    }
+}
+
 static void check_string(void)
 {
     struct dewikura_string string;
@@ -1314,6 +1428,8 @@ int main(void)
     check_details();
     check_build_id();
     check_dso_kinds();
+    check_common();
+    check_event_errors();
     check_string();
     check_meta_info();
     check_file_section();

@@ -1,6 +1,6 @@
 /*
  * Counts the samples of each event of a pipe while it is recorded: `perf record -o - -- COMMAND | follow`. Prints the samples so far on
- * standard error once a second, and the counts of the events at the end. Memory holds the opening of the pipe, and later the bytes of an
+ * standard error once a second, the name of each program that a task executes, and the counts of the events at the end. Memory holds the opening of the pipe, and later the bytes of an
  * incomplete record.
  */
 #include <errno.h>
@@ -118,6 +118,21 @@ static void add_event(const uint8_t *body, uint64_t size, uint32_t is_big_endian
     totals->ids_count += ids_count;
 }
 
+/* Prints the name in a record DEWIKURA_RECORD_COMM, if the task executed a program. */
+static void print_program(const struct pending *pending, uint32_t is_big_endian, const struct events *events, const struct dewikura_record *record)
+{
+    static struct dewikura_sample sample;
+    static struct dewikura_frame frame;
+    static struct dewikura_task task;
+    static struct dewikura_mapping mapping;
+    static struct dewikura_counter counter;
+    uint64_t frames_count, counters_count;
+    dewikura_status status = dewikura_read_event(pending->data, pending->size, is_big_endian, events->attrs, (size_t)events->totals.attr_count, record,
+        &sample, &frame, 0, &frames_count, &task, &mapping, &counter, 0, &counters_count);
+    if (status == DEWIKURA_OK && task.is_execve)
+        fprintf(stderr, "%" PRId32 " runs %.*s\n", task.pid, (int)task.name_size, (const char *)pending->data + task.name_offset);
+}
+
 /* Counts the samples of the complete records. Returns their number. */
 static uint64_t count_samples(struct pending *pending, uint32_t is_big_endian, struct events *events, struct dewikura_cursor *cursor)
 {
@@ -130,6 +145,8 @@ static uint64_t count_samples(struct pending *pending, uint32_t is_big_endian, s
             if (records[i].type == DEWIKURA_RECORD_SAMPLE) {
                 events->samples[records[i].attr_index]++;
                 samples++;
+            } else if (records[i].type == DEWIKURA_RECORD_COMM) {
+                print_program(pending, is_big_endian, events, &records[i]);
             }
         if (status != DEWIKURA_OK)
             fail_with(status);

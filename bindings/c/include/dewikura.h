@@ -459,6 +459,17 @@ struct dewikura_opening {
     uint32_t is_big_endian;      // 0 or 1
 };
 
+// Who wrote a kernel record, when and where. What it doesn't have is 0: `fields` says what it has.
+struct dewikura_common {
+    uint64_t timestamp; // in nanoseconds of the recording's clock
+    uint64_t id;        // of the event: IDENTIFIER, else ID
+    uint64_t stream_id; // id of the event itself, also if another task inherited it
+    uint32_t fields;    // DEWIKURA_SAMPLE_* bits: TID, TIME, ID, CPU, STREAM_ID and IDENTIFIER
+    uint32_t cpu;
+    int32_t pid;
+    int32_t tid;
+};
+
 // The library has the same sizes.
 #if defined(__cplusplus)
 #define DEWIKURA_CHECK_SIZE(name, size) static_assert(sizeof(struct name) == size, "size of struct " #name)
@@ -496,6 +507,7 @@ DEWIKURA_CHECK_SIZE(dewikura_jit_unwinding, 40);
 DEWIKURA_CHECK_SIZE(dewikura_jit_debug_entry, 32);
 DEWIKURA_CHECK_SIZE(dewikura_elf_symbol, 32);
 DEWIKURA_CHECK_SIZE(dewikura_opening, 72);
+DEWIKURA_CHECK_SIZE(dewikura_common, 40);
 #undef DEWIKURA_CHECK_SIZE
 typedef char dewikura_has_64_bits[sizeof(size_t) == 8 ? 1 : -1];
 
@@ -1122,6 +1134,9 @@ DEWIKURA_NONNULL DEWIKURA_NODISCARD dewikura_status dewikura_read_opening(const 
 // caller knows where the input ends. A record of the type DEWIKURA_RECORD_HEADER_ATTR is the last one that a call
 // writes: add its attribute (dewikura_read_late_attr), and call again with the bytes from *consumed on.
 //
+// Without a state, a call can't sort the ids: it searches all of them in turn for the id of a record, unless it is the
+// one that it found last among those with the same remainder modulo 64.
+//
 // The other errors are those of dewikura_read_pipe_records, after the records before them: *consumed and *cursor are at
 // the record in error, and a call there returns the same status. Among them is DEWIKURA_COMPRESSED. Without attributes
 // the status is DEWIKURA_NO_ATTRIBUTES, and nothing is written or consumed.
@@ -1129,6 +1144,34 @@ DEWIKURA_NONNULL DEWIKURA_NODISCARD dewikura_status dewikura_read_chunk_records(
     uint32_t is_big_endian, const struct dewikura_attr *attrs, size_t attrs_count, const uint64_t *ids,
     size_t ids_count, struct dewikura_cursor *cursor, struct dewikura_record *records, size_t capacity, uint64_t *count,
     uint64_t *consumed);
+
+// Writes what the body of a record says, as the calls for samples, tasks, mappings and counter values do: of a sample
+// *sample and its frames, of DEWIKURA_RECORD_COMM, _FORK and _EXIT *task, of DEWIKURA_RECORD_MMAP and _MMAP2 *mapping,
+// and of a sample or DEWIKURA_RECORD_READ its counter values. What the record isn't is unchanged.
+//
+// `record` is a record of the chunk, or of a whole input: `chunk` is what its `body_offset` counts from, and so do the
+// offsets of names and paths. `attrs` are the attributes of the input. The frames and the counter values are written
+// from the first element on, up to the capacities. *frames_count and *counters_count count all of them, and are 0 if
+// the record has none.
+//
+// Returns DEWIKURA_TRUNCATED_RECORD if the body isn't in the chunk, otherwise DEWIKURA_NO_ATTRIBUTES if `attr_index`
+// isn't in the array. Of a record that isn't a sample, returns otherwise DEWIKURA_TRUNCATED if the body ends in a
+// field, and DEWIKURA_INVALID_DATA if a text has no NUL or a build id more than 20 bytes: the other calls leave such a
+// record out. After an error both numbers are 0 and nothing else is written.
+DEWIKURA_NONNULL DEWIKURA_NODISCARD dewikura_status dewikura_read_event(const void *chunk, size_t size,
+    uint32_t is_big_endian, const struct dewikura_attr *attrs, size_t attrs_count, const struct dewikura_record *record,
+    struct dewikura_sample *sample, struct dewikura_frame *frames, size_t frames_capacity, uint64_t *frames_count,
+    struct dewikura_task *task, struct dewikura_mapping *mapping, struct dewikura_counter *counters,
+    size_t counters_capacity, uint64_t *counters_count);
+
+// Writes who wrote a record, when and where. The first arguments are those of dewikura_read_event. A record that isn't
+// a sample has these fields only if its attribute has the flag sample_id_all, and a record that a tool wrote has none.
+//
+// The errors are DEWIKURA_TRUNCATED_RECORD and DEWIKURA_NO_ATTRIBUTES, as there, and DEWIKURA_TRUNCATED if the body
+// doesn't contain all of the fields. Then *common is unchanged.
+DEWIKURA_NONNULL DEWIKURA_NODISCARD dewikura_status dewikura_read_common(const void *chunk, size_t size,
+    uint32_t is_big_endian, const struct dewikura_attr *attrs, size_t attrs_count, const struct dewikura_record *record,
+    struct dewikura_common *common);
 
 // Writes the attribute in the body of a record DEWIKURA_RECORD_HEADER_ATTR, and its ids, up to `capacity`. `ids_start`
 // is how many ids the attributes before it have, and becomes its `ids_start`. It has no name: names are in the feature

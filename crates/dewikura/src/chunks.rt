@@ -4,6 +4,8 @@ ghost use Rattle.dewikura.specs.Numbers.{endian_from};
 ghost use Rattle.perfdata_arrays.specs.Status.{IsCodeOf};
 ghost use Rattle.perfdata_arrays.specs.declared.status.Status.TheVariants.{Success};
 ghost use Rattle.perfdata_chunks.specs.Chunks.{ReadsChunk, start_status_code};
+ghost use Rattle.perfdata_chunks.specs.Common.{ReadsCommon};
+ghost use Rattle.perfdata_chunks.specs.Events.{ReadsEvent};
 ghost use Rattle.perfdata_chunks.specs.declared.status.StartStatus.{StartStatus};
 ghost use Rattle.perfdata_chunks.specs.declared.status.StartStatus.TheVariants.{Known};
 
@@ -11,9 +13,15 @@ use crate::endian_from_flag;
 use linux_perf_data::in_memory::entries::RecordEntry;
 use linux_perf_data::in_memory::position::RecordPosition;
 use perfdata_arrays::attrs::Attr;
+use perfdata_arrays::counters::CounterEntry;
 use perfdata_arrays::jit::JitRecord;
+use perfdata_arrays::mappings::MappingEntry;
+use perfdata_arrays::samples::frame::FrameEntry;
+use perfdata_arrays::samples::sample::Sample;
+use perfdata_arrays::tasks::TaskEntry;
+use perfdata_chunks::common::Common;
 use perfdata_chunks::opening::Opening;
-use perfdata_chunks::{jit_records, late_attr, opening, records};
+use perfdata_chunks::{common, events, jit_records, late_attr, opening, records};
 use std::alloc::Global;
 
 /// Reads the records of a chunk, as `records::chunk_records` does.
@@ -38,6 +46,62 @@ pub extern "C" fn dewikura_read_chunk_records(
     *count = outcome.count;
     *consumed = outcome.consumed;
     outcome.status.code()
+}
+
+/// Reads the body of a record, as `events::read_event` does.
+#[unsafe(no_mangle)]
+pub extern "C" fn dewikura_read_event(
+    chunk: &[u8],
+    is_big_endian: u32,
+    attrs: &[Attr],
+    entry: &RecordEntry,
+    sample: &mut Sample,
+    frames: &mut [FrameEntry],
+    frames_count: &mut u64,
+    task: &mut TaskEntry,
+    mapping: &mut MappingEntry,
+    counters: &mut [CounterEntry],
+    counters_count: &mut u64,
+) -> u32
+    ensures { IsCodeOf result (λ s. ReadsEvent (endian_from is_big_endian) chunk.now attrs.now entry.now
+        (record {
+          sample = sample.old;
+          frames = frames.old;
+          task = task.old;
+          mapping = mapping.old;
+          counters = counters.old;
+        })
+        (record { frames_count = frames_count.new; counters_count = counters_count.new; status = s })
+        (record {
+          sample = sample.new;
+          frames = frames.new;
+          task = task.new;
+          mapping = mapping.new;
+          counters = counters.new;
+        })) }
+{
+    let endian = endian_from_flag(is_big_endian);
+    let outcome = events::read_event(
+        endian, chunk, attrs, entry, sample, frames, task, mapping, counters,
+    );
+    *frames_count = outcome.frames_count;
+    *counters_count = outcome.counters_count;
+    outcome.status.code()
+}
+
+/// Reads who wrote a record, when and where, as `common::read_common` does.
+#[unsafe(no_mangle)]
+pub extern "C" fn dewikura_read_common(
+    chunk: &[u8],
+    is_big_endian: u32,
+    attrs: &[Attr],
+    entry: &RecordEntry,
+    common: &mut Common,
+) -> u32
+    ensures { IsCodeOf result (λ s. ReadsCommon (endian_from is_big_endian) chunk.now attrs.now entry.now
+        common.old s common.new) }
+{
+    common::read_common(endian_from_flag(is_big_endian), chunk, attrs, entry, common).code()
 }
 
 /// Reads the attribute in a record of a pipe, as `late_attr::late_attr` does.

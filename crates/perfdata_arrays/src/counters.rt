@@ -81,8 +81,8 @@ fn write_group(offset: u64, group: &GroupValues<'_>, counters: &mut [CounterEntr
     count
 }
 
-// Writes the entries of counters, up to the capacity of `counters`.
-fn write_counters(offset: u64, values: &Option<ReadValues<'_>>, counters: &mut [CounterEntry])
+/// Writes the entries of counter values in the record at this offset, up to the capacity of `counters`.
+pub fn write_counters(offset: u64, values: &Option<ReadValues<'_>>, counters: &mut [CounterEntry])
     ensures { counters.new ≡ with_prefix (counter_entries offset values.now) counters.old }
 {
     match values {
@@ -96,9 +96,9 @@ fn write_counters(offset: u64, values: &Option<ReadValues<'_>>, counters: &mut [
     }
 }
 
-// The number of counters.
+/// Returns the number of counter values.
 #[tactic(auto, using(crate::proofs::CounterLemmas::count_of_group))]
-fn count_counters(values: &Option<ReadValues<'_>>) -> usize
+pub fn count_counters(values: &Option<ReadValues<'_>>) -> usize
     ensures { (offset : ℕ) → result ≡ length (counter_entries offset values.now) }
 {
     match values {
@@ -108,8 +108,8 @@ fn count_counters(values: &Option<ReadValues<'_>>) -> usize
     }
 }
 
-// The counter values of a parsed record.
-fn values_of_event<'a>(event: &EventRecord<'a>) -> Option<ReadValues<'a>>
+/// Returns the counter values of a parsed record: a READ record, or a sample that has some.
+pub fn values_of_event<'a>(event: &EventRecord<'a>) -> Option<ReadValues<'a>>
     ensures { result ≡ event_values event.now }
 {
     match event {

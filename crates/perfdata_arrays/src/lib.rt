@@ -13,7 +13,7 @@ pub mod byte_order;
 pub mod counters;
 mod decoder;
 pub mod decompressing;
-mod envelope;
+pub mod envelope;
 mod event_entries;
 pub mod feature_set;
 pub mod features;

@@ -184,8 +184,8 @@ fn mmap2_entry(envelope: EntryEnvelope, mapping: &Mmap2Record<'_>) -> MappingEnt
     }
 }
 
-// The entry of a parsed record.
-fn event_mapping(envelope: EntryEnvelope, event: &EventRecord<'_>) -> Option<MappingEntry>
+/// Returns the entry of a parsed mapping, and `None` for another record.
+pub fn event_mapping(envelope: EntryEnvelope, event: &EventRecord<'_>) -> Option<MappingEntry>
     requires { envelope.body_offset + 64 < 2 ^ 64 }
     ensures { result ≡ event_mapping envelope event.now }
 {

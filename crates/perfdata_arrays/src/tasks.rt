@@ -78,8 +78,8 @@ fn comm_entry(envelope: EntryEnvelope, comm: &CommOrExecRecord<'_>) -> TaskEntry
     }
 }
 
-// The entry of a parsed record.
-fn event_task(envelope: EntryEnvelope, event: &EventRecord<'_>) -> Option<TaskEntry>
+/// Returns the entry of a parsed record on a task, and `None` for another record.
+pub fn event_task(envelope: EntryEnvelope, event: &EventRecord<'_>) -> Option<TaskEntry>
     requires { envelope.body_offset + 64 < 2 ^ 64 }
     ensures { result ≡ event_task envelope event.now }
 {

@@ -1,2 +1,6 @@
 -- The modules that contracts use.
 pub mod Chunks
+pub mod SingleRecords
+pub mod Common
+pub mod Events
+pub mod steps

@@ -1,8 +1,9 @@
 //! The attribute of each record, out of the arrays of attributes and ids that a caller has.
 ghost use Rattle.std.specs.Prelude.{◌≡◌, [], IfNone};
 
+use crate::single_records::format_attr;
 use perfdata_arrays::attrs::Attr;
-use perfdata_base::attr::{AttrFlags, PerfEventAttr, SampleFormat};
+use perfdata_base::attr::AttrFlags;
 use perfdata_base::endian::Endianness;
 use perfdata_base::event::RecordType;
 use perfdata_base::place::{IdCache, RecordParseInfo};
@@ -19,33 +20,6 @@ pub(crate) struct ChunkAttributes<'a> {
     // The attribute that was used last.
     last_index: usize,
     last: RecordParseInfo,
-}
-
-// Returns the attribute with the fields that say where identifiers and times are. The others are 0.
-fn format_attr(attr: &Attr) -> PerfEventAttr {
-    PerfEventAttr {
-        type_: attr.type_,
-        size: attr.size,
-        config: attr.config,
-        period_or_freq: 0,
-        sample_format: SampleFormat(attr.sample_type),
-        read_format: attr.read_format,
-        flags: AttrFlags(attr.flags),
-        wakeup: 0,
-        bp_type: 0,
-        config1: 0,
-        config2: 0,
-        branch_sample_type: attr.branch_sample_type,
-        sample_regs_user: attr.sample_regs_user,
-        sample_stack_user: attr.sample_stack_user,
-        clockid: attr.clockid,
-        sample_regs_intr: attr.sample_regs_intr,
-        aux_watermark: 0,
-        sample_max_stack: 0,
-        aux_sample_size: 0,
-        sig_data: 0,
-        config3: 0,
-    }
 }
 
 // Returns whether the records of two attributes have identifiers and times at the same offsets, because they

@@ -7,6 +7,8 @@
 #![tactic(auto)]
 
 mod attributes;
+pub mod common;
+pub mod events;
 mod framing;
 pub mod jit_records;
 pub mod late_attr;
@@ -14,4 +16,5 @@ pub mod laws;
 mod metadata;
 pub mod opening;
 pub mod records;
+mod single_records;
 pub mod status;

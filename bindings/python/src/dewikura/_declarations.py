@@ -428,6 +428,19 @@ class Opening(ctypes.Structure):
         ("event_types_size", u64), ("features_offset", u64), ("features_size", u64), ("kind", u32), ("is_big_endian", u32)]
 
 
+class Common(ctypes.Structure):
+    """Who wrote a kernel record, when and where. What it doesn't have is 0: `fields` says what it has."""
+
+    timestamp: int
+    id: int
+    stream_id: int
+    fields: int
+    cpu: int
+    pid: int
+    tid: int
+    _fields_ = [("timestamp", u64), ("id", u64), ("stream_id", u64), ("fields", u32), ("cpu", u32), ("pid", i32), ("tid", i32)]
+
+
 # Of each struct the size, and the offset of each field.
 _LAYOUTS = {
     Cursor: (16, (0, 8)),
@@ -459,6 +472,7 @@ _LAYOUTS = {
     JitDebugEntry: (32, (0, 8, 16, 24, 28)),
     ElfSymbol: (32, (0, 8, 16, 24)),
     Opening: (72, (0, 8, 16, 24, 32, 40, 48, 56, 64, 68)),
+    Common: (40, (0, 8, 16, 24, 28, 32, 36)),
 }
 for _struct, _layout in _LAYOUTS.items():
     if (ctypes.sizeof(_struct), tuple(getattr(_struct, name).offset for name, *_ in _struct._fields_)) != _layout:
@@ -517,6 +531,9 @@ _EXPORTS = {
     "dewikura_read_opening": (u32, [c_void_p, c_size_t, POINTER(Opening)]),
     "dewikura_read_chunk_records": (u32, [c_void_p, c_size_t, u32, POINTER(Attr), c_size_t, POINTER(u64), c_size_t, POINTER(Cursor),
         POINTER(Record), c_size_t, POINTER(u64), POINTER(u64)]),
+    "dewikura_read_event": (u32, [c_void_p, c_size_t, u32, POINTER(Attr), c_size_t, POINTER(Record), POINTER(Sample), POINTER(Frame),
+        c_size_t, POINTER(u64), POINTER(Task), POINTER(Mapping), POINTER(Counter), c_size_t, POINTER(u64)]),
+    "dewikura_read_common": (u32, [c_void_p, c_size_t, u32, POINTER(Attr), c_size_t, POINTER(Record), POINTER(Common)]),
     "dewikura_read_late_attr": (u32, [c_void_p, c_size_t, u32, u64, POINTER(Attr), POINTER(u64), c_size_t, POINTER(u64)]),
     "dewikura_read_jit_chunk": (u32, [c_void_p, c_size_t, u32, u64, POINTER(JitRecord), c_size_t, POINTER(u64), POINTER(u64), POINTER(u8),
         POINTER(JitRecord)]),

@@ -50,9 +50,9 @@ impl FrameEntry {
     }
 }
 
-// Writes the entries of a call chain's frames, up to the capacity of `entries`. Returns the number of all
-// frames.
-pub(crate) fn write_frames(chain: &CallChain<'_>, entries: &mut [FrameEntry]) -> usize
+/// Writes the entries of a call chain's frames, up to the capacity of `entries`. Returns the number of all
+/// frames.
+pub fn write_frames(chain: &CallChain<'_>, entries: &mut [FrameEntry]) -> usize
     ensures count { result ≡ length (chain_entries (chain_values_of chain.now)) }
     ensures written { entries.new ≡ with_prefix (chain_entries (chain_values_of chain.now)) entries.old }
 {

@@ -1,0 +1,2 @@
+pub mod SingleRecords
+pub mod Events
