@@ -804,6 +804,84 @@ static void check_event_errors(void)
     }
 }
 
+// The sections that are numbers alone: how many bytes each number has.
+static void check_numbers(void)
+{
+    static const struct {
+        uint32_t feature;
+        uint8_t sizes[6];
+    } cases[] = {
+        {DEWIKURA_FEATURE_NRCPUS, {4, 4}},
+        {DEWIKURA_FEATURE_TOTAL_MEM, {8}},
+        {DEWIKURA_FEATURE_SAMPLE_TIME, {8, 8}},
+        {DEWIKURA_FEATURE_CLOCKID, {8}},
+        {DEWIKURA_FEATURE_DIR_FORMAT, {8}},
+        {DEWIKURA_FEATURE_COMPRESSED, {4, 4, 4, 4, 4}},
+        {DEWIKURA_FEATURE_CLOCK_DATA, {4, 4, 8, 8}},
+        {DEWIKURA_FEATURE_HOSTNAME, {0}},
+        {DEWIKURA_FEATURE_SIMPLEPERF_FILE2, {0}},
+        {UINT32_MAX, {0}},
+    };
+    uint64_t numbers[6], total;
+    size_t i, count, capacity, n;
+    for (i = 0; i < sizeof cases / sizeof *cases; i++) {
+        size = 0;
+        for (count = 0; cases[i].sizes[count]; count++)
+            put(0xfedcba00 + count, cases[i].sizes[count]);
+        for (capacity = 0; capacity <= 6; capacity++) {
+            memset(numbers, 0xab, sizeof numbers);
+            total = 7;
+            CHECK(dewikura_read_numbers(input, size, cases[i].feature, 0, numbers, capacity, &total), DEWIKURA_OK);
+            CHECK(total, count);
+            for (n = 0; n < 6; n++)
+                CHECK(numbers[n], n < count && n < capacity ? 0xfedcba00 + n : UINT64_C(0xabababababababab));
+        }
+        for (n = 0; n < size; n++) {
+            total = 7;
+            CHECK(dewikura_read_numbers(input, n, cases[i].feature, 0, numbers, 6, &total), DEWIKURA_TRUNCATED);
+            CHECK(total, 0);
+        }
+    }
+    size = 0;
+    put(0x01020304, 4);
+    put(0x05060708, 4);
+    CHECK(dewikura_read_numbers(input, size, DEWIKURA_FEATURE_NRCPUS, 1, numbers, 2, &total), DEWIKURA_OK);
+    CHECK(numbers[0], 0x04030201);
+    CHECK(numbers[1], 0x08070605);
+}
+
+static void check_pmu(void)
+{
+    struct dewikura_pmu pmu;
+    size_t n;
+    size = 0;
+    put(2, 4);
+    put(9, 4);
+    put(8, 4);
+    put_text("cpu", 8);
+    put(0x801, 4);
+    put(8, 4);
+    put_text("software", 8); // without a NUL
+    CHECK(dewikura_read_pmu(input, size, 0, 4, &pmu), DEWIKURA_OK);
+    CHECK(pmu.name_offset, 12);
+    CHECK(pmu.name_size, 3);
+    CHECK(pmu.next_offset, 20);
+    CHECK(pmu.event_type, 9);
+    CHECK(pmu.reserved, 0);
+    CHECK(dewikura_read_pmu(input, size, 0, pmu.next_offset, &pmu), DEWIKURA_OK);
+    CHECK(pmu.name_offset, 28);
+    CHECK(pmu.name_size, 8);
+    CHECK(pmu.next_offset, size);
+    CHECK(pmu.event_type, 0x801);
+    for (n = 20; n < size; n++)
+        CHECK(dewikura_read_pmu(input, n, 0, 20, &pmu), DEWIKURA_TRUNCATED);
+    CHECK(dewikura_read_pmu(input, size, 0, size, &pmu), DEWIKURA_TRUNCATED);
+    CHECK(dewikura_read_pmu(input, size, 0, UINT64_MAX, &pmu), DEWIKURA_TRUNCATED);
+    CHECK(dewikura_read_pmu(input, size, 1, 4, &pmu), DEWIKURA_TRUNCATED);
+    CHECK(dewikura_read_pmu(NONE, 0, 0, 0, &pmu), DEWIKURA_TRUNCATED);
+    CHECK(pmu.event_type, 0x801);
+}
+
 static void check_string(void)
 {
     struct dewikura_string string;
@@ -1430,6 +1508,8 @@ int main(void)
     check_dso_kinds();
     check_common();
     check_event_errors();
+    check_numbers();
+    check_pmu();
     check_string();
     check_meta_info();
     check_file_section();

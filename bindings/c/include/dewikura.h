@@ -470,6 +470,15 @@ struct dewikura_common {
     int32_t tid;
 };
 
+// A unit of PMU_MAPPINGS: what counts the events of a type. Offsets are in bytes from the start of the section.
+struct dewikura_pmu {
+    uint64_t name_offset; // of the name
+    uint64_t name_size;   // in bytes, up to the first NUL
+    uint64_t next_offset; // of the next unit
+    uint32_t event_type;  // as `type` of attributes
+    uint32_t reserved;    // 0
+};
+
 // The library has the same sizes.
 #if defined(__cplusplus)
 #define DEWIKURA_CHECK_SIZE(name, size) static_assert(sizeof(struct name) == size, "size of struct " #name)
@@ -508,6 +517,7 @@ DEWIKURA_CHECK_SIZE(dewikura_jit_debug_entry, 32);
 DEWIKURA_CHECK_SIZE(dewikura_elf_symbol, 32);
 DEWIKURA_CHECK_SIZE(dewikura_opening, 72);
 DEWIKURA_CHECK_SIZE(dewikura_common, 40);
+DEWIKURA_CHECK_SIZE(dewikura_pmu, 32);
 #undef DEWIKURA_CHECK_SIZE
 typedef char dewikura_has_64_bits[sizeof(size_t) == 8 ? 1 : -1];
 
@@ -1012,6 +1022,20 @@ DEWIKURA_NONNULL DEWIKURA_NODISCARD dewikura_status dewikura_dso_kind(const char
 // means that the section has no complete string at the offset; then *string is unchanged.
 DEWIKURA_NONNULL DEWIKURA_NODISCARD dewikura_status dewikura_read_string(const void *section, size_t size,
     uint32_t is_big_endian, uint64_t offset, struct dewikura_string *string);
+
+// Writes the numbers of a feature section that has nothing else, in its order, up to `capacity`. *total counts all of
+// them: NRCPUS has 2 (available, online), TOTAL_MEM 1 (in KiB), SAMPLE_TIME 2 (first, last), CLOCKID 1 (resolution in
+// ns), DIR_FORMAT 1 (version), COMPRESSED 5 (version, algorithm, level, ratio, mapped size), CLOCK_DATA 4 (version,
+// clock id, wall clock, clock time), another feature none. `section` contains the bytes of the feature.
+//
+// DEWIKURA_TRUNCATED means that the section doesn't contain all of them; then *total is 0 and the array is unchanged.
+DEWIKURA_NONNULL DEWIKURA_NODISCARD dewikura_status dewikura_read_numbers(const void *section, size_t size,
+    uint32_t feature, uint32_t is_big_endian, uint64_t *numbers, size_t capacity, uint64_t *total);
+
+// Writes the unit at an offset of the section PMU_MAPPINGS: the first is at offset 4, after a count of four bytes.
+// DEWIKURA_TRUNCATED means that the section has no complete unit at the offset, as at its end; then *pmu is unchanged.
+DEWIKURA_NONNULL DEWIKURA_NODISCARD dewikura_status dewikura_read_pmu(const void *section, size_t size,
+    uint32_t is_big_endian, uint64_t offset, struct dewikura_pmu *pmu);
 
 // Writes the positions of the keys and values in the section SIMPLEPERF_META_INFO, in its order, up to `capacity`.
 // `section` contains the bytes of the feature. If a key occurs more than once, its last value counts. *total counts all

@@ -6,6 +6,7 @@ ghost use Rattle.perfdata_arrays.specs.declared.status.Status.TheVariants.{Succe
 ghost use Rattle.perfdata_chunks.specs.Chunks.{ReadsChunk, start_status_code};
 ghost use Rattle.perfdata_chunks.specs.Common.{ReadsCommon};
 ghost use Rattle.perfdata_chunks.specs.Events.{ReadsEvent};
+ghost use Rattle.perfdata_chunks.specs.Numbers.{ReadsNumbers, ReadsPmu};
 ghost use Rattle.perfdata_chunks.specs.declared.status.StartStatus.{StartStatus};
 ghost use Rattle.perfdata_chunks.specs.declared.status.StartStatus.TheVariants.{Known};
 
@@ -20,8 +21,9 @@ use perfdata_arrays::samples::frame::FrameEntry;
 use perfdata_arrays::samples::sample::Sample;
 use perfdata_arrays::tasks::TaskEntry;
 use perfdata_chunks::common::Common;
+use perfdata_chunks::numbers::Pmu;
 use perfdata_chunks::opening::Opening;
-use perfdata_chunks::{common, events, jit_records, late_attr, opening, records};
+use perfdata_chunks::{common, events, jit_records, late_attr, numbers, opening, records};
 use std::alloc::Global;
 
 /// Reads the records of a chunk, as `records::chunk_records` does.
@@ -154,4 +156,36 @@ pub extern "C" fn dewikura_read_jit_chunk(
     *consumed = outcome.consumed;
     *has_next = outcome.has_next;
     outcome.status.code()
+}
+
+/// Reads the numbers of a feature section, as `numbers::read_numbers` does.
+#[unsafe(no_mangle)]
+pub extern "C" fn dewikura_read_numbers(
+    section: &[u8],
+    feature: u32,
+    is_big_endian: u32,
+    numbers: &mut [u64],
+    count: &mut u64,
+) -> u32
+    ensures { IsCodeOf result (λ s. ReadsNumbers (endian_from is_big_endian) feature section.now numbers.old
+        (record { count = count.new; status = s }) numbers.new) }
+{
+    let endian = endian_from_flag(is_big_endian);
+    let outcome = numbers::read_numbers(endian, section, feature, numbers);
+    *count = outcome.count;
+    outcome.status.code()
+}
+
+/// Reads a unit of the section PMU_MAPPINGS, as `numbers::read_pmu` does.
+#[unsafe(no_mangle)]
+pub extern "C" fn dewikura_read_pmu(
+    section: &[u8],
+    is_big_endian: u32,
+    offset: u64,
+    pmu: &mut Pmu,
+) -> u32
+    ensures { IsCodeOf result (λ s. ReadsPmu (endian_from is_big_endian) section.now offset pmu.old s
+        pmu.new) }
+{
+    numbers::read_pmu(endian_from_flag(is_big_endian), section, offset, pmu).code()
 }

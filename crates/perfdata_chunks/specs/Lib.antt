@@ -3,4 +3,5 @@ pub mod Chunks
 pub mod SingleRecords
 pub mod Common
 pub mod Events
+pub mod Numbers
 pub mod steps

@@ -14,6 +14,7 @@ pub mod jit_records;
 pub mod late_attr;
 pub mod laws;
 mod metadata;
+pub mod numbers;
 pub mod opening;
 pub mod records;
 mod single_records;

@@ -441,6 +441,16 @@ class Common(ctypes.Structure):
     _fields_ = [("timestamp", u64), ("id", u64), ("stream_id", u64), ("fields", u32), ("cpu", u32), ("pid", i32), ("tid", i32)]
 
 
+class Pmu(ctypes.Structure):
+    """A unit of PMU_MAPPINGS: what counts the events of a type. Offsets are in bytes from the start of the section."""
+
+    name_offset: int
+    name_size: int
+    next_offset: int
+    event_type: int
+    _fields_ = [("name_offset", u64), ("name_size", u64), ("next_offset", u64), ("event_type", u32), ("_reserved", u32)]
+
+
 # Of each struct the size, and the offset of each field.
 _LAYOUTS = {
     Cursor: (16, (0, 8)),
@@ -473,6 +483,7 @@ _LAYOUTS = {
     ElfSymbol: (32, (0, 8, 16, 24)),
     Opening: (72, (0, 8, 16, 24, 32, 40, 48, 56, 64, 68)),
     Common: (40, (0, 8, 16, 24, 28, 32, 36)),
+    Pmu: (32, (0, 8, 16, 24, 28)),
 }
 for _struct, _layout in _LAYOUTS.items():
     if (ctypes.sizeof(_struct), tuple(getattr(_struct, name).offset for name, *_ in _struct._fields_)) != _layout:
@@ -515,6 +526,8 @@ _EXPORTS = {
     "dewikura_read_build_id": (u32, [c_void_p, c_size_t, u32, u64, POINTER(BuildId)]),
     "dewikura_dso_kind": (u32, [c_void_p, c_size_t, u16, POINTER(u32)]),
     "dewikura_read_string": (u32, [c_void_p, c_size_t, u32, u64, POINTER(StringEntry)]),
+    "dewikura_read_numbers": (u32, [c_void_p, c_size_t, u32, u32, POINTER(u64), c_size_t, POINTER(u64)]),
+    "dewikura_read_pmu": (u32, [c_void_p, c_size_t, u32, u64, POINTER(Pmu)]),
     "dewikura_read_meta_info": (u32, [c_void_p, c_size_t, POINTER(MetaPair), c_size_t, POINTER(u64)]),
     "dewikura_read_symbol_tables": (u32, [c_void_p, c_size_t, u32, u32, POINTER(SymbolFile), c_size_t, POINTER(Symbol), c_size_t, c_void_p,
         c_size_t, POINTER(u64), c_size_t, POINTER(SymbolTotals)]),
