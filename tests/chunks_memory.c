@@ -1,6 +1,6 @@
 // Makes the calls on chunks fail at each of their allocations in turn, and at all later ones: they return DEWIKURA_OUT_OF_MEMORY after the records before, of
 // which each is written once, and a call with memory goes on there. Only records of a pipe with metadata need memory. Does the same with
-// dewikura_dso_kind, which writes nothing.
+// dewikura_read_error, whose numbers then are those of that error, and with dewikura_dso_kind, which writes nothing.
 #include "dewikura.h"
 #include <stdio.h>
 #include <stdlib.h>
@@ -86,6 +86,23 @@ static uint64_t read_all(uint64_t *failures)
     return total;
 }
 
+static void check_error(void)
+{
+    struct dewikura_error error;
+    dewikura_status status;
+    failing_request = 0;
+    do {
+        failing_request++;
+        requests = 0;
+        is_counting = 1;
+        status = dewikura_read_error(data, size, &error);
+        is_counting = 0;
+        if (status != error.status) fail("another status of the first error", error.status);
+        if (status == DEWIKURA_OUT_OF_MEMORY && requests < failing_request) fail("out of memory, and no allocation failed", failing_request);
+    } while (status == DEWIKURA_OUT_OF_MEMORY);
+    if (status != DEWIKURA_OK || requests >= failing_request || failing_request < 2) fail("no error where an allocation failed", failing_request);
+}
+
 static void check_dso_kind(const char *path, uint16_t misc, uint32_t wanted, int needs_memory)
 {
     uint32_t kind = 77;
@@ -118,6 +135,7 @@ int main(int argc, char **argv)
         if (read_all(&failures) != wanted) fail("another number of records", failing_request);
     } while (failures > before);
     if (failing_request < 2) fail("the number of allocations", failing_request);
+    check_error();
     check_dso_kind("/usr/bin/true", DEWIKURA_MODE_USER, DEWIKURA_DSO_USER, 1);
     check_dso_kind("/lib/ext4.ko", DEWIKURA_MODE_KERNEL, DEWIKURA_DSO_KERNEL_MODULE, 1);
     check_dso_kind("[vdso]", DEWIKURA_MODE_USER, DEWIKURA_DSO_VDSO64, 0);

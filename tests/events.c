@@ -1,6 +1,6 @@
 // `events PATH` reads each record of a file or pipe alone, by dewikura_read_event and dewikura_read_common. What it writes is what the calls on the whole
 // input write, and the first words of a sample or the last ones of another record, as this program parses them. Each body is a copy of its own size.
-// What a record isn't is unchanged, and an error changes nothing.
+// What a record isn't is unchanged, and an error changes nothing. dewikura_read_error finds the first error of prefixes of the input.
 #include "dewikura.h"
 #include <inttypes.h>
 #include <stdio.h>
@@ -308,6 +308,35 @@ static void check_in_place(void)
     if (next != task_count) fail("fewer tasks", next);
 }
 
+// The first error of the first bytes of the input is that of the call that reads their records, at the offset where it ends.
+static void check_error(size_t count)
+{
+    static const struct dewikura_error none;
+    struct dewikura_cursor cursor = {0, 0};
+    struct dewikura_error error;
+    uint8_t *copy = allocate(count, 1);
+    uint64_t total;
+    dewikura_status wanted;
+    memcpy(copy, data, count);
+    if (dewikura_input_kind(copy, count) == DEWIKURA_KIND_PIPE)
+        wanted = dewikura_read_pipe_records(copy, count, 0, records, size / 8 + 1, &total);
+    else
+        wanted = dewikura_read_file_records(copy, count, &cursor, records, size / 8 + 1, &total);
+    memset(&error, FILL, sizeof error);
+    if (dewikura_read_error(copy, count, &error) != wanted || error.status != wanted) fail("another first error", count);
+    if (wanted == DEWIKURA_OK && memcmp(&error, &none, sizeof none)) fail("numbers without an error", count);
+    if (kind == DEWIKURA_KIND_FILE && error.offset != (error.has_offset ? cursor.offset : 0)) fail("an error at another offset", count);
+    if (wanted != DEWIKURA_OK && total && !error.has_offset) fail("an error of a record without an offset", count);
+    free(copy);
+}
+
+static void check_errors_of_prefixes(void)
+{
+    size_t i;
+    for (i = 0; i <= size && i < 200; i++) check_error(i);
+    for (i = 0; i <= 100; i++) check_error((size_t)((double)size * (double)i / 100));
+}
+
 int main(int argc, char **argv)
 {
     FILE *stream = argc == 2 ? fopen(argv[1], "rb") : NULL;
@@ -325,6 +354,7 @@ int main(int argc, char **argv)
     for (i = 0; i < record_count; i++) check_record(i);
     if (next_sample != sample_count || next_task != task_count || next_mapping != mapping_count || next_counter != counter_count) fail("fewer entries", i);
     check_in_place();
+    check_errors_of_prefixes();
     free(records);
     free(samples);
     free(frames);

@@ -850,6 +850,60 @@ static void check_numbers(void)
     CHECK(numbers[1], 0x08070605);
 }
 
+// The numbers of errors: an input without the magic, an attribute that is larger than its entry, two attributes that aren't consistent, and a record with a
+// size below 8 after another record.
+static void check_errors(void)
+{
+    struct dewikura_error error;
+    size_t i, case_number;
+    memset(&error, 0xab, sizeof error);
+    for (i = 0; i < 104; i++)
+        input[i] = (uint8_t)(i + 1);
+    CHECK(dewikura_read_error(input, 104, &error), DEWIKURA_BAD_MAGIC);
+    CHECK(error.status, DEWIKURA_BAD_MAGIC);
+    CHECK(error.has_offset | error.offset | error.attr_size | error.entry_size | error.attr_index, 0);
+    for (i = 0; i < 8; i++)
+        CHECK(error.magic[i], i + 1);
+    for (case_number = 0; case_number < 4; case_number++) {
+        static const dewikura_status wanted[] = {DEWIKURA_ATTRIBUTE_TOO_LARGE, DEWIKURA_MISSING_IDENTIFIER, DEWIKURA_SAMPLE_ID_ALL_MISMATCH,
+            DEWIKURA_BAD_RECORD_SIZE};
+        size = 0;
+        put_text("PERFILE2", 8);
+        put(104, 8);
+        put(152, 8); // size of an entry: an attribute and its ids' section
+        put(104, 8); // of attributes
+        put(2 * 152, 8);
+        put(408, 8); // of the records
+        put(24, 8);
+        put(0, 8 + 8 + 32);
+        for (i = 0; i < 2; i++) {
+            put_attr(1, DEWIKURA_SAMPLE_IDENTIFIER);
+            put(0, 16);
+        }
+        if (case_number == 0)
+            put_at(104 + 152 + 4, 153, 4); // own size of the second attribute
+        if (case_number == 1)
+            put_at(104 + 152 + 24, 0, 8); // its sample type
+        if (case_number == 2)
+            put_at(104 + 152 + 40, 0, 8); // its flags
+        put_header(DEWIKURA_RECORD_SAMPLE, 0, 16);
+        put(1, 8);
+        put_header(DEWIKURA_RECORD_SAMPLE, 0, 7);
+        CHECK(dewikura_read_error(input, size, &error), wanted[case_number]);
+        CHECK(error.status, wanted[case_number]);
+        CHECK(error.attr_size, case_number == 0 ? 153 : 0);
+        CHECK(error.entry_size, case_number == 0 ? 152 : 0);
+        CHECK(error.attr_index, case_number == 1 || case_number == 2);
+        CHECK(error.has_offset, case_number == 3);
+        CHECK(error.offset, case_number == 3 ? 16 : 0);
+        for (i = 0; i < 8; i++)
+            CHECK(error.magic[i], 0);
+    }
+    put_at(408 + 16 + 6, 8, 2);
+    CHECK(dewikura_read_error(input, size, &error), DEWIKURA_OK);
+    CHECK(error.status | error.has_offset | error.offset, 0);
+}
+
 static void check_pmu(void)
 {
     struct dewikura_pmu pmu;
@@ -1510,6 +1564,7 @@ int main(void)
     check_event_errors();
     check_numbers();
     check_pmu();
+    check_errors();
     check_string();
     check_meta_info();
     check_file_section();

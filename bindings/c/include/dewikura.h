@@ -479,6 +479,17 @@ struct dewikura_pmu {
     uint32_t reserved;    // 0
 };
 
+// The first error of an input, in numbers. What the error doesn't have is 0.
+struct dewikura_error {
+    uint64_t offset;     // of the record in error or of the round markers before it, in bytes from the first record
+    uint64_t attr_size;  // own size of the attribute, in bytes (DEWIKURA_ATTRIBUTE_TOO_LARGE)
+    uint64_t entry_size; // of the entry that holds the attribute, in bytes
+    uint64_t attr_index; // of the attribute (DEWIKURA_MISSING_IDENTIFIER, DEWIKURA_SAMPLE_ID_ALL_MISMATCH)
+    uint8_t magic[8];    // first bytes of the input (DEWIKURA_BAD_MAGIC)
+    uint32_t status;     // the dewikura_status
+    uint32_t has_offset; // 1 for an error of a record; 0 if the input doesn't open, or has no error
+};
+
 // The library has the same sizes.
 #if defined(__cplusplus)
 #define DEWIKURA_CHECK_SIZE(name, size) static_assert(sizeof(struct name) == size, "size of struct " #name)
@@ -518,6 +529,7 @@ DEWIKURA_CHECK_SIZE(dewikura_elf_symbol, 32);
 DEWIKURA_CHECK_SIZE(dewikura_opening, 72);
 DEWIKURA_CHECK_SIZE(dewikura_common, 40);
 DEWIKURA_CHECK_SIZE(dewikura_pmu, 32);
+DEWIKURA_CHECK_SIZE(dewikura_error, 48);
 #undef DEWIKURA_CHECK_SIZE
 typedef char dewikura_has_64_bits[sizeof(size_t) == 8 ? 1 : -1];
 
@@ -1123,6 +1135,12 @@ DEWIKURA_NONNULL DEWIKURA_NODISCARD dewikura_status dewikura_elf_build_id(const 
 // Returns DEWIKURA_OK, or DEWIKURA_OUT_OF_MEMORY: then *text_size is 0, and the array is unchanged.
 DEWIKURA_NONNULL DEWIKURA_NODISCARD dewikura_status dewikura_demangle(const char *name, size_t size, uint32_t style,
     char *text, size_t capacity, uint64_t *text_size);
+
+// Writes the first error of an input in numbers, and returns its status: that of the calls that read the records of a
+// whole file or pipe. dewikura_input_kind says as which of them the input is read; what is neither is read as a file.
+// All records are read. Without an error, *error is zeros.
+DEWIKURA_NONNULL DEWIKURA_NODISCARD dewikura_status dewikura_read_error(const void *data, size_t size,
+    struct dewikura_error *error);
 
 // ---- chunks: inputs larger than memory, and pipes that are still written
 //

@@ -1,12 +1,15 @@
 //! C exports of the calls of `perfdata_chunks`.
-ghost use Rattle.std.specs.Prelude.{◌≡◌, ◌≢◌, ◌≤◌, length};
+ghost use Rattle.std.specs.Prelude.{◌≡◌, ◌≢◌, ◌≤◌, Option, length};
+ghost use Rattle.std.specs.Option.{unwrap_or};
 ghost use Rattle.dewikura.specs.Numbers.{endian_from};
 ghost use Rattle.perfdata_arrays.specs.Status.{IsCodeOf};
 ghost use Rattle.perfdata_arrays.specs.declared.status.Status.TheVariants.{Success};
 ghost use Rattle.perfdata_chunks.specs.Chunks.{ReadsChunk, start_status_code};
 ghost use Rattle.perfdata_chunks.specs.Common.{ReadsCommon};
 ghost use Rattle.perfdata_chunks.specs.Events.{ReadsEvent};
+ghost use Rattle.perfdata_chunks.specs.InputErrors.{FindsError, no_error};
 ghost use Rattle.perfdata_chunks.specs.Numbers.{ReadsNumbers, ReadsPmu};
+ghost use Rattle.perfdata_chunks.specs.declared.input_errors.InputError.{InputError};
 ghost use Rattle.perfdata_chunks.specs.declared.status.StartStatus.{StartStatus};
 ghost use Rattle.perfdata_chunks.specs.declared.status.StartStatus.TheVariants.{Known};
 
@@ -21,9 +24,12 @@ use perfdata_arrays::samples::frame::FrameEntry;
 use perfdata_arrays::samples::sample::Sample;
 use perfdata_arrays::tasks::TaskEntry;
 use perfdata_chunks::common::Common;
+use perfdata_chunks::input_errors::InputError;
 use perfdata_chunks::numbers::Pmu;
 use perfdata_chunks::opening::Opening;
-use perfdata_chunks::{common, events, jit_records, late_attr, numbers, opening, records};
+use perfdata_chunks::{
+    common, events, input_errors, jit_records, late_attr, numbers, opening, records,
+};
 use std::alloc::Global;
 
 /// Reads the records of a chunk, as `records::chunk_records` does.
@@ -188,4 +194,14 @@ pub extern "C" fn dewikura_read_pmu(
         pmu.new) }
 {
     numbers::read_pmu(endian_from_flag(is_big_endian), section, offset, pmu).code()
+}
+
+/// Reads the first error of an input in numbers, as `input_errors::read_error` does.
+#[unsafe(no_mangle)]
+pub extern "C" fn dewikura_read_error(alloc: Global, input: &[u8], error: &mut InputError) -> u32
+    ensures found { (found : Option InputError) × FindsError input.now found × (error.new
+        ≡ unwrap_or found no_error) }
+    ensures status { result ≡ error.new.status }
+{
+    input_errors::read_error(alloc, input, error)
 }

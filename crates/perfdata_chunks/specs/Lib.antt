@@ -4,4 +4,5 @@ pub mod SingleRecords
 pub mod Common
 pub mod Events
 pub mod Numbers
+pub mod InputErrors
 pub mod steps

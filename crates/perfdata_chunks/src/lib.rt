@@ -10,6 +10,7 @@ mod attributes;
 pub mod common;
 pub mod events;
 mod framing;
+pub mod input_errors;
 pub mod jit_records;
 pub mod late_attr;
 pub mod laws;

@@ -451,6 +451,20 @@ class Pmu(ctypes.Structure):
     _fields_ = [("name_offset", u64), ("name_size", u64), ("next_offset", u64), ("event_type", u32), ("_reserved", u32)]
 
 
+class Error(ctypes.Structure):
+    """The first error of an input, in numbers. What the error doesn't have is 0."""
+
+    offset: int
+    attr_size: int
+    entry_size: int
+    attr_index: int
+    magic: int
+    status: int
+    has_offset: int
+    _fields_ = [("offset", u64), ("attr_size", u64), ("entry_size", u64), ("attr_index", u64), ("magic", u8 * 8), ("status", u32),
+        ("has_offset", u32)]
+
+
 # Of each struct the size, and the offset of each field.
 _LAYOUTS = {
     Cursor: (16, (0, 8)),
@@ -484,6 +498,7 @@ _LAYOUTS = {
     Opening: (72, (0, 8, 16, 24, 32, 40, 48, 56, 64, 68)),
     Common: (40, (0, 8, 16, 24, 28, 32, 36)),
     Pmu: (32, (0, 8, 16, 24, 28)),
+    Error: (48, (0, 8, 16, 24, 32, 40, 44)),
 }
 for _struct, _layout in _LAYOUTS.items():
     if (ctypes.sizeof(_struct), tuple(getattr(_struct, name).offset for name, *_ in _struct._fields_)) != _layout:
@@ -541,6 +556,7 @@ _EXPORTS = {
     "dewikura_read_elf_symbols": (u32, [c_void_p, c_size_t, POINTER(ElfSymbol), c_size_t, POINTER(u64)]),
     "dewikura_elf_build_id": (u32, [c_void_p, c_size_t, POINTER(u8), c_size_t, POINTER(u64)]),
     "dewikura_demangle": (u32, [c_void_p, c_size_t, u32, c_void_p, c_size_t, POINTER(u64)]),
+    "dewikura_read_error": (u32, [c_void_p, c_size_t, POINTER(Error)]),
     "dewikura_read_opening": (u32, [c_void_p, c_size_t, POINTER(Opening)]),
     "dewikura_read_chunk_records": (u32, [c_void_p, c_size_t, u32, POINTER(Attr), c_size_t, POINTER(u64), c_size_t, POINTER(Cursor),
         POINTER(Record), c_size_t, POINTER(u64), POINTER(u64)]),
