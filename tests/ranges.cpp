@@ -1,5 +1,5 @@
 // `ranges PATH` reads a recording by dewikura.hpp: whole, by chunks of several sizes and page sizes, and by its features. The records by chunks are those of the
-// whole recording, with the same bodies, and the same error comes after them. Prints the samples of each event, as follow.c does.
+// whole recording, with the same bodies, which say the same, and the same error comes after them. Prints the samples of each event, as follow.c does.
 #include "dewikura.hpp"
 
 #include <cstdio>
@@ -24,6 +24,32 @@ static void expect(bool holds, const char *what, std::size_t number = 0)
 
 static bool same_body(dewikura::bytes left, dewikura::bytes right) { return std::ranges::equal(left, right); }
 
+template <typename T>
+static bool same(const T &left, const T &right) { return std::memcmp(&left, &right, sizeof left) == 0; }
+
+// Whether two records say the same. Their names and paths are at the same offsets in their bodies.
+static bool same_event(const dewikura::event &event, const dewikura_record &record, dewikura::event other, const dewikura_record &other_record)
+{
+    if (other.task.name_offset)
+        other.task.name_offset += record.body_offset - other_record.body_offset;
+    if (other.mapping.type)
+        other.mapping.path_offset += record.body_offset - other_record.body_offset;
+    return same(event.sample, other.sample) && same(event.task, other.task) && same(event.mapping, other.mapping)
+        && std::ranges::equal(event.frames, other.frames, same<dewikura_frame>) && std::ranges::equal(event.counters, other.counters, same<dewikura_counter>);
+}
+
+// The status of a call, which throws it as an error.
+template <typename F>
+static dewikura_status status_of(F call)
+{
+    try {
+        call();
+        return DEWIKURA_OK;
+    } catch (const dewikura::error &error) {
+        return error.status();
+    }
+}
+
 // Reads in pieces, and compares each page with the records of the whole recording.
 static void check_pieces(dewikura::bytes data, const dewikura::recording &whole, const std::vector<dewikura_record> &records, dewikura_status wanted,
     std::size_t piece_size, std::size_t page_size)
@@ -43,6 +69,15 @@ static void check_pieces(dewikura::bytes data, const dewikura::recording &whole,
                             && record.has_timestamp == other.has_timestamp && record.has_attr == other.has_attr,
                         "another record", read);
                     expect(same_body(reader.body(record), whole.body(other)), "another body", read);
+                    dewikura::event event, other_event;
+                    dewikura_common common{}, other_common{};
+                    dewikura_status events = status_of([&] { event = reader.event(record), common = reader.common(record); });
+                    expect(events == status_of([&] {
+                        other_event = dewikura::read_event(data, whole.is_big_endian(), reader.events(), other);
+                        other_common = dewikura::read_common(data, whole.is_big_endian(), reader.events(), other);
+                    }), "another status of an event", read);
+                    expect(events != DEWIKURA_OK || same_event(event, record, other_event, other), "another event", read);
+                    expect(events != DEWIKURA_OK || same(common, other_common), "other common fields", read);
                 }
         }
         reader.finish();

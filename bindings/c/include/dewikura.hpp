@@ -104,6 +104,42 @@ public:
     }
 };
 
+// What the body of a record says. What the record isn't is zeros, and empty.
+struct event {
+    dewikura_sample sample{};
+    std::vector<dewikura_frame> frames;
+    dewikura_task task{};
+    dewikura_mapping mapping{};
+    std::vector<dewikura_counter> counters;
+};
+
+// Returns what the body of a record says. Its `body_offset` counts from the start of `chunk`, and so do the offsets of names and paths.
+inline event read_event(bytes chunk, bool is_big_endian, const attributes &events, const dewikura_record &record)
+{
+    event found;
+    std::uint64_t frames = 0, counters = 0;
+    static const dewikura_attr no_attr{};
+    const dewikura_attr *attrs = events.attrs.empty() ? &no_attr : events.attrs.data();
+    do {
+        found.frames.resize(frames);
+        found.counters.resize(counters);
+        check(dewikura_read_event(detail::address(chunk), chunk.size(), is_big_endian, attrs, events.attrs.size(), &record, &found.sample,
+            detail::address(found.frames), found.frames.size(), &frames, &found.task, &found.mapping, detail::address(found.counters), found.counters.size(),
+            &counters));
+    } while (frames > found.frames.size() || counters > found.counters.size());
+    return found;
+}
+
+// Returns who wrote a record, when and where.
+inline dewikura_common read_common(bytes chunk, bool is_big_endian, const attributes &events, const dewikura_record &record)
+{
+    static const dewikura_attr no_attr{};
+    const dewikura_attr *attrs = events.attrs.empty() ? &no_attr : events.attrs.data();
+    dewikura_common found{};
+    check(dewikura_read_common(detail::address(chunk), chunk.size(), is_big_endian, attrs, events.attrs.size(), &record, &found));
+    return found;
+}
+
 // A recording in memory, which the caller keeps.
 class recording {
 public:
@@ -235,6 +271,10 @@ public:
 
     // The body of a record of the last page.
     bytes body(const dewikura_record &record) const { return bytes(pending_).subspan(record.body_offset, record.body_size); }
+
+    // What the body of a record of the last page says, and who wrote the record, when and where.
+    dewikura::event event(const dewikura_record &record) const { return read_event(pending_, opening_.is_big_endian, events_, record); }
+    dewikura_common common(const dewikura_record &record) const { return read_common(pending_, opening_.is_big_endian, events_, record); }
 
     // The attributes so far; none before the opening is read.
     const dewikura::attributes &events() const noexcept { return events_; }
