@@ -1,4 +1,5 @@
 //! The content of compressed records: whole records, block by block.
+ghost use Rattle.std.specs.Prelude.{◌≤◌, length};
 
 use crate::error::CompressedError;
 use crate::record_step::HEADER_SIZE;
@@ -38,6 +39,20 @@ pub(crate) fn bytes_between(bytes: &[u8], start: usize, end: usize) -> &[u8] {
     let (before, _) = bytes.split_at(end.min(bytes.len()));
     let (_, between) = before.split_at(start.min(before.len()));
     between
+}
+
+/// Copies bytes from an index on, as many as there are.
+pub(crate) fn copy_from_index(bytes: &[u8], index: u64, buf: &mut [u8]) -> usize
+    ensures bound { result ≤ length buf.new }
+{
+    let start = usize::try_from(index)
+        .unwrap_or(usize::MAX)
+        .min(bytes.len());
+    let (_, rest) = bytes.split_at(start);
+    let count = rest.len().min(buf.len());
+    let (copied, _) = rest.split_at(count);
+    buf[..count].copy_from_slice(copied);
+    count
 }
 
 // The size of the record at the start of the bytes. `None` if it isn't whole.

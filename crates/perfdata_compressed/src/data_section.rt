@@ -4,11 +4,18 @@ ghost use Rattle.std.specs.Io.{ReadsAtMost};
 use crate::content::ContentEnd;
 use crate::error::CompressedError;
 use crate::file_layout::FileLayout;
+use crate::kept_records::KeptRecords;
 use crate::pipe::take_known;
 use crate::plain_records::PlainRecords;
 use perfdata_base::endian::Endianness;
 use std::alloc::Global;
 use std::io::{Read, Result, Seek, SeekFrom};
+
+// The size in bytes of the first records, from which the size of all is judged.
+const JUDGED_SIZE: u64 = 1 << 20;
+
+// The judged size in bytes of records from which on none are kept: twice what is kept.
+const TOO_LONG: u64 = 1 << 24;
 
 /// The records of a data section without compression, from a position on.
 #[derive(Drop)]
@@ -24,6 +31,9 @@ pub(crate) struct DataSection {
     records: PlainRecords,
     // How many bytes of the records were taken.
     position: u64,
+    kept: KeptRecords,
+    // Why content after the kept records can't be read.
+    error: Option<CompressedError>,
 }
 
 impl DataSection {
@@ -47,6 +57,8 @@ impl DataSection {
             next: layout.data_start(),
             records: PlainRecords::of_section(alloc, layout.endian, algorithm)?,
             position: 0,
+            kept: KeptRecords::new(alloc),
+            error: None,
         })
     }
 
@@ -97,18 +109,63 @@ impl DataSection {
         self.position = self.position.saturating_add(count as u64);
     }
 
-    /// Reads all records. Returns their size in bytes up to the end, or to content that can't be read, and
-    /// where the content ends.
-    pub(crate) fn measure<R: Read + Seek>(&mut self, source: &mut R) -> Result<(u64, ContentEnd)> {
+    // Whether the records will be too many to keep, by what was read of the section so far.
+    fn is_too_long(&self) -> bool {
+        let unread = self.records.rest().len() as u64;
+        let read = self.next.saturating_sub(self.start).saturating_sub(unread);
+        let size = self.end.saturating_sub(self.start);
+        self.position >= JUDGED_SIZE
+            && self.position.saturating_mul(size) > TOO_LONG.saturating_mul(read)
+    }
+
+    // Keeps the bytes that are known. The file has those before the first compressed record.
+    fn keep(&mut self, count: usize) {
+        if !self.records.has_compressed() {
+            self.kept.skip(count);
+        } else if self.is_too_long() {
+            self.kept.forget();
+        } else {
+            self.kept.add(self.records.known());
+        }
+    }
+
+    // Reads all records, and keeps them. Returns their size in bytes up to the end, or to content that can't
+    // be read, and where the content ends.
+    fn measure_records<R: Read + Seek>(&mut self, source: &mut R) -> Result<(u64, ContentEnd)> {
         self.restart()?;
         for _ in 0..u64::MAX {
             match self.count_known(source)? {
                 Ok(0) => break,
-                Ok(count) => self.take(count),
+                Ok(count) => {
+                    self.keep(count);
+                    self.take(count);
+                }
                 Err(error) => return Ok((self.position, ContentEnd::Error(error))),
             }
         }
         Ok((self.position, self.records.content_end()))
+    }
+
+    /// Reads all records. Returns their size in bytes up to the end, or to content that can't be read, and
+    /// where the content ends.
+    pub(crate) fn measure<R: Read + Seek>(&mut self, source: &mut R) -> Result<(u64, ContentEnd)> {
+        let (size, end) = self.measure_records(source)?;
+        let error = match end {
+            ContentEnd::Error(error) => Some(error),
+            _ => None,
+        };
+        if !self.kept.is_complete() {
+            return Ok((size, end));
+        }
+        if error.is_some_and(|error| error.is_out_of_memory()) {
+            self.kept.forget();
+            return self.measure_records(source);
+        }
+        if !self.keeps_unreadable {
+            self.error = error;
+        }
+        self.records.free(self.alloc);
+        Ok((size, end))
     }
 
     // Moves to a position, from the start if it was passed. Returns `false` if the records end before.
@@ -131,7 +188,30 @@ impl DataSection {
         Ok(false)
     }
 
-    /// Reads the bytes at a position of the records.
+    // Reads the bytes at a position of the records, which are kept.
+    fn read_kept<R: Read + Seek>(
+        &mut self,
+        source: &mut R,
+        position: u64,
+        buf: &mut [u8],
+    ) -> Result<usize>
+        ensures bound { ReadsAtMost result buf.new }
+    {
+        if let Some(left) = self.kept.start().checked_sub(position)
+            && left != 0
+        {
+            source.seek(SeekFrom::Start(self.start.saturating_add(position)))?;
+            let size = usize::try_from(left).unwrap_or(usize::MAX).min(buf.len());
+            return source.read(&mut buf[..size]);
+        }
+        let count = self.kept.take(position, buf);
+        match self.error {
+            Some(error) if count == 0 && !buf.is_empty() => Err(error.io_error()),
+            _ => Ok(count),
+        }
+    }
+
+    /// Reads the bytes at a position of the records, which were measured.
     pub(crate) fn read<R: Read + Seek>(
         &mut self,
         source: &mut R,
@@ -140,6 +220,9 @@ impl DataSection {
     ) -> Result<usize>
         ensures bound { ReadsAtMost result buf.new }
     {
+        if self.kept.has(position) {
+            return self.read_kept(source, position, buf);
+        }
         if !self.move_position(source, position)? {
             return Ok(0);
         }

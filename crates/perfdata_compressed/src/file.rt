@@ -1,8 +1,7 @@
 //! The bytes of a file without compression.
-ghost use Rattle.std.specs.Prelude.{◌≤◌, length};
 ghost use Rattle.std.specs.Io.{ReadsAtMost};
 
-use crate::content::ContentEnd;
+use crate::content::{ContentEnd, copy_from_index};
 use crate::data_section::DataSection;
 use crate::file_layout::{FileLayout, number_bytes};
 use std::alloc::Global;
@@ -35,9 +34,10 @@ pub fn is_compressed_file<R: Read + Seek>(alloc: Global, source: &mut R) -> Resu
 /// size of these data, and the sections of features, which follow them, move with their table. All other
 /// bytes are those of the file.
 ///
-/// The data are decompressed once at the opening, for their size, and again as they are read. A seek to bytes
-/// of the data before those that were read starts again at the first record. Beside a buffer of 64 KiB a
-/// window (up to 128 MiB), a block (128 KiB) and a record are held.
+/// The data are decompressed once at the opening, for their size. Up to 8 MiB of them, from the first
+/// compressed record on, are kept if there is memory for them. Larger ones are decompressed again as they are
+/// read, and a seek to bytes before those that were read starts again at the first record. Beside a buffer of
+/// 64 KiB a window (up to 128 MiB), a block (128 KiB) and a record are held.
 ///
 /// A file without the size of its data section, or that doesn't contain the whole section, is without
 /// compression such a file too: its data are those up to its end. From a record on whose size is too small,
@@ -79,20 +79,6 @@ enum Part {
     Data(u64),
     // In the table of sections.
     Table(u64),
-}
-
-// Copies bytes from an index on, as many as there are.
-fn copy_from_index(bytes: &[u8], index: u64, buf: &mut [u8]) -> usize
-    ensures bound { result ≤ length buf.new }
-{
-    let start = usize::try_from(index)
-        .unwrap_or(usize::MAX)
-        .min(bytes.len());
-    let (_, rest) = bytes.split_at(start);
-    let count = rest.len().min(buf.len());
-    let (copied, _) = rest.split_at(count);
-    buf[..count].copy_from_slice(copied);
-    count
 }
 
 // The position at an offset from another one. `None` if it isn't in 0 to `u64::MAX`.

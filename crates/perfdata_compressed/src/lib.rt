@@ -10,6 +10,7 @@ mod data_section;
 mod error;
 mod file;
 mod file_layout;
+mod kept_records;
 mod pipe;
 mod plain_records;
 mod record_step;

@@ -49,6 +49,7 @@ pub(crate) struct PlainRecords {
     error: Option<CompressedError>,
     // Where the compressed record starts whose content is read.
     record: usize,
+    has_compressed: bool,
     // Whether all bytes from a compressed record on pass through if its content can't be read.
     keeps_unreadable: bool,
 }
@@ -93,6 +94,7 @@ impl PlainRecords {
             algorithm,
             error: None,
             record: 0,
+            has_compressed: false,
             keeps_unreadable: false,
         })
     }
@@ -121,8 +123,20 @@ impl PlainRecords {
         self.keeps_unreadable = true;
     }
 
-    // The input that wasn't taken.
-    fn rest(&self) -> &[u8] {
+    /// Whether a compressed record was read.
+    pub(crate) fn has_compressed(&self) -> bool {
+        self.has_compressed
+    }
+
+    /// Frees the memory of the buffer and of the content. No record is left.
+    pub(crate) fn free(&mut self, alloc: Global) {
+        self.input = Vec::new(alloc);
+        self.content = Content::new(alloc);
+        self.part = Part::Rest;
+    }
+
+    /// The input that wasn't taken.
+    pub(crate) fn rest(&self) -> &[u8] {
         bytes_between(&self.input, self.start, self.end)
     }
 
@@ -136,8 +150,8 @@ impl PlainRecords {
         }
     }
 
-    // The bytes that can be taken.
-    fn known(&self) -> &[u8] {
+    /// The bytes that can be taken.
+    pub(crate) fn known(&self) -> &[u8] {
         let records = self.content.records();
         if !records.is_empty() {
             return records;
@@ -264,6 +278,7 @@ impl PlainRecords {
         }
         let (start, end) = data_range(self.endian, record, has_size)?;
         let record = self.start;
+        self.has_compressed = true;
         self.part = Part::Compressed(record.saturating_add(start), record.saturating_add(end));
         self.start = record.saturating_add(size);
         Ok(true)
