@@ -5,7 +5,7 @@ ghost use Rattle.perfdata_sources.specs.Source.{opaque_source};
 ghost use Rattle.perfdata_cli.specs.Inputs.{OpensInMemory};
 
 use crate::error::InputError;
-use crate::input_bytes::{InputBytes, RawBytes, Unread};
+use crate::input_bytes::{InputBytes, RawBytes, UNREADABLE_SIZE, Unread};
 use crate::other_format::OtherFormat;
 use linux_perf_data::in_memory::InMemoryReader;
 pub use linux_perf_data::input_kind::InputKind;
@@ -39,6 +39,10 @@ const STANDARD_INPUT_PATH: &str = "/dev/stdin";
 
 // The name of standard input in messages.
 const STANDARD_INPUT_NAME: &str = "standard input";
+
+// A record header with the size 0, in place of the one at which a read of a file fails if content can't be
+// read.
+const UNREADABLE: [u8; UNREADABLE_SIZE] = [0; UNREADABLE_SIZE];
 
 /// Returns the input that a FILE argument names: standard input if there is none and standard input is a
 /// FIFO, else the default.
@@ -109,6 +113,9 @@ fn is_threads_directory(rt: &HostRuntime, path: &str) -> Result<bool> {
 }
 
 impl OpenInput {
+    ghost use Rattle.std.specs.Prelude.{Some};
+    ghost use Rattle.linux_perf_data.specs.declared.input_kind.InputKind.TheVariants.{File};
+    ghost use Rattle.perfdata_compressed.specs.declared.content.ContentEnd.TheVariants.{Whole};
     ghost use Rattle.perfdata_cli.specs.Inputs.{IsPipe};
 
     /// Opens the input at a path and reads its first bytes, of which the first read may wait.
@@ -216,14 +223,22 @@ impl OpenInput {
     }
 
     /// Reads the input into memory, a recording without compression. Returns its bytes, and where the content
-    /// of a file's compressed records ends.
+    /// of a file's compressed records ends, which is whole for other inputs. If content of a file can't be
+    /// read, the record header at which a reader gets the error has the size 0.
     ///
-    /// Fails if a read fails, if content can't be read, or if memory runs out.
-    pub fn into_bytes(self, alloc: Global) -> Result<(Vec<u8>, ContentEnd)> {
+    /// Fails if a read fails, if content of a pipe can't be read, or if memory runs out.
+    pub fn into_bytes(self, alloc: Global) -> Result<(Vec<u8>, ContentEnd)>
+        ensures whole { IfOk result (λ read. self.entry.kind ≢ Some File → read.1 ≡ Whole) }
+    {
         let mut bytes = self.into_input_bytes(alloc)?;
         let end = bytes.content_end();
         let mut all = Vec::new(alloc);
-        bytes.read_to_end(&mut all)?;
+        let read = bytes.read_to_end(&mut all);
+        if let Err(error) = read {
+            bytes.skip_unreadable(error)?;
+            all.extend_from_slice(&UNREADABLE)?;
+            bytes.read_to_end(&mut all)?;
+        }
         Ok((all, end))
     }
 

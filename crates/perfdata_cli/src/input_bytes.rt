@@ -3,8 +3,11 @@
 use perfdata_base::source::CountedBuffer;
 use perfdata_compressed::{ContentEnd, DecompressedFile, DecompressedPipe};
 use std::fs::File;
-use std::io::{Chain, Cursor, ErrorKind, Read, Result, Seek, SeekFrom};
+use std::io::{Chain, Cursor, Error, ErrorKind, Read, Result, Seek, SeekFrom};
 use std::rt::Stdin;
+
+/// The size in bytes of the record header at which a read of a file fails, if content can't be read.
+pub(crate) const UNREADABLE_SIZE: usize = 8;
 
 /// Bytes that are read once.
 #[derive(Drop)]
@@ -76,6 +79,19 @@ impl InputBytes {
         match self {
             InputBytes::File(file) => file.content_end(),
             InputBytes::Raw(_) | InputBytes::Pipe(_) => ContentEnd::Whole,
+        }
+    }
+
+    /// Goes on after the record header at which a read of a file failed, if content can't be read.
+    ///
+    /// Fails with the error of the read if it has another cause.
+    pub(crate) fn skip_unreadable(&mut self, error: Error) -> Result<()> {
+        match self.content_end() {
+            ContentEnd::Error(_) => {
+                self.seek(SeekFrom::Current(UNREADABLE_SIZE as i64))?;
+                Ok(())
+            }
+            _ => Err(error),
         }
     }
 }

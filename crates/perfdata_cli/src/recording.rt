@@ -34,6 +34,7 @@ pub struct RecordingKind {
 
 impl RecordingKind {
     ghost use Rattle.std.specs.Prelude.{◌≡◌};
+    ghost use Rattle.perfdata_compressed.specs.declared.content.ContentEnd.TheVariants.{Whole};
 
     /// The kind of a pipe.
     pub const PIPE: RecordingKind = RecordingKind {
@@ -63,6 +64,19 @@ impl RecordingKind {
         let mut kind = self;
         kind.content_end = content_end;
         kind
+    }
+
+    /// Returns the error of a record in memory. A record header with the size 0, in place of content that
+    /// can't be read, stands for the error of the content.
+    pub fn error_in_memory(self, error: Error) -> Error
+        ensures { self.content_end ≡ Whole → result ≡ error }
+    {
+        match (error, self.content_end) {
+            (Error::InvalidPerfEventSize, ContentEnd::Error(error)) => {
+                Error::IoError(error.io_error())
+            }
+            (error, _) => error,
+        }
     }
 
     /// Returns the error of a recording whose end is missing, after its records were read.

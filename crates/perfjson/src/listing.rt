@@ -191,10 +191,13 @@ fn list_input_by_time(
         return list_unfinished_by_time(rt, byte_limit, bytes);
     }
     let RecordingInMemory { reader, kind } = open_recording_in_memory(rt.alloc(), &bytes, is_pipe)?;
-    show_content_end(rt, options, path, kind.with_content_end(end));
+    let kind = kind.with_content_end(end);
+    show_content_end(rt, options, path, kind);
     let mut out = output(rt)?;
     let mut line = RecordLine::new(JsonLine::new(rt.alloc(), byte_limit), kind);
-    let listed = list_by_time(rt.alloc(), reader, &mut line, &mut out);
+    let listed = list_by_time(rt.alloc(), reader, &mut line, &mut out).map_err(
+        |fault| with_content_error(fault, kind),
+    );
     let lines = line_count(&listed);
     let position = Position {
         records: lines,
@@ -202,6 +205,18 @@ fn list_input_by_time(
     };
     finish(listed, position, line.into_error(), &mut out)?;
     Ok(kind.check_end(lines)?)
+}
+
+// Returns the fault of a listing in memory. At content that can't be read its cause is why.
+fn with_content_error(fault: ListFault, kind: RecordingKind) -> ListFault {
+    let ListFault { lines, cause } = fault;
+    match cause {
+        ListCause::Perf(error) => ListFault {
+            lines,
+            cause: ListCause::Perf(kind.error_in_memory(error)),
+        },
+        cause => ListFault { lines, cause },
+    }
 }
 
 // Returns the number of lines of a listing.
