@@ -32,3 +32,5 @@ pub mod ParsedOnce
 pub mod EntryItems
 pub mod CounterItems
 pub mod DecodedChainLemmas
+pub mod WrittenLemmas
+pub mod EndLemmas

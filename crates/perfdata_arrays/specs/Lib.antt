@@ -29,3 +29,4 @@ pub mod Tasks
 pub mod Mappings
 pub mod Counters
 pub mod steps
+pub mod Decompressing

@@ -12,3 +12,5 @@ pub mod Decoding
 pub mod DecodedPages
 pub mod SampleRecords
 pub mod Entries
+pub mod Decompressing
+pub mod Written

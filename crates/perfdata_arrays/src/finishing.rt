@@ -1,6 +1,10 @@
 //! The bytes of a finished recording: the whole parts of a file, with the true size of its records.
+ghost use Rattle.std.specs.Prelude.{◌≡◌, ◌≢◌};
+ghost use Rattle.perfdata_arrays.specs.Overwrites.{WritesBytes};
+ghost use Rattle.perfdata_arrays.specs.declared.status.Status.TheVariants.{Success};
+ghost use Rattle.perfdata_arrays.specs.steps.Written.{WritesMore};
 
-use crate::output::{Output, range};
+use crate::output::{push, push_number, range};
 use crate::status::{Status, status_of_error};
 use linux_perf_data::features::{Feature, FeatureSet};
 use linux_perf_data::raw::Endianness;
@@ -102,52 +106,96 @@ fn event_types_section(attributes: &[u8], parts: &WholeParts) -> PerfFileSection
 
 // Writes the table of event types: each attribute, as many zeros as the place of its ids has bytes, and this
 // place.
-fn write_event_types(attributes: &[u8], header: &PerfHeader, out: &mut Output<'_>) {
-    let size = header.attr_size;
+fn write_event_types(attributes: &[u8], header: &PerfHeader, array: &mut [u8], size: &mut u64)
+    ensures { WritesMore size.old array.old size.new array.new }
+{
+    let entry_size = header.attr_size;
     for index in 0..attribute_count(attributes, header) {
-        let start = index.saturating_mul(size);
-        let end = start.saturating_add(size);
+        let start = index.saturating_mul(entry_size);
+        let end = start.saturating_add(entry_size);
         let ids = end.saturating_sub(PerfFileSection::STRUCT_SIZE);
-        out.push(range(attributes, start, ids));
-        out.push(&[0; PerfFileSection::STRUCT_SIZE as usize]);
-        out.push(range(attributes, ids, end));
+        push(array, size, range(attributes, start, ids));
+        push(array, size, &[0; PerfFileSection::STRUCT_SIZE as usize]);
+        push(array, size, range(attributes, ids, end));
     }
 }
 
 // Writes the offset and the size of a section.
-fn write_place(endian: Endianness, section: PerfFileSection, out: &mut Output<'_>) {
-    out.push_number(endian, section.offset);
-    out.push_number(endian, section.size);
+fn write_place(endian: Endianness, section: PerfFileSection, array: &mut [u8], size: &mut u64)
+    ensures { WritesMore size.old array.old size.new array.new }
+{
+    push_number(array, size, endian, section.offset);
+    push_number(array, size, endian, section.size);
 }
 
-// Writes the header, what is between it and the records, and the records.
-fn write_records(input: &[u8], attributes: &[u8], parts: &WholeParts, out: &mut Output<'_>) {
-    out.push(range(input, 0, DATA_SIZE_OFFSET));
-    out.push_number(parts.endian, parts.data_size);
-    write_place(parts.endian, event_types_section(attributes, parts), out);
-    for word in kept_features(parts).0 {
-        out.push_number(parts.endian, word);
-    }
-    let start = parts.header.data_section.offset;
-    out.push(range(input, FEATURES_END, start.saturating_add(parts.data_size)));
+// Writes a header with the size of the records and the features.
+fn write_header(
+    input: &[u8],
+    attributes: &[u8],
+    parts: &WholeParts,
+    array: &mut [u8],
+    size: &mut u64,
+)
+    ensures { WritesMore size.old array.old size.new array.new }
+{
+    push(array, size, range(input, 0, DATA_SIZE_OFFSET));
+    push_number(array, size, parts.endian, parts.data_size);
+    let event_types = event_types_section(attributes, parts);
+    write_place(parts.endian, event_types, array, size);
+    let [first, second, third, fourth] = kept_features(parts).0;
+    push_number(array, size, parts.endian, first);
+    push_number(array, size, parts.endian, second);
+    push_number(array, size, parts.endian, third);
+    push_number(array, size, parts.endian, fourth);
+}
+
+// Writes what is between the header and the records, and the records.
+fn write_records(input: &[u8], parts: &WholeParts, array: &mut [u8], size: &mut u64)
+    ensures { WritesMore size.old array.old size.new array.new }
+{
+    let end = parts
+        .header
+        .data_section
+        .offset
+        .saturating_add(parts.data_size);
+    push(array, size, range(input, FEATURES_END, end));
 }
 
 // Writes the table of the sections.
-fn write_section_table(parts: &WholeParts, out: &mut Output<'_>) {
+fn write_section_table(parts: &WholeParts, array: &mut [u8], size: &mut u64)
+    ensures { WritesMore size.old array.old size.new array.new }
+{
     let table_size = (parts.sections.len() as u64).saturating_mul(PerfFileSection::STRUCT_SIZE);
-    let mut offset = out.size.saturating_add(table_size);
+    let mut offset = size.saturating_add(table_size);
     for (_, section) in &parts.sections {
-        let size = section.size;
-        write_place(parts.endian, PerfFileSection { offset, size }, out);
-        offset = offset.saturating_add(size);
+        let place = PerfFileSection {
+            offset,
+            size: section.size,
+        };
+        write_place(parts.endian, place, array, size);
+        offset = offset.saturating_add(section.size);
     }
 }
 
 // Writes the sections.
-fn write_sections(input: &[u8], parts: &WholeParts, out: &mut Output<'_>) {
+fn write_sections(input: &[u8], parts: &WholeParts, array: &mut [u8], size: &mut u64)
+    ensures { WritesMore size.old array.old size.new array.new }
+{
     for (_, section) in &parts.sections {
-        out.push(section_bytes(input, *section));
+        push(array, size, section_bytes(input, *section));
     }
+}
+
+// Writes all parts of a finished recording.
+fn write_parts(input: &[u8], parts: &WholeParts, array: &mut [u8], size: &mut u64)
+    ensures { WritesMore size.old array.old size.new array.new }
+{
+    let attributes = unlisted_attributes(input, parts);
+    write_header(input, attributes, parts, array, size);
+    write_records(input, parts, array, size);
+    write_section_table(parts, array, size);
+    write_sections(input, parts, array, size);
+    write_event_types(attributes, &parts.header, array, size);
 }
 
 /// Writes the finished recording of a perf.data file that wasn't finished, or whose end is missing, into
@@ -157,7 +205,10 @@ fn write_sections(input: &[u8], parts: &WholeParts, out: &mut Output<'_>) {
 ///
 /// The attributes and their ids precede the records, as perf writes them. If the file has no header, the
 /// status is that of the error, `size` is 0 and `array` is unchanged.
-pub fn finish_recording(alloc: Global, bytes: &[u8], array: &mut [u8]) -> FinishResult {
+pub fn finish_recording(alloc: Global, bytes: &[u8], array: &mut [u8]) -> FinishResult
+    ensures written { WritesBytes result.size array.old array.new }
+    ensures failed { result.status ≢ Success → (result.size ≡ 0) × (array.new ≡ array.old) }
+{
     let parts = match find_whole_parts(alloc, &mut Cursor::new(bytes)) {
         Ok(parts) => parts,
         Err(error) => {
@@ -167,14 +218,10 @@ pub fn finish_recording(alloc: Global, bytes: &[u8], array: &mut [u8]) -> Finish
             };
         }
     };
-    let mut out = Output { array, size: 0 };
-    let attributes = unlisted_attributes(bytes, &parts);
-    write_records(bytes, attributes, &parts, &mut out);
-    write_section_table(&parts, &mut out);
-    write_sections(bytes, &parts, &mut out);
-    write_event_types(attributes, &parts.header, &mut out);
+    let mut size = 0;
+    write_parts(bytes, &parts, array, &mut size);
     FinishResult {
-        size: out.size,
+        size,
         status: Status::Success,
     }
 }

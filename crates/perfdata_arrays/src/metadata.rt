@@ -8,8 +8,8 @@ use linux_perf_data::PerfFile;
 use linux_perf_data::in_memory::position::RecordPosition;
 use std::alloc::Global;
 
-// The position of a file's first record.
-const FIRST_RECORD: RecordPosition = RecordPosition {
+/// The position of a file's first record.
+pub(crate) const FIRST_RECORD: RecordPosition = RecordPosition {
     offset: 0,
     round: 0,
 };

@@ -1,14 +1,8 @@
-//! Bytes of a recording that are written into an array.
+//! Bytes that are written one after another into an array, up to its capacity.
+ghost use Rattle.perfdata_arrays.specs.steps.Written.{WritesMore};
 
 use crate::array::copy_entries;
 use linux_perf_data::raw::Endianness;
-
-// Bytes that are written one after another into an array, up to its capacity.
-#[derive(Drop)]
-pub(crate) struct Output<'a> {
-    pub(crate) array: &'a mut [u8],
-    pub(crate) size: u64,
-}
 
 // The bytes of a number.
 fn number_bytes(endian: Endianness, number: u64) -> [u8; 8] {
@@ -18,20 +12,19 @@ fn number_bytes(endian: Endianness, number: u64) -> [u8; 8] {
     }
 }
 
-impl Output<'_> {
-    pub(crate) fn push(&mut self, bytes: &[u8]) {
-        copy_entries(self.array, self.size, bytes);
-        self.size = self.size.saturating_add(bytes.len() as u64);
-    }
+// Writes bytes after the first `size` ones, and adds their number.
+pub(crate) fn push(array: &mut [u8], size: &mut u64, bytes: &[u8])
+    ensures { WritesMore size.old array.old size.new array.new }
+{
+    copy_entries(array, *size, bytes);
+    *size = size.saturating_add(bytes.len() as u64);
+}
 
-    pub(crate) fn push_number(&mut self, endian: Endianness, number: u64) {
-        self.push(&number_bytes(endian, number));
-    }
-
-    // Writes a number over bytes that were written.
-    pub(crate) fn replace_number(&mut self, offset: u64, endian: Endianness, number: u64) {
-        copy_entries(self.array, offset, &number_bytes(endian, number));
-    }
+// Writes a number after the first `size` bytes, and adds its size.
+pub(crate) fn push_number(array: &mut [u8], size: &mut u64, endian: Endianness, number: u64)
+    ensures { WritesMore size.old array.old size.new array.new }
+{
+    push(array, size, &number_bytes(endian, number));
 }
 
 // Returns the bytes from an offset to another; none if they aren't in the input.

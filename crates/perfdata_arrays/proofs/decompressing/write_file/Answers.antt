@@ -1,0 +1,5 @@
+use Rattle.perfdata_arrays.proofs.WrittenLemmas.{writes_none}
+use Rattle.perfdata_arrays.proofs.decompressing.write_file.Goals as goal
+
+pub returns-in_err-bytes : goal.returns-in_err-bytes
+returns-in_err-bytes c = writes_none
