@@ -22,7 +22,7 @@ use crate::ranges::{AddressRange, is_code};
 use std::alloc::{AllocError, Global};
 
 // The largest number of rows between two checkpoints.
-const ROWS_BETWEEN: usize = 64;
+const ROWS_BETWEEN: usize = 16;
 
 // The number of bytes of instructions after which there is a checkpoint.
 const BYTES_BETWEEN: usize = 4096;
