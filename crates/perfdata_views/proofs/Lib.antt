@@ -1,5 +1,6 @@
 -- Lemmas.
 mod Ascending
+mod Columns
 mod Counting
 mod CountingSamples
 mod EntryStacks

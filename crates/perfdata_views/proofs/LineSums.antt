@@ -21,7 +21,7 @@ use Rattle.perfdata_profile.specs.Sums.{entry_weight}
 use Rattle.perfdata_profile.specs.declared.names.NameId.{NameId}
 use Rattle.perfdata_profile.specs.declared.sums.SampleKey.{SampleKey}
 use Rattle.perfdata_profile.specs.declared.sums.Sums.{Sums}
-use Rattle.perfdata_views.specs.Counts.{Added, Counts, IsAscending, ListsLines, counted_lines, is_line, sum_of, sum_of_counts, weights_of}
+use Rattle.perfdata_views.specs.Counts.{Added, Counts, IsAscending, ListsLines, count_of, counted_lines, is_line, sum_of, sum_of_counts, weights_of}
 use Rattle.perfdata_views.specs.declared.counts.LineCounts.{LineCounts}
 use Rattle.perfdata_views.specs.Entries.{Entry, weight_of, weight_where}
 use Rattle.perfdata_views.specs.Lines.{AreLinesOf, line_of, names_text, next_name}
@@ -97,19 +97,28 @@ weights_sum line (e ∷ es) = by (is_in line e) refl (weights_sum line es)
         let right = sum_by-cons (λ (entry : Entry). cond (is_in line entry) (weight_of entry) 0) e es ∙ ap (λ (b : Bool). cond b (weight_of e) 0 + weight_where (is_in line) es) is in
         ap (sum_by (λ w. w)) weights ∙ rest ∙ sym (right ∙ omega arith)
 
-sum_is : (weights : List ℕ) (sum : ℕ) → sum_of weights ≡ Some sum → sum ≡ sum_by (λ w. w) weights
+pub sum_is : (weights : List ℕ) (sum : ℕ) → sum_of weights ≡ Some sum → sum ≡ sum_by (λ w. w) weights
 sum_is [] sum is = cc
 sum_is (w ∷ ws) sum is = sym (some_same (sum_by (λ n. n) (w ∷ ws)) sum is)
+
+-- The sum of the weights of a line's entries is its count.
+sum_or_none : (weights : List ℕ) → unwrap_or (sum_of weights) 0 ≡ sum_by (λ w. w) weights
+sum_or_none [] = refl
+sum_or_none (w ∷ ws) = refl
+
+pub count_is : (entries : List Entry) (counts : LineCounts) (line : List ℕ) → Counts (map added_of entries) counts → unwrap_or (count_of counts line) 0 ≡ weight_where (is_in line) entries
+count_is entries counts line is =
+    ap (λ (o : Option ℕ). unwrap_or o 0) (is.lines line) ∙ sum_or_none (weights_of line (map added_of entries)) ∙ weights_sum line entries
 
 -- The line of an entry has a sum, and a line with a sum is that of an entry.
 abbrev matching : List ℕ → List Entry → List Added
 matching line entries = filter (λ (a : Added). is_line line a.line) (map added_of entries)
 
-some_first : (b : Bool) (a : Added) (rest : List Added) (sum : ℕ) → sum_of (map weight_added rest) ≡ Some sum → ((n : ℕ) × (sum_of (map weight_added (cond b (a ∷ rest) rest)) ≡ Some n))
+pub some_first : (b : Bool) (a : Added) (rest : List Added) (sum : ℕ) → sum_of (map weight_added rest) ≡ Some sum → ((n : ℕ) × (sum_of (map weight_added (cond b (a ∷ rest) rest)) ≡ Some n))
 some_first true a rest sum is = (sum_by (λ n. n) (map weight_added (a ∷ rest)), refl)
 some_first false a rest sum is = (sum, is)
 
-own_sum : (entries : List Entry) (index : ℕ) (entry : Entry) → slice_get entries index ≡ Some entry → ((sum : ℕ) × (sum_of (weights_of (line_of entry.0) (map added_of entries)) ≡ Some sum))
+pub own_sum : (entries : List Entry) (index : ℕ) (entry : Entry) → slice_get entries index ≡ Some entry → ((sum : ℕ) × (sum_of (weights_of (line_of entry.0) (map added_of entries)) ≡ Some sum))
 own_sum [] index entry at = cc
 own_sum (e ∷ es) zero entry at =
     let same : e ≡ entry = some_same e entry at in
@@ -120,7 +129,7 @@ own_sum (e ∷ es) (suc index) entry at =
     let later = own_sum es index entry at in
     some_first (is_line (line_of entry.0) (line_of e.0)) (added_of e) (matching (line_of entry.0) es) later.0 later.1
 
-entry_of : (line : List ℕ) (entries : List Entry) (sum : ℕ) → sum_of (weights_of line (map added_of entries)) ≡ Some sum → ((at : ℕ) × (entry : Entry) × (slice_get entries at ≡ Some entry) × (line ≡ line_of entry.0))
+pub entry_of : (line : List ℕ) (entries : List Entry) (sum : ℕ) → sum_of (weights_of line (map added_of entries)) ≡ Some sum → ((at : ℕ) × (entry : Entry) × (slice_get entries at ≡ Some entry) × (line ≡ line_of entry.0))
 entry_of line [] sum is = cc
 entry_of line (e ∷ es) sum is = by (is_in line e) refl is (entry_of line es sum)
   where

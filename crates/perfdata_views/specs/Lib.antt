@@ -2,6 +2,7 @@
 pub mod Boxes
 pub mod CountedSamples
 pub mod Counts
+pub mod Differences
 pub mod Entries
 pub mod EntryTrees
 pub mod FlameBoxes

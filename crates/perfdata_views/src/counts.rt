@@ -30,7 +30,8 @@ pub struct LineCounts {
 
 impl LineCounts {
     ghost use Rattle.perfdata_views.specs.Counts.{Added, AddsToLine, Counts, ListsLines, IsAscending};
-    ghost use Rattle.perfdata_views.specs.Counts.{counted_lines, sum_of_counts};
+    ghost use Rattle.perfdata_views.specs.Counts.{count_of, counted_lines, sum_of_counts};
+    ghost use Rattle.std.specs.Option.{unwrap_or};
 
     /// Creates counts without lines.
     pub fn new(alloc: Global) -> LineCounts
@@ -69,6 +70,13 @@ impl LineCounts {
             }
             Err(_) => Err(LineCountError::Memory),
         }
+    }
+
+    /// Returns the count of a line, or 0 if it isn't there.
+    pub fn count(&self, line: &Vec<u8>) -> u64
+        ensures { result ≡ unwrap_or (count_of self.now line.now.items) 0 }
+    {
+        self.counts.get(line).copied().unwrap_or(0)
     }
 
     /// Returns the sum of all counts.

@@ -1,13 +1,19 @@
 //! The lines and the functions of two profiles, side by side.
 
-ghost use Rattle.std.specs.Prelude.{ℕ, List, OnOk};
+ghost use Rattle.std.specs.Prelude.{◌≡◌, ◌∷◌, ◌++◌, ℕ, List, map, IfOk, OnOk};
+ghost use Rattle.std.specs.Fmt.{decimal};
 ghost use Rattle.std.specs.Io.KnownBytes.{Appends};
+ghost use Rattle.std.specs.List.{flat_map};
+ghost use Rattle.perfdata_views.specs.Counts.{Added, Counts, counted_lines};
+ghost use Rattle.perfdata_views.specs.Differences.{IsPairedText, line_text, totals_of, written_count};
+ghost use Rattle.perfdata_views.specs.steps.Differences.{columns_of, key_of};
 
 use crate::counts::LineCounts;
-use crate::lines::lines;
+use crate::lines::{add_line, line_counts};
 use crate::share::Share;
 use crate::table::rows;
 use crate::top::{TableOptions, character_count, push_name, split_file, write_line};
+use itoa::Buffer;
 use perfdata_profile::profile::Profile;
 use std::alloc::{AllocError, Global};
 use std::cmp::Ordering;
@@ -87,7 +93,9 @@ impl CountPair {
 
 impl OldCounts {
     /// Returns what is written of a count in an old profile. `totals` are the sums of all counts.
-    pub(crate) fn written(self, count: u64, totals: CountPair) -> u64 {
+    pub(crate) fn written(self, count: u64, totals: CountPair) -> u64
+        ensures { result ≡ written_count self totals count }
+    {
         if self == OldCounts::Recorded || totals.old == 0 {
             return count;
         }
@@ -98,7 +106,9 @@ impl OldCounts {
 
 impl<'a> Comparison<'a> {
     // Returns the sums of all counts.
-    fn totals(&self) -> CountPair {
+    fn totals(&self) -> CountPair
+        ensures { result ≡ totals_of self.now.old.now self.now.new.now }
+    {
         CountPair {
             old: self.old.sums.total().weight,
             new: self.new.sums.total().weight,
@@ -125,30 +135,6 @@ impl PairedCounts {
             new: known.new.saturating_add(counts.new),
         };
         self.pairs.insert(key, counts)?;
-        Ok(())
-    }
-
-    // Adds the counts of lines of the old profile.
-    fn add_old(&mut self, counts: &LineCounts) -> Result<(), AllocError> {
-        for (line, count) in counts.iter() {
-            let counts = CountPair {
-                old: *count,
-                new: 0,
-            };
-            self.add(line.as_slice(), counts)?;
-        }
-        Ok(())
-    }
-
-    // Adds the counts of lines of the new profile.
-    fn add_new(&mut self, counts: &LineCounts) -> Result<(), AllocError> {
-        for (line, count) in counts.iter() {
-            let counts = CountPair {
-                old: 0,
-                new: *count,
-            };
-            self.add(line.as_slice(), counts)?;
-        }
         Ok(())
     }
 
@@ -179,25 +165,69 @@ impl PairedCounts {
     }
 }
 
-// Returns the lines of two profiles with their counts in both.
-fn paired_lines(alloc: Global, old: &Profile, new: &Profile) -> Result<PairedCounts, AllocError> {
-    let mut pairs = PairedCounts::new(alloc);
-    pairs.add_old(&lines(alloc, old)?)?;
-    pairs.add_new(&lines(alloc, new)?)?;
-    Ok(pairs)
+// Adds the lines of other counts, with 0 to their counts.
+fn add_keys(counts: &mut LineCounts, other: &LineCounts) -> Result<(), AllocError>
+    ensures { OnOk result ((added : List Added) → Counts added counts.old →
+        Counts (added ++ map key_of (counted_lines other.now)) counts.new) }
+{
+    'lines: for (line, _) in other.iter() {
+        let _total = counts.total(); // for the prover
+        add_line(counts, line.as_slice(), 0)?;
+    }
+    Ok(())
+}
+
+// Appends a blank and a count.
+fn push_count(text: &mut Vec<u8>, count: u64) -> Result<(), AllocError>
+    ensures { OnOk result (text.new.items ≡ text.old.items ++ 32 ∷ decimal count) }
+{
+    text.push(b' ')?;
+    let mut buffer = Buffer::new();
+    text.extend_from_slice(buffer.format(count).as_bytes())
+}
+
+// Appends a line with its counts in two profiles.
+fn push_columns(text: &mut Vec<u8>, line: &[u8], counts: CountPair) -> Result<(), AllocError>
+    ensures { OnOk result (text.new.items ≡ text.old.items ++ line_text line.now counts.old counts.new) }
+{
+    text.extend_from_slice(line)?;
+    push_count(text, counts.old)?;
+    push_count(text, counts.new)?;
+    text.extend_from_slice(b"\n")
+}
+
+// Returns the lines of `new` as text, each with its count in `old` and its own.
+fn columns_text(
+    alloc: Global,
+    old: &LineCounts,
+    new: &LineCounts,
+    written: OldCounts,
+    totals: CountPair,
+) -> Result<Vec<u8>, AllocError>
+    ensures { IfOk result (λ text. text.items
+        ≡ flat_map (columns_of old.now (written_count written totals)) (counted_lines new.now)) }
+{
+    let mut text = Vec::new(alloc);
+    'lines: for (line, count) in new.iter() {
+        let counts = CountPair {
+            old: written.written(old.count(line), totals),
+            new: *count,
+        };
+        push_columns(&mut text, line.as_slice(), counts)?;
+    }
+    Ok(text)
 }
 
 // Returns the folded lines of two profiles as text.
-fn paired_text(alloc: Global, compared: Comparison<'_>) -> io::Result<Vec<u8>> {
-    let pairs = paired_lines(alloc, compared.old, compared.new)?;
-    let totals = compared.totals();
-    let mut text = Vec::new(alloc);
-    for (line, counts) in pairs.pairs.iter() {
-        text.extend_from_slice(line.as_slice())?;
-        let old = compared.counts.written(counts.old, totals);
-        writeln!(text, " {old} {}", counts.new)?;
-    }
-    Ok(text)
+fn paired_text(alloc: Global, compared: Comparison<'_>) -> Result<Vec<u8>, AllocError>
+    ensures { IfOk result (λ text.
+        IsPairedText compared.entry.old.now compared.entry.new.now compared.entry.counts text.items) }
+{
+    let old = line_counts(alloc, compared.old)?;
+    let mut both = line_counts(alloc, compared.new)?;
+    add_keys(&mut both, &old)?;
+    let (_old, _both) = (old.iter(), both.iter()); // for the prover
+    columns_text(alloc, &old, &both, compared.counts, compared.totals())
 }
 
 /// Writes the folded lines of two profiles, ascending by bytes, each with its count in the old one and in the
@@ -209,7 +239,8 @@ pub fn write_paired_lines<W: Write>(
     compared: Comparison<'_>,
     out: &mut W,
 ) -> io::Result<()>
-    ensures { OnOk result ((text : List ℕ) × Appends (W.contents out.old) (W.contents out.new) text) }
+    ensures { OnOk result ((text : List ℕ) × Appends (W.contents out.old) (W.contents out.new) text
+        × IsPairedText compared.entry.old.now compared.entry.new.now compared.entry.counts text) }
 {
     out.write_all(paired_text(alloc, compared)?.as_slice())
 }

@@ -1,12 +1,13 @@
 //! The folded lines of a profile.
 
-ghost use Rattle.std.specs.Prelude.{◌≡◌, ◌+◌, ◌^◌, ◌<◌, [], ◌∷◌, ◌++◌, List, IfOk, OnOk};
+ghost use Rattle.std.specs.Prelude.{◌≡◌, ◌+◌, ◌^◌, ◌<◌, [], ◌∷◌, ◌++◌, List, map, IfOk, OnOk};
 ghost use Rattle.std.specs.Fmt.{signed_decimal};
 ghost use Rattle.perfdata_profile.specs.Profiles.{lists_of};
 ghost use Rattle.perfdata_profile.specs.Values.{sample_value, thread_key};
 ghost use Rattle.perfdata_views.specs.Counts.{Added, Counts, counted_lines, sum_of_counts};
 ghost use Rattle.perfdata_views.specs.Entries.{entries_in, total_weight};
 ghost use Rattle.perfdata_views.specs.Lines.{AreLinesOf, id_text, line_of, thread_text};
+ghost use Rattle.perfdata_views.specs.steps.Lines.{added_of};
 
 use crate::counts::{LineCountError, LineCounts};
 use crate::entries::{find_entry, find_functions, find_name};
@@ -70,8 +71,10 @@ fn push_line(
     Ok(())
 }
 
-// Adds a weight to the number of a line.
-fn add_line(counts: &mut LineCounts, line: &[u8], weight: u64) -> Result<(), AllocError>
+/// Adds a weight to the number of a line.
+///
+/// Fails if memory runs out.
+pub(crate) fn add_line(counts: &mut LineCounts, line: &[u8], weight: u64) -> Result<(), AllocError>
     requires { sum_of_counts counts.old + weight < 2 ^ 64 }
     ensures { OnOk result ((added : List Added) → Counts added counts.old →
         Counts (added ++ record { line = line.now; weight = weight } ∷ []) counts.new) }
@@ -83,13 +86,11 @@ fn add_line(counts: &mut LineCounts, line: &[u8], weight: u64) -> Result<(), All
     }
 }
 
-/// Returns the lines of a profile with the sums of their weights, ascending by bytes. Each entry is in one
-/// line: its thread, then the names of its functions, the root's first, with semicolons between them.
+/// Returns the lines of the entries of a profile, counted with their weights.
 ///
 /// Fails if memory runs out.
-pub fn lines(alloc: Global, profile: &Profile) -> Result<LineCounts, AllocError>
-    ensures lines { IfOk result (λ counts. AreLinesOf (entries_in profile.now) (counted_lines counts)) }
-    ensures total { IfOk result (λ counts. sum_of_counts counts ≡ total_weight profile.now) }
+pub(crate) fn line_counts(alloc: Global, profile: &Profile) -> Result<LineCounts, AllocError>
+    ensures { IfOk result (λ counts. Counts (map added_of (entries_in profile.now)) counts) }
 {
     let _total = profile.sums.total().weight; // for the prover
     let mut counts = LineCounts::new(alloc);
@@ -100,6 +101,18 @@ pub fn lines(alloc: Global, profile: &Profile) -> Result<LineCounts, AllocError>
         push_line(alloc, &mut line, &profile.tables, &key)?;
         add_line(&mut counts, line.as_slice(), sums.weight)?;
     }
+    Ok(counts)
+}
+
+/// Returns the lines of a profile with the sums of their weights, ascending by bytes. Each entry is in one
+/// line: its thread, then the names of its functions, the root's first, with semicolons between them.
+///
+/// Fails if memory runs out.
+pub fn lines(alloc: Global, profile: &Profile) -> Result<LineCounts, AllocError>
+    ensures lines { IfOk result (λ counts. AreLinesOf (entries_in profile.now) (counted_lines counts)) }
+    ensures total { IfOk result (λ counts. sum_of_counts counts ≡ total_weight profile.now) }
+{
+    let counts = line_counts(alloc, profile)?;
     let _lines = counts.iter(); // for the prover
     Ok(counts)
 }

@@ -1,39 +1,16 @@
-use Rattle.std.proofs.Common.{◌≡◌, ◌∙◌, ◌++◌, ◌∷◌, [], ℕ, List, sym, subst, arith, rules, map, take}
+use Rattle.std.proofs.Common.{◌∙◌, map, sym}
 use Rattle.perfdata_profile.specs.Profiles.{lists_of}
 use Rattle.perfdata_profile.specs.SampleSums.{entries_of}
-use Rattle.perfdata_profile.specs.Values.{sample_value}
-use Rattle.perfdata_views.specs.Counts.{Added, Counts}
 use Rattle.perfdata_views.specs.Entries.{entries_in}
-use Rattle.perfdata_views.specs.Lines.{line_of}
 use Rattle.perfdata_views.specs.steps.Lines.{added_of}
-use Rattle.perfdata_views.proofs.LineSums.{added_more, all_lines, lines_are, sum_of_lines, sum_within}
+use Rattle.perfdata_views.proofs.LineSums.{lines_are, sum_of_lines}
 use Rattle.perfdata_views.proofs.lines.lines.Goals as goal
-
-pub add_line-requires : goal.add_line-requires
-add_line-requires c =
-    let within = sum_within (lists_of c.args.profile.now.tables) (entries_of c.args.profile.now.sums) c.entries.index c.find_entry.result c.find_entry.ensures c.entries.counts c.entries.invariant in
-    let fits = c.total-total.type_inv in
-    omega (arith, within, c.total-total.ensures.weights)
-
-pub entries-preserved : goal.entries-preserved
-entries-preserved c =
-    let lists = lists_of c.args.profile.now.tables in
-    let keys = entries_of c.args.profile.now.sums in
-    let entry = c.find_entry.result in
-    let before : List Added = map added_of (take c.entries.index (entries_in c.args.profile.now)) in
-    let is : c.push_line.new.line.items ≡ line_of (sample_value lists entry.0) = search rules in
-    let added : Counts (before ++ record { line = c.as_slice.result.now; weight = c.find_entry.result.1.weight } ∷ []) c.add_line.new.counts = c.in_ok-add_line.ensures before c.entries.invariant in
-    let read = subst (λ (l : List ℕ). Counts (before ++ record { line = l; weight = c.find_entry.result.1.weight } ∷ []) c.add_line.new.counts) c.as_slice.ensures.value added in
-    subst (λ (a : List Added). Counts a c.add_line.new.counts) (added_more lists keys c.entries.index entry c.find_entry.ensures c.push_line.new.line.items is) read
 
 pub returns-clause-lines : goal.returns-clause-lines
 returns-clause-lines c =
-    let lists = lists_of c.args.profile.now.tables in
-    let all = all_lines lists (entries_of c.args.profile.now.sums) c.entries.index c.entries.counts (omega (arith, c.len-index-end.ensures)) c.entries.invariant in
-    lines_are (entries_in c.args.profile.now) c.entries.counts all c.iter-lines.ensures.ascending (c.iter-lines.ensures.lines (map added_of (entries_in c.args.profile.now)) all)
+    let all = c.in_ok-counts.ensures in
+    lines_are (entries_in c.args.profile.now) c.in_ok-counts.counts all c.iter-lines.ensures.ascending (c.iter-lines.ensures.lines (map added_of (entries_in c.args.profile.now)) all)
 
 pub returns-clause-total : goal.returns-clause-total
 returns-clause-total c =
-    let lists = lists_of c.args.profile.now.tables in
-    let all = all_lines lists (entries_of c.args.profile.now.sums) c.entries.index c.entries.counts (omega (arith, c.len-index-end.ensures)) c.entries.invariant in
-    sum_of_lines lists (entries_of c.args.profile.now.sums) c.entries.counts all ∙ sym c.args.profile.now.sums.weights_summed
+    sum_of_lines (lists_of c.args.profile.now.tables) (entries_of c.args.profile.now.sums) c.in_ok-counts.counts c.in_ok-counts.ensures ∙ sym c.args.profile.now.sums.weights_summed
