@@ -186,7 +186,7 @@
     at = 0;
     const count = bytes.length ? number() : 0, all = {
       count, index: new Int32Array(count), time: new Float64Array(count), weight: new Float64Array(count),
-      column: new Uint16Array(count), first: 0, last: 0
+      column: new Uint16Array(count), first: 0, last: 0, ascends: true
     };
     let known = 0, time = NaN, weight = 0, kind = 0;
     for (let i = 0; i < count; i++) {
@@ -200,6 +200,7 @@
         time += step % 2 ? (1 - step) / 2 : step / 2;
       }
       all.time[i] = first & 1 ? time : NaN;
+      if (!(all.time[i] >= (i ? all.time[i - 1] : 0))) all.ascends = false;
       if (first & 2) weight = number();
       if (first & 4) kind = number();
       all.weight[i] = weight;
@@ -212,19 +213,37 @@
   const order = readOrder();
   for (const sample of samples) sample.all = sample.values;
   // The times that are selected, both included, or null.
-  let range = null;
+  let range = null, parts = null;
+  // The index of the first sample at a time or later, if times ascend.
+  function indexAt(time) {
+    let low = 0, high = order.count;
+    while (low < high) {
+      const middle = low + high >> 1;
+      if (order.time[middle] < time) low = middle + 1; else high = middle;
+    }
+    return low;
+  }
+  // The indices between which the samples at these times are.
+  const indicesOf = ([from, to]) => order.ascends ? [indexAt(from), indexAt(to + 1)] : [0, order.count];
+  // The values of the samples in the range are in one array, of which each sample has a part.
+  function sumRange() {
+    const { index, time, weight, column } = order, size = types.length;
+    if (!parts) {
+      parts = new Float64Array(samples.length * size);
+      for (const sample of samples) sample.part = parts.subarray(sample.id * size, (sample.id + 1) * size);
+    }
+    parts.fill(0);
+    const [begin, end] = indicesOf(range);
+    for (let i = begin; i < end; i++) {
+      if (!(time[i] >= range[0] && time[i] <= range[1])) continue;
+      const at = index[i] * size;
+      parts[at]++;
+      if (column[i]) parts[at + column[i]] += weight[i];
+    }
+  }
   function selectTimes() {
-    for (const sample of samples) {
-      if (range && !sample.part) sample.part = new Float64Array(types.length);
-      if (range) sample.part.fill(0);
-      sample.values = range ? sample.part : sample.all;
-    }
-    for (let i = 0; range && i < order.count; i++) {
-      if (!(order.time[i] >= range[0] && order.time[i] <= range[1])) continue;
-      const { values } = samples[order.index[i]];
-      values[0]++;
-      if (order.column[i]) values[order.column[i]] += order.weight[i];
-    }
+    if (range) sumRange();
+    for (const sample of samples) sample.values = range ? sample.part : sample.all;
   }
   // A time as text: seconds with nine decimals, as `--time` takes them.
   function timeText(time) {
@@ -356,7 +375,15 @@
   const countBefore = weight => isScaled && totalBefore
     ? Number(BigInt(weight) * BigInt(total) / BigInt(totalBefore)) : weight;
 
-  // The table of functions, and those of the callers and callees of the selected one.
+  // The table of functions, and those of the callers and callees of the selected one. At first they have the
+  // rows that can be seen without scrolling. A later task adds the others.
+  const FIRST_ROWS = 100, side = element("functions").parentElement;
+  let later = [], isScrolled = false;
+  side.onscroll = () => { isScrolled = side.scrollTop > 0; };
+  function addRows() {
+    for (const add of later) add();
+    later = [];
+  }
   function fill(table, title, heads, rows) {
     table.replaceChildren();
     if (!rows) return;
@@ -373,7 +400,7 @@
       cell.className = "text";
       return cell;
     };
-    for (const [code, ...numbers] of rows) {
+    const insert = ([code, ...numbers]) => {
       const row = body.insertRow(), button = document.createElement("button");
       for (const number of numbers) row.insertCell().textContent = number;
       row.classList.toggle("chosen", code === selected);
@@ -384,13 +411,17 @@
         selected = code === selected ? 0 : code;
         describe(code, sums[code], compares && sumsBefore[code]);
         list();
+        addRows();
         draw();
         const again = element("functions").querySelector("button[value='" + code + "']");
         if (again) again.focus();
       };
       insertText(row).append(button);
       if (heads.includes("source")) insertText(row).textContent = sourceOf(functions[code], 2);
-    }
+    };
+    const first = isScrolled ? rows.length : FIRST_ROWS;
+    rows.slice(0, first).forEach(insert);
+    later.push(() => rows.slice(first).forEach(insert));
   }
   function neighbours(step) {
     const weights = new Map();
@@ -427,10 +458,12 @@
     const title = listed.length > ROWS ? "the first " + ROWS + " of " + listed.length : "";
     const heads = compares ? ["old", "new", "points", unitOf(), "function"] : ["self", "total", "function"];
     if (functions.some(one => one.source !== "")) heads.push("source");
+    later = [];
     fill(element("functions"), title, heads, compares ? changeRows(listed) : usualRows(listed));
     const name = functions[selected].name;
     fill(element("callers"), "Callers of " + name, ["total", "function"], selected && neighbours(-1));
     fill(element("callees"), "Callees of " + name, ["total", "function"], selected && neighbours(1));
+    setTimeout(addRows);
   }
 
   // The graph: a box for each node, as wide as its share of the zoomed one, whose callers are above it.
@@ -574,23 +607,27 @@
 
   // The chart in order of time: boxes as wide as consecutive samples of one thread that share a frame.
   const isChart = () => element("view").value === "order of time";
-  function chartStacks(width) {
-    const counted = new Map(), picked = [];
+  function chartThread() {
+    const counted = new Map();
     for (const { thread, values } of chosen) counted.set(thread, (counted.get(thread) || 0) + values[0]);
-    const thread = [...counted].sort((a, b) => b[1] - a[1]).map(([name]) => name)[0];
+    return [...counted].sort((a, b) => b[1] - a[1]).map(([name]) => name)[0];
+  }
+  function chartStacks(width) {
+    const thread = chartThread(), isShown = Uint8Array.from(samples, sample => sample.thread === thread), picked = [];
     const [from, to] = range || [order.first, order.last], size = to - from || 1;
+    const [begin, end] = indicesOf([from, to]);
     let last = -1, count = 0;
-    for (let i = 0; i < order.count; i++) {
-      const sample = samples[order.index[i]], time = order.time[i];
-      if (sample.thread !== thread || !(time >= from && time <= to)) continue;
+    for (let i = begin; i < end; i++) {
+      const time = order.time[i];
+      if (!isShown[order.index[i]] || !(time >= from && time <= to)) continue;
       if (column && order.column[i] !== column) continue;
       const x = (time - from) / size * width;
       count++;
       if (last >= 0 && x - last < 1) continue;
-      picked.push([x, sample]);
+      picked.push([x, samples[order.index[i]]]);
       last = x;
     }
-    return { thread, picked, gap: Math.max(2, 5 * width / Math.max(1, count)) };
+    return { picked, gap: Math.max(2, 5 * width / Math.max(1, count)) };
   }
   function chartBoxes(width) {
     const { picked, gap } = chartStacks(width), all = [], open = [];
@@ -733,7 +770,7 @@
     add();
     if (element("view").value === "leaves first") weigh(true);
     zoomed = current = 0;
-    const kind = isChart() ? "Chart in order of time, thread " + (chartStacks(1).thread || "none") + ", "
+    const kind = isChart() ? "Chart in order of time, thread " + (chartThread() || "none") + ", "
       : "Flame graph of " + chosen.length + " stacks, ";
     const old = compares ? ", compared with " + totalBefore + " before" : "";
     canvas.setAttribute("aria-label", kind + total + " " + what() + old);
