@@ -2,8 +2,10 @@ pub mod AppendLemmas
 pub mod ArmPltLemmas
 pub mod CrcLemmas
 pub mod BoundaryLemmas
+pub mod BuildIdLemmas
 pub mod ByteLemmas
 pub mod EntryLemmas
+pub mod HeaderLemmas
 pub mod KernelLineLemmas
 pub mod KernelSizeLemmas
 pub mod LayerLemmas
@@ -11,6 +13,7 @@ pub mod LineLemmas
 pub mod LookupLemmas
 pub mod MapLineLemmas
 pub mod NameLemmas
+pub mod NamedLemmas
 pub mod NoteLemmas
 pub mod MergeLemmas
 pub mod PltLemmas

@@ -1,5 +1,5 @@
 -- The symbols that boundaries of the address space give to addresses. A symbol is its index in a list.
-use Rattle.std.specs.Prelude.{ℕ, ◌+◌, ◌-◌, Bool, ◌&&◌, List, [], ◌∷◌, Option, None, Some, if◌then◌else◌, nat_le, nat_lt}
+use Rattle.std.specs.Prelude.{ℕ, ◌+◌, Bool, ◌&&◌, List, [], ◌∷◌, Option, None, Some, if◌then◌else◌, nat_le, nat_lt}
 use Rattle.code_symbols.specs.declared.boundary.Boundary.{Boundary}
 
 -- the second symbol if there is one, otherwise the first

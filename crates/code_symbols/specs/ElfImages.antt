@@ -5,6 +5,7 @@ use Rattle.code_symbols.specs.declared.elf.header.FileHeader.{FileHeader}
 use Rattle.code_symbols.specs.declared.elf.header.Section.{Section}
 use Rattle.code_symbols.specs.declared.elf.header.Segment.{Segment}
 use Rattle.code_symbols.specs.declared.elf.input.Encoding.{Encoding}
+use Rattle.code_symbols.specs.declared.elf.notes.NoteRange.{NoteRange}
 
 -- the number of `size` bytes at an offset of an entry, or 0 if they aren't completely in it
 abbrev pub number_at : Encoding → List ℕ → ℕ → ℕ → ℕ
@@ -61,4 +62,12 @@ segment_in e bytes = record {
   memory_size = word_at e bytes 20 40;
   file_size = word_at e bytes 16 32;
   is_executable = has_flag (half_at e bytes 24 4) 1;
+}
+
+-- the notes of the segment in an entry, aligned to 8 bytes if `p_align` is 8, otherwise to 4
+abbrev pub note_range_in : Encoding → List ℕ → NoteRange
+note_range_in e bytes = record {
+  offset = word_at e bytes 4 8;
+  size = word_at e bytes 16 32;
+  has_align_8 = word_at e bytes 28 48 == 8;
 }

@@ -1,6 +1,6 @@
 -- The symbol table of an ELF file that is read, and all of its symbols.
-use Rattle.std.specs.Prelude.{◌≡◌, ◌↔◌, ℕ, ◌<◌, ◌==◌, ◌&&◌, Bool, false, IsTrue, List, [], ◌∷◌, Option, MatchOption, length, position, slice_get, slice_index_or}
-use Rattle.std.specs.Option.{option_and_then, option_or}
+use Rattle.std.specs.Prelude.{◌≡◌, ◌↔◌, ℕ, ◌<◌, ◌==◌, ◌&&◌, Bool, false, IsTrue, List, [], ◌∷◌, Option, None, Some, MatchOption, length, position, slice_get, slice_index_or}
+use Rattle.std.specs.Option.{option_and_then, option_map, option_or}
 use Rattle.bstr.specs.Text.{Contains}
 use Rattle.code_symbols.specs.Contents.{contents_of, contents_of_some}
 use Rattle.code_symbols.specs.ElfFiles.{header_of, section_names_of, sections_of}
@@ -9,6 +9,8 @@ use Rattle.code_symbols.specs.RankedLists.{ranked_names_of, ranked_symbols_of}
 use Rattle.code_symbols.specs.StringTable.{bytes_of}
 use Rattle.code_symbols.specs.Strings.{string_in}
 use Rattle.code_symbols.specs.declared.elf.ElfFile.{ElfFile}
+use Rattle.code_symbols.specs.declared.elf.SymbolSection.{SymbolSection}
+use Rattle.code_symbols.specs.declared.elf.SymbolSection.TheVariants.{Dynamic, Full}
 use Rattle.code_symbols.specs.declared.elf.header.Section.{Section}
 use Rattle.code_symbols.specs.declared.elf.header.Segment.{Segment}
 use Rattle.code_symbols.specs.declared.elf.symbols.SymbolContext.{SymbolContext}
@@ -21,6 +23,23 @@ index_of_type sections section_type = position (λ s. s.section_type == section_
 -- the index of the symbol table that is read: the first one of the type `SHT_SYMTAB` or, without one, the first `SHT_DYNSYM`
 abbrev pub table_index : List Section → Option ℕ
 table_index sections = option_or (index_of_type sections 2) (index_of_type sections 11)
+
+-- the section of the symbols that are read, by the indices of the first `SHT_SYMTAB` and of the first `SHT_DYNSYM`
+abbrev pub symbol_section_by : Option ℕ → Option ℕ → Option SymbolSection
+symbol_section_by (Some full) dynamic = Some Full
+symbol_section_by None (Some dynamic) = Some Dynamic
+symbol_section_by None None = None
+
+abbrev pub symbol_section_in : List Section → Option SymbolSection
+symbol_section_in sections = symbol_section_by (index_of_type sections 2) (index_of_type sections 11)
+
+-- the symbol table that is read
+abbrev pub symbol_table_in : List Section → Option Section
+symbol_table_in sections = option_and_then (slice_get sections) (table_index sections)
+
+-- where the strings of the symbol table that is read are in the file
+abbrev pub names_offset_in : List Section → Option ℕ
+names_offset_in sections = option_map (λ s. s.offset) (option_and_then (λ t. slice_get sections t.link) (symbol_table_in sections))
 
 -- the section has this type, and is linked to the symbol table with this index
 abbrev pub is_linked : ℕ → ℕ → Section → Bool

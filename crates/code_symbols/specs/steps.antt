@@ -4,4 +4,5 @@ pub mod Merge
 pub mod Notes
 pub mod Plt
 pub mod PltRelocations
+pub mod Segments
 pub mod SymbolTables

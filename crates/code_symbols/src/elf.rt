@@ -1,8 +1,9 @@
 //! ELF files: their segments, symbols, build id and debug link (System V ABI, chapter "Object files").
 
-ghost use Rattle.std.specs.Option.{option_and_then};
-ghost use Rattle.std.specs.Prelude.{◌≡◌, ◌==◌, IfOk, IfSome, position, slice_get};
+ghost use Rattle.std.specs.Option.{option_and_then, option_map};
+ghost use Rattle.std.specs.Prelude.{◌≡◌, ◌==◌, ◌↔◌, IfOk, IfSome, IsTrue, position, slice_get};
 ghost use Rattle.perfdata_sources.specs.Source.{all_bytes_of};
+ghost use Rattle.code_symbols.specs.BuildIds.{IsIdInRange, IsIdInRanges};
 ghost use Rattle.code_symbols.specs.Contents.{contents_of, contents_of_some};
 ghost use Rattle.code_symbols.specs.DebugLinks.{IsAlternateLinkOf, IsDebugLinkOf};
 ghost use Rattle.code_symbols.specs.StringTable.{bytes_of};
@@ -100,22 +101,27 @@ impl<R: PlacedSource + Drop> ElfFile<R> {
     ghost use Rattle.code_symbols.specs.ElfFiles.{endian_of, file_type_of, machine_of, sections_of};
     ghost use Rattle.code_symbols.specs.ElfFiles.{HasSameHeaders, section_names_of, segments_of, source_of};
     ghost use Rattle.code_symbols.specs.SymbolTables.{SymbolsOf, index_of_type};
-    ghost use Rattle.code_symbols.specs.SymbolTables.{table_index};
+    ghost use Rattle.code_symbols.specs.SymbolTables.{names_offset_in, symbol_section_in, table_index};
+    ghost use Rattle.code_symbols.specs.NamedSections.{IsNamed, IsSectionOfName};
+    ghost use Rattle.code_symbols.specs.BuildIds.{IsBuildIdOfFile};
+    ghost use Rattle.code_symbols.specs.OpenedFiles.{OpensElf};
+    ghost use Rattle.code_symbols.specs.LinkedFiles.{IsAlternateLinkOfFile, IsDebugLinkOfFile};
 
     /// Reads the file header, the section headers with their names, and the program headers.
     ///
     /// The errors are those of [`ElfError`]. No count of the file reserves memory: tables are read in pieces
     /// of at most 4,096 bytes.
-    pub fn open(alloc: Global, mut source: R) -> Result<ElfFile<R>, ElfError> {
+    pub fn open(alloc: Global, source: R) -> Result<ElfFile<R>, ElfError>
+        ensures opens { IfOk result (λ f. IfSome (all_bytes_of (R.state source).position)
+            (λ all. OpensElf all f)) }
+        ensures all { IfOk result (λ f. all_bytes_of (R.state (source_of f)).position
+            ≡ all_bytes_of (R.state source).position) }
+    {
+        let mut source = source;
         let mut header = header::read_file_header(&mut source)?;
         let sections = header::read_sections(alloc, &mut source, &mut header)?;
-        let section_names = match find_section(&sections, header.names_index as usize) {
-            Some(section) => {
-                let bytes = read_contents(alloc, &mut source, &section, ElfTable::Strings)?;
-                Strings::new(alloc, bytes)?
-            }
-            None => Strings::new(alloc, Vec::new(alloc))?,
-        };
+        let names_index = header.names_index as usize;
+        let section_names = read_strings(alloc, &mut source, &sections, names_index)?;
         let Segments {
             loaded,
             frame_header,
@@ -162,7 +168,9 @@ impl<R: PlacedSource + Drop> ElfFile<R> {
     }
 
     /// Returns the section that `symbols` reads: `.symtab` if there is one, otherwise `.dynsym`.
-    pub fn symbol_section(&self) -> Option<SymbolSection> {
+    pub fn symbol_section(&self) -> Option<SymbolSection>
+        ensures { result ≡ symbol_section_in (sections_of self.now) }
+    {
         if self.index_of_type(header::SYMTAB).is_some() {
             Some(SymbolSection::Full)
         } else if self.index_of_type(header::DYNSYM).is_some() {
@@ -174,20 +182,24 @@ impl<R: PlacedSource + Drop> ElfFile<R> {
 
     /// Reads the build id, or `None` if the file has none: the first note of the type `NT_GNU_BUILD_ID` in
     /// the `PT_NOTE` segments, or in the note sections. The first 65,536 bytes of each are searched.
-    pub fn build_id(&mut self, alloc: Global) -> Result<Option<Vec<u8>>, ElfError> {
-        let encoding = self.header.encoding;
-        'notes: for range in self.notes.iter() {
-            let size = range.size.min(MAX_NOTE_SIZE);
-            let bytes = read_table(alloc, &mut self.source, range.offset, size, ElfTable::Notes)?;
-            if let Some(id) = find_build_id(encoding, &bytes, range.has_align_8) {
-                return Ok(Some(Vec::from_slice(alloc, id)?));
-            }
-        }
-        Ok(None)
+    pub fn build_id(&mut self, alloc: Global) -> Result<Option<Vec<u8>>, ElfError>
+        ensures id { IfOk result (λ id. IfSome (all_bytes_of (R.state (source_of self.old)).position)
+            (λ all. IsBuildIdOfFile all self.old (option_map (λ bytes. bytes.items) id))) }
+        ensures all { all_bytes_of (R.state (source_of self.new)).position
+            ≡ all_bytes_of (R.state (source_of self.old)).position }
+        ensures same { HasSameHeaders self.old self.new }
+    {
+        first_build_id(alloc, &mut self.source, self.header.encoding, &self.notes)
     }
 
     /// Reads the debug link, or `None` if the file has none.
-    pub fn debug_link(&mut self, alloc: Global) -> Result<Option<DebugLink>, ElfError> {
+    pub fn debug_link(&mut self, alloc: Global) -> Result<Option<DebugLink>, ElfError>
+        ensures link { IfOk result (λ link. IfSome (all_bytes_of (R.state (source_of self.old)).position)
+            (λ all. IsDebugLinkOfFile all self.old link)) }
+        ensures all { all_bytes_of (R.state (source_of self.new)).position
+            ≡ all_bytes_of (R.state (source_of self.old)).position }
+        ensures same { HasSameHeaders self.old self.new }
+    {
         let Some(mut section) = self.section_of_name(b".gnu_debuglink") else {
             return Ok(None);
         };
@@ -198,7 +210,13 @@ impl<R: PlacedSource + Drop> ElfFile<R> {
 
     /// Reads the link to the alternate file of the debugging information, or `None` if the file has none. Its
     /// first 65,536 bytes are read.
-    pub fn alternate_link(&mut self, alloc: Global) -> Result<Option<AlternateLink>, ElfError> {
+    pub fn alternate_link(&mut self, alloc: Global) -> Result<Option<AlternateLink>, ElfError>
+        ensures link { IfOk result (λ link. IfSome (all_bytes_of (R.state (source_of self.old)).position)
+            (λ all. IsAlternateLinkOfFile all self.old link)) }
+        ensures all { all_bytes_of (R.state (source_of self.new)).position
+            ≡ all_bytes_of (R.state (source_of self.old)).position }
+        ensures same { HasSameHeaders self.old self.new }
+    {
         let Some(mut section) = self.section_of_name(b".gnu_debugaltlink") else {
             return Ok(None);
         };
@@ -209,7 +227,9 @@ impl<R: PlacedSource + Drop> ElfFile<R> {
 
     /// Returns where the names of the symbols that `symbols` reads begin in the file, or `None` if it has no
     /// symbols. A name is at this offset plus its `name_start`.
-    pub fn names_offset(&self) -> Option<u64> {
+    pub fn names_offset(&self) -> Option<u64>
+        ensures { result ≡ names_offset_in (sections_of self.now) }
+    {
         let symbols = self.symbol_table()?;
         Some(find_section(&self.sections, symbols.link as usize)?.offset)
     }
@@ -227,6 +247,9 @@ impl<R: PlacedSource + Drop> ElfFile<R> {
         ensures of_table { IfOk result (λ symbols.
             IfSome (all_bytes_of (R.state (source_of self.old)).position)
             (λ all. SymbolsOf all self.old segments.now symbols)) }
+        ensures all { all_bytes_of (R.state (source_of self.new)).position
+            ≡ all_bytes_of (R.state (source_of self.old)).position }
+        ensures same { HasSameHeaders self.old self.new }
     {
         let full = self.index_of_type(header::SYMTAB);
         let Some(index) = full.or(self.index_of_type(header::DYNSYM)) else {
@@ -266,6 +289,8 @@ impl<R: PlacedSource + Drop> ElfFile<R> {
             ≡ contents_of_some all (slice_get (sections_of self.old) section.now.link))) }
         ensures text { IfOk result (λ p. AreTextFlags (section_names_of self.old) (sections_of self.old)
             p.text_sections.items) }
+        ensures all { all_bytes_of (R.state (source_of self.new)).position
+            ≡ all_bytes_of (R.state (source_of self.old)).position }
         ensures same { HasSameHeaders self.old self.new }
     {
         Ok(TableParts {
@@ -394,15 +419,23 @@ impl<R: PlacedSource + Drop> ElfFile<R> {
     }
 
     // The first section with a name that has contents in the file.
-    fn section_of_name(&self, name: &[u8]) -> Option<Section> {
+    fn section_of_name(&self, name: &[u8]) -> Option<Section>
+        ensures { IsSectionOfName (section_names_of self.now) (sections_of self.now) name.now result }
+    {
         'sections: for section in self.sections.iter() {
-            if section.section_type != header::NOBITS
-                && self.section_names.string(section.name as usize) == name
-            {
+            if self.is_named(section, name) {
                 return Some(*section);
             }
         }
         None
+    }
+
+    // Whether a section has contents in the file, and this name.
+    fn is_named(&self, section: &Section, name: &[u8]) -> bool
+        ensures { IsTrue result ↔ IsNamed (section_names_of self.now) name.now section.now }
+    {
+        section.section_type != header::NOBITS
+            && self.section_names.string(section.name as usize) == name
     }
 
     // The strings of the section that another one is linked to.
@@ -415,12 +448,72 @@ impl<R: PlacedSource + Drop> ElfFile<R> {
             ≡ all_bytes_of (R.state (source_of self.old)).position }
         ensures same { HasSameHeaders self.old self.new }
     {
-        let bytes = match find_section(&self.sections, section.link as usize) {
-            Some(strings) => read_contents(alloc, &mut self.source, &strings, ElfTable::Strings)?,
-            None => Vec::new(alloc),
-        };
-        Ok(Strings::new(alloc, bytes)?)
+        read_strings(
+            alloc,
+            &mut self.source,
+            &self.sections,
+            section.link as usize,
+        )
     }
+}
+
+// The strings of the section with an index, which has none if there is no such section.
+fn read_strings<R: PlacedSource>(
+    alloc: Global,
+    source: &mut R,
+    sections: &[Section],
+    index: usize,
+) -> Result<Strings, ElfError>
+    ensures strings { IfOk result (λ strings. IfSome (all_bytes_of (R.state source.old).position)
+        (λ all. bytes_of strings ≡ contents_of_some all (slice_get sections.now index))) }
+    ensures all { all_bytes_of (R.state source.new).position
+        ≡ all_bytes_of (R.state source.old).position }
+{
+    let bytes = match find_section(sections, index) {
+        Some(section) => read_contents(alloc, source, &section, ElfTable::Strings)?,
+        None => Vec::new(alloc),
+    };
+    Ok(Strings::new(alloc, bytes)?)
+}
+
+// The build id in a range of notes.
+fn read_build_id<R: PlacedSource>(
+    alloc: Global,
+    source: &mut R,
+    encoding: Encoding,
+    range: &NoteRange,
+) -> Result<Option<Vec<u8>>, ElfError>
+    ensures id { IfOk result (λ id. IfSome (all_bytes_of (R.state source.old).position)
+        (λ all. IsIdInRange encoding all range.now (option_map (λ bytes. bytes.items) id))) }
+    ensures all { all_bytes_of (R.state source.new).position
+        ≡ all_bytes_of (R.state source.old).position }
+{
+    let size = range.size.min(MAX_NOTE_SIZE);
+    let bytes = read_table(alloc, source, range.offset, size, ElfTable::Notes)?;
+    match find_build_id(encoding, &bytes, range.has_align_8) {
+        Some(id) => Ok(Some(Vec::from_slice(alloc, id)?)),
+        None => Ok(None),
+    }
+}
+
+// The build id in the first range of notes that has one.
+fn first_build_id<R: PlacedSource>(
+    alloc: Global,
+    source: &mut R,
+    encoding: Encoding,
+    notes: &[NoteRange],
+) -> Result<Option<Vec<u8>>, ElfError>
+    ensures id { IfOk result (λ id. IfSome (all_bytes_of (R.state source.old).position)
+        (λ all. IsIdInRanges encoding all notes.now (option_map (λ bytes. bytes.items) id))) }
+    ensures all { all_bytes_of (R.state source.new).position
+        ≡ all_bytes_of (R.state source.old).position }
+{
+    'notes: for range in notes.iter() {
+        if let Some(id) = read_build_id(alloc, source, encoding, range)? {
+            return Ok(Some(id));
+        }
+    }
+    Ok(None)
 }
 
 // The symbols of a table.

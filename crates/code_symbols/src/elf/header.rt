@@ -1,7 +1,15 @@
 //! The file header, the section headers and the program headers.
 
-ghost use Rattle.std.specs.Prelude.{◌≡◌, ◌≤◌, IfOk, OnOk};
-ghost use Rattle.code_symbols.specs.ElfImages.{header_in, section_in, segment_in};
+ghost use Rattle.std.specs.Prelude.{◌≡◌, ◌≤◌, ◌*◌, ◌++◌, ◌∷◌, [], IfOk, IfSome, OnOk, length};
+ghost use Rattle.std.specs.Option.{option_or};
+ghost use Rattle.std.specs.Prelude.{map};
+ghost use Rattle.perfdata_sources.specs.Source.{all_bytes_of};
+ghost use Rattle.code_symbols.specs.ElfHeaders.{HasEncoding, HasHeader, completed, first_entries};
+ghost use Rattle.code_symbols.specs.ElfHeaders.{frame_header_in, loaded_in, program_headers};
+ghost use Rattle.code_symbols.specs.ElfHeaders.{sections_in, segment_notes, table_bytes};
+ghost use Rattle.code_symbols.specs.ElfHeaders.{with_first_section};
+ghost use Rattle.code_symbols.specs.ElfImages.{note_range_in, section_in, segment_in};
+ghost use Rattle.code_symbols.specs.steps.Segments.{AreSegments};
 
 use crate::elf::input::{Encoding, TableEntry, read_table};
 use crate::elf::notes::NoteRange;
@@ -130,7 +138,9 @@ pub(crate) struct Section {
 }
 
 // The class and the byte order, by the first six bytes of a file.
-fn parse_encoding(start: &[u8]) -> Result<Encoding, ElfError> {
+fn parse_encoding(start: &[u8]) -> Result<Encoding, ElfError>
+    ensures { IfOk result (HasEncoding start.now) }
+{
     if start.len() < 6 || !start.starts_with(&MAGIC) {
         return Err(ElfError::NotElf);
     }
@@ -149,7 +159,7 @@ fn parse_encoding(start: &[u8]) -> Result<Encoding, ElfError> {
 
 // The file header in these bytes.
 fn parse_file_header(bytes: &[u8]) -> Result<FileHeader, ElfError>
-    ensures { IfOk result (λ header. header ≡ header_in header.encoding bytes.now) }
+    ensures { IfOk result (HasHeader bytes.now) }
 {
     let encoding = parse_encoding(bytes)?;
     if bytes.len() < encoding.select(HEADER_SIZE_32, MAX_HEADER_SIZE) {
@@ -176,7 +186,12 @@ fn parse_file_header(bytes: &[u8]) -> Result<FileHeader, ElfError>
 }
 
 // Reads the file header at the start of the source.
-pub(crate) fn read_file_header<R: PlacedSource>(source: &mut R) -> Result<FileHeader, ElfError> {
+pub(crate) fn read_file_header<R: PlacedSource>(source: &mut R) -> Result<FileHeader, ElfError>
+    ensures header { IfOk result (λ header. IfSome (all_bytes_of (R.state source.old).position)
+        (λ all. HasHeader all header)) }
+    ensures all { all_bytes_of (R.state source.new).position
+        ≡ all_bytes_of (R.state source.old).position }
+{
     let mut bytes = [0u8; MAX_HEADER_SIZE];
     source.seek_to(SeekFrom::Start(0))?;
     let count = fill(source, &mut bytes)?;
@@ -191,7 +206,12 @@ fn read_headers<R: PlacedSource>(
     min_size: usize,
     name: ElfTable,
 ) -> Result<Vec<u8>, ElfError>
-    ensures { OnOk result (min_size ≤ table.entry_size) }
+    ensures least { OnOk result (min_size ≤ table.entry_size) }
+    ensures size { IfOk result (λ bytes. length bytes.items ≡ table.count * table.entry_size) }
+    ensures bytes { IfOk result (λ bytes. IfSome (all_bytes_of (R.state source.old).position)
+        (λ all. bytes.items ≡ table_bytes all table)) }
+    ensures all { all_bytes_of (R.state source.new).position
+        ≡ all_bytes_of (R.state source.old).position }
 {
     if table.entry_size < min_size as u64 {
         return Err(ElfError::EntrySize(name, table.entry_size));
@@ -220,7 +240,9 @@ fn parse_section(entry: TableEntry<'_>) -> Section
 }
 
 // Takes the counts that do not fit into the file header from the first section.
-fn apply_first_section(header: &mut FileHeader, first: &Section) {
+fn apply_first_section(header: &mut FileHeader, first: &Section)
+    ensures { header.new ≡ with_first_section header.old first.now }
+{
     if header.sections.count == 0 {
         header.sections.count = first.size;
     }
@@ -237,10 +259,16 @@ pub(crate) fn read_sections<R: PlacedSource>(
     alloc: Global,
     source: &mut R,
     header: &mut FileHeader,
-) -> Result<Vec<Section>, ElfError> {
-    let mut sections = Vec::new(alloc);
+) -> Result<Vec<Section>, ElfError>
+    ensures header { OnOk result (IfSome (all_bytes_of (R.state source.old).position)
+        (λ all. header.new ≡ completed all header.old)) }
+    ensures sections { IfOk result (λ sections. IfSome (all_bytes_of (R.state source.old).position)
+        (λ all. sections.items ≡ sections_in all header.new)) }
+    ensures all { all_bytes_of (R.state source.new).position
+        ≡ all_bytes_of (R.state source.old).position }
+{
     if header.sections.offset == 0 {
-        return Ok(sections);
+        return Ok(Vec::new(alloc));
     }
     let encoding = header.encoding;
     let min_size = encoding.select(40, 64);
@@ -256,8 +284,27 @@ pub(crate) fn read_sections<R: PlacedSource>(
     apply_first_section(header, &first_section);
     let table = header.sections;
     let bytes = read_headers(alloc, source, table, min_size, ElfTable::SectionHeaders)?;
-    'sections: for bytes in bytes.chunks_exact(table.entry_size as usize) {
+    Ok(parse_sections(alloc, encoding, table, &bytes)?)
+}
+
+// The sections in the bytes of their table.
+fn parse_sections(
+    alloc: Global,
+    encoding: Encoding,
+    table: Table,
+    bytes: &[u8],
+) -> Result<Vec<Section>, AllocError>
+    requires { length bytes.now ≡ table.count * table.entry_size }
+    ensures { IfOk result (λ sections. sections.items
+        ≡ map (section_in encoding) (first_entries bytes.now table.entry_size table.count)) }
+{
+    let size = table.entry_size as usize;
+    let mut sections = Vec::new(alloc);
+    let mut at = 0;
+    'sections: for _index in 0..table.count {
+        let bytes = &bytes[at..at + size];
         sections.push(parse_section(TableEntry { encoding, bytes }))?;
+        at += size;
     }
     Ok(sections)
 }
@@ -274,7 +321,9 @@ fn parse_segment(entry: TableEntry<'_>) -> Segment
     }
 }
 
-fn parse_note_range(entry: TableEntry<'_>) -> NoteRange {
+fn parse_note_range(entry: TableEntry<'_>) -> NoteRange
+    ensures { result ≡ note_range_in entry.entry.encoding entry.entry.bytes.now }
+{
     NoteRange {
         offset: entry.word(4, 8),
         size: entry.word(16, 32),
@@ -283,8 +332,27 @@ fn parse_note_range(entry: TableEntry<'_>) -> NoteRange {
 }
 
 impl Segments {
+    fn new(alloc: Global) -> Segments
+        ensures loaded { result.loaded.items ≡ [] }
+        ensures notes { result.notes.items ≡ [] }
+        ensures frame_header { result.frame_header ≡ None }
+    {
+        Segments {
+            loaded: Vec::new(alloc),
+            frame_header: None,
+            notes: Vec::new(alloc),
+        }
+    }
+
     // Adds the segment of a program header, if it is used.
-    fn add(&mut self, entry: TableEntry<'_>) -> Result<(), AllocError> {
+    fn add(&mut self, entry: TableEntry<'_>) -> Result<(), AllocError>
+        ensures loaded { OnOk result (self.new.loaded.items
+            ≡ self.old.loaded.items ++ loaded_in entry.entry.encoding (entry.entry.bytes.now ∷ [])) }
+        ensures notes { OnOk result (self.new.notes.items
+            ≡ self.old.notes.items ++ segment_notes entry.entry.encoding (entry.entry.bytes.now ∷ [])) }
+        ensures frame_header { OnOk result (self.new.frame_header ≡ option_or self.old.frame_header
+            (frame_header_in entry.entry.encoding (entry.entry.bytes.now ∷ []))) }
+    {
         match entry.read_u32(0) {
             LOAD => self.loaded.push(parse_segment(entry))?,
             NOTE_SEGMENT => self.notes.push(parse_note_range(entry))?,
@@ -302,21 +370,40 @@ pub(crate) fn read_segments<R: PlacedSource>(
     alloc: Global,
     source: &mut R,
     header: &FileHeader,
-) -> Result<Segments, ElfError> {
-    let mut segments = Segments {
-        loaded: Vec::new(alloc),
-        frame_header: None,
-        notes: Vec::new(alloc),
-    };
+) -> Result<Segments, ElfError>
+    ensures segments { IfOk result (λ segments. IfSome (all_bytes_of (R.state source.old).position)
+        (λ all. AreSegments header.now.encoding (program_headers all header.now) segments)) }
+    ensures all { all_bytes_of (R.state source.new).position
+        ≡ all_bytes_of (R.state source.old).position }
+{
     let table = header.segments;
     if table.offset == 0 || table.count == 0 {
-        return Ok(segments);
+        return Ok(Segments::new(alloc));
     }
     let encoding = header.encoding;
     let min_size = encoding.select(32, 56);
     let bytes = read_headers(alloc, source, table, min_size, ElfTable::ProgramHeaders)?;
-    'segments: for bytes in bytes.chunks_exact(table.entry_size as usize) {
+    Ok(parse_segments(alloc, encoding, table, &bytes)?)
+}
+
+// The segments in the bytes of their table.
+fn parse_segments(
+    alloc: Global,
+    encoding: Encoding,
+    table: Table,
+    bytes: &[u8],
+) -> Result<Segments, AllocError>
+    requires { length bytes.now ≡ table.count * table.entry_size }
+    ensures { IfOk result
+        (AreSegments encoding (first_entries bytes.now table.entry_size table.count)) }
+{
+    let size = table.entry_size as usize;
+    let mut segments = Segments::new(alloc);
+    let mut at = 0;
+    'segments: for _index in 0..table.count {
+        let bytes = &bytes[at..at + size];
         segments.add(TableEntry { encoding, bytes })?;
+        at += size;
     }
     Ok(segments)
 }

@@ -1,5 +1,5 @@
 //! Tables of an ELF file, and the numbers in their entries.
-ghost use Rattle.std.specs.Prelude.{◌≡◌, ◌≤◌, IfOk, IfSome, slice_index};
+ghost use Rattle.std.specs.Prelude.{◌≡◌, ◌≤◌, IfOk, IfSome, length, slice_index};
 ghost use Rattle.perfdata_sources.specs.Source.{all_bytes_of};
 ghost use Rattle.code_symbols.specs.Contents.{IsRange};
 ghost use Rattle.code_symbols.specs.ElfImages.{by_class, half_at, number_at, word_at};
@@ -103,6 +103,7 @@ pub(crate) fn read_table<R: PlacedSource>(
     size: u64,
     table: ElfTable,
 ) -> Result<Vec<u8>, ElfError>
+    ensures size { IfOk result (λ bytes. length bytes.items ≡ size) }
     ensures range { IfOk result (λ bytes. IfSome (all_bytes_of (R.state source.old).position)
         (λ all. IsRange all offset size bytes.items)) }
     ensures all { all_bytes_of (R.state source.new).position

@@ -1,7 +1,8 @@
 //! Notes, and the build id in them.
 
 ghost use Rattle.std.specs.Option.{option_map};
-ghost use Rattle.std.specs.Prelude.{◌≡◌, ◌^◌, ◌<◌, ◌≤◌, IfNone, IfSome, length};
+ghost use Rattle.std.specs.Prelude.{◌≡◌, ◌^◌, ◌<◌, ◌≤◌, ◌++◌, IfNone, IfSome, OnOk, length};
+ghost use Rattle.code_symbols.specs.ElfHeaders.{section_notes};
 ghost use Rattle.code_symbols.specs.Notes.{IsComplete, IsFirstBuildId, IsKernelBuildId, note_alignment};
 ghost use Rattle.code_symbols.specs.Notes.{round_up};
 ghost use Rattle.code_symbols.specs.steps.Notes.{IsLayout};
@@ -33,7 +34,9 @@ pub(crate) struct NoteRange {
 pub(crate) fn add_note_sections(
     sections: &[Section],
     notes: &mut Vec<NoteRange>,
-) -> Result<(), AllocError> {
+) -> Result<(), AllocError>
+    ensures { OnOk result (notes.new.items ≡ notes.old.items ++ section_notes sections.now) }
+{
     'sections: for section in sections.iter() {
         if section.section_type == NOTE_SECTION {
             notes.push(NoteRange {
