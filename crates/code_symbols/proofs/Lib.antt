@@ -6,6 +6,7 @@ pub mod BuildIdLemmas
 pub mod ByteLemmas
 pub mod EntryLemmas
 pub mod HeaderLemmas
+pub mod JitLemmas
 pub mod KernelLineLemmas
 pub mod KernelSizeLemmas
 pub mod LayerLemmas

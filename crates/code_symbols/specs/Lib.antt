@@ -12,6 +12,7 @@ pub mod Kernel
 pub mod Layer
 pub mod Lines
 pub mod LinkedFiles
+pub mod Loads
 pub mod NamedSections
 pub mod Notes
 pub mod OpenedFiles

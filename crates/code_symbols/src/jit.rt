@@ -1,6 +1,10 @@
 //! The code that a jitdump describes, at a time.
 
-ghost use Rattle.std.specs.Prelude.{◌≡◌};
+ghost use Rattle.std.specs.Prelude.{◌≡◌, ◌≤◌, OnOk, length, map, take};
+ghost use Rattle.std.specs.List.Sorted.{IsNonDecreasingBy};
+ghost use Rattle.std.proofs.Props.{props};
+ghost use Rattle.code_symbols.specs.Loads.{AreUntil, ShowsMore, loaded_until};
+ghost use Rattle.code_symbols.specs.SymbolTable.{names_of, symbols_of};
 
 use crate::error::JitSymbolsError;
 use crate::symbol::Symbol;
@@ -28,6 +32,9 @@ pub struct JitSymbols {
     loads: Vec<Load>,
     added: usize,
     table: SymbolTable,
+    ghost sorted: { IsNonDecreasingBy (λ l. l.time) loads.items },
+    ghost within: { added ≤ length loads.items },
+    ghost shown: { symbols_of table ≡ map (λ l. l.symbol) (take added loads.items) } by { Prim.hlevel props },
 }
 
 // The loads that are read so far.
@@ -129,7 +136,7 @@ fn add_next<R: Source>(
 }
 
 impl JitSymbols {
-    ghost use Rattle.code_symbols.specs.Jit.{jit_table_of};
+    ghost use Rattle.code_symbols.specs.Jit.{jit_table_of, load_symbols, loads_of, shown_of};
 
     /// Reads the load and move records of a jitdump, up to its end or its first incomplete record.
     ///
@@ -169,7 +176,13 @@ impl JitSymbols {
     /// call it with times that don't decrease.
     ///
     /// If it fails with `AllocError`, it can be called again.
-    pub fn advance_to(&mut self, time: u64) -> Result<(), AllocError> {
+    pub fn advance_to(&mut self, time: u64) -> Result<(), AllocError>
+        ensures up_to { OnOk result (AreUntil time (shown_of self.old)
+            → shown_of self.new ≡ loaded_until time (loads_of self.old)) }
+        ensures kept { ShowsMore (shown_of self.old) (shown_of self.new) }
+        ensures loads { loads_of self.new ≡ loads_of self.old }
+        ensures names { names_of (jit_table_of self.new) ≡ names_of (jit_table_of self.old) }
+    {
         'loads: while self.added < self.loads.len() && self.loads[self.added].time <= time {
             self.table.push(self.loads[self.added].symbol)?;
             self.added += 1;
@@ -180,7 +193,8 @@ impl JitSymbols {
     /// Returns the code up to the time of the last `advance_to`. The last record that contains an address is
     /// preferred. Addresses are those of the process.
     pub fn table(&self) -> &SymbolTable
-        ensures { result.now ≡ jit_table_of self.now }
+        ensures table { result.now ≡ jit_table_of self.now }
+        ensures symbols { symbols_of result.now ≡ load_symbols (shown_of self.now) }
     {
         &self.table
     }
