@@ -1,6 +1,6 @@
 -- Entries of code that follow one another.
 use Rattle.std.proofs.Common.{◌≡◌, ℕ, ◌+◌, List, [], ◌∷◌, ◌++◌, Option, Some, sym, ap, subst}
-use Rattle.code_symbols.specs.steps.ArmPlt.{FollowEachOther}
+use Rattle.code_symbols.specs.ArmPlt.{FollowEachOther}
 use Rattle.code_symbols.specs.declared.elf.plt.PltEntry.{PltEntry}
 
 -- one more entry at the end

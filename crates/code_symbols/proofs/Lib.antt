@@ -17,6 +17,7 @@ pub mod NameLemmas
 pub mod NamedLemmas
 pub mod NoteLemmas
 pub mod MergeLemmas
+pub mod PltFileLemmas
 pub mod PltLemmas
 pub mod SectionLemmas
 pub mod StringLemmas

@@ -2,6 +2,7 @@ pub mod Crc
 pub mod Boundaries
 pub mod Contents
 pub mod DebugLinks
+pub mod ArmPlt
 pub mod BuildIds
 pub mod ElfFiles
 pub mod ElfHeaders
@@ -12,11 +13,15 @@ pub mod Kernel
 pub mod Layer
 pub mod Lines
 pub mod LinkedFiles
+pub mod LoadedBytes
 pub mod Loads
 pub mod NamedSections
 pub mod Notes
 pub mod OpenedFiles
 pub mod Plt
+pub mod PltEntries
+pub mod PltRanges
+pub mod PltSymbols
 pub mod RankedLists
 pub mod SimpleperfSymbols
 pub mod Strings

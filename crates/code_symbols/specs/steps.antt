@@ -1,8 +1,8 @@
-pub mod ArmPlt
 pub mod Boundaries
 pub mod Merge
 pub mod Notes
-pub mod Plt
+pub mod PltFiles
+pub mod PltParts
 pub mod PltRelocations
 pub mod Segments
 pub mod SymbolTables

@@ -8,6 +8,7 @@ ghost use Rattle.code_symbols.specs.Contents.{contents_of, contents_of_some};
 ghost use Rattle.code_symbols.specs.DebugLinks.{IsAlternateLinkOf, IsDebugLinkOf};
 ghost use Rattle.code_symbols.specs.StringTable.{bytes_of};
 ghost use Rattle.code_symbols.specs.SymbolTables.{AreTextFlags, is_linked, linked_section};
+ghost use Rattle.code_symbols.specs.steps.PltParts.{AddsOfParts};
 ghost use Rattle.code_symbols.specs.steps.SymbolTables.{AreSymbolsOfParts};
 
 use crate::error::{ElfError, ElfTable};
@@ -84,6 +85,18 @@ struct TableParts {
     text_sections: Vec<bool>,
 }
 
+// The bytes that say what the procedure linkage table calls: its relocations, the symbols and names of these,
+// and the code of `.plt` for 32-bit Arm. The sizes are those of entries.
+#[derive(Drop)]
+struct PltParts {
+    relocations: Vec<u8>,
+    relocation_size: u64,
+    symbols: Vec<u8>,
+    symbol_size: u64,
+    names: Strings,
+    code: Vec<u8>,
+}
+
 /// An ELF file whose headers are read.
 #[derive(Drop)]
 pub struct ElfFile<R> {
@@ -105,6 +118,9 @@ impl<R: PlacedSource + Drop> ElfFile<R> {
     ghost use Rattle.code_symbols.specs.NamedSections.{IsNamed, IsSectionOfName};
     ghost use Rattle.code_symbols.specs.BuildIds.{IsBuildIdOfFile};
     ghost use Rattle.code_symbols.specs.OpenedFiles.{OpensElf};
+    ghost use Rattle.code_symbols.specs.PltSymbols.{AddsPltSymbols, IsArmCode, IsCodeOfName};
+    ghost use Rattle.code_symbols.specs.PltSymbols.{IsPltCode, IsRelocationSection, only_symbols};
+    ghost use Rattle.code_symbols.specs.steps.PltFiles.{ArePltParts};
     ghost use Rattle.code_symbols.specs.LinkedFiles.{IsAlternateLinkOfFile, IsDebugLinkOfFile};
 
     /// Reads the file header, the section headers with their names, and the program headers.
@@ -318,44 +334,102 @@ impl<R: PlacedSource + Drop> ElfFile<R> {
         &mut self,
         alloc: Global,
         symbols: &mut RankedSymbols,
-    ) -> Result<(), ElfError> {
+    ) -> Result<(), ElfError>
+        ensures adds { IfSome (all_bytes_of (R.state (source_of self.old)).position)
+            (λ all. AddsPltSymbols all self.old symbols.old symbols.new) }
+        ensures all { all_bytes_of (R.state (source_of self.new)).position
+            ≡ all_bytes_of (R.state (source_of self.old)).position }
+        ensures same { HasSameHeaders self.old self.new }
+    {
+        let Some(parts) = self.read_plt_parts(alloc)? else {
+            return Ok(());
+        };
+        let plt = self.code_of_name(b".plt");
+        let second = self.code_of_name(b".plt.sec");
+        add_plt_of_parts(alloc, &self.header, parts, plt, second, symbols)
+    }
+
+    // The section with the relocations of the procedure linkage table.
+    fn relocation_section(&self) -> Option<Section>
+        ensures { IsRelocationSection (section_names_of self.now) (sections_of self.now) result }
+    {
         let rela = self.section_of_name(b".rela.plt");
-        let Some(relocations) = rela.or(self.section_of_name(b".rel.plt")) else {
-            return Ok(());
+        rela.or(self.section_of_name(b".rel.plt"))
+    }
+
+    // Reads what the procedure linkage table calls, if the file says it.
+    fn read_plt_parts(&mut self, alloc: Global) -> Result<Option<PltParts>, ElfError>
+        ensures parts { IfOk result (λ found. IfSome found (λ parts.
+            IfSome (all_bytes_of (R.state (source_of self.old)).position)
+            (λ all. ArePltParts all self.old parts))) }
+        ensures all { all_bytes_of (R.state (source_of self.new)).position
+            ≡ all_bytes_of (R.state (source_of self.old)).position }
+        ensures same { HasSameHeaders self.old self.new }
+    {
+        let Some(section) = self.relocation_section() else {
+            return Ok(None);
         };
-        let Some(dynamic) = self.find_symbol_table(relocations.link as usize) else {
-            return Ok(());
+        let Some(dynamic) = self.find_symbol_table(section.link as usize) else {
+            return Ok(None);
         };
-        let entries = read_contents(alloc, &mut self.source, &relocations, ElfTable::Relocations)?;
-        let dynamic_entries = read_contents(alloc, &mut self.source, &dynamic, ElfTable::Symbols)?;
-        let names = self.linked_strings(alloc, &dynamic)?;
-        let code = self.arm_code(alloc)?;
-        let context = plt::PltContext {
-            encoding: self.header.encoding,
-            machine: self.header.machine,
-            relocations: &entries,
-            relocation_size: relocations.entry_size,
-            symbols: &dynamic_entries,
+        Ok(Some(self.plt_parts(alloc, &section, &dynamic)?))
+    }
+
+    // Reads the parts of these sections of relocations and symbols.
+    fn plt_parts(
+        &mut self,
+        alloc: Global,
+        section: &Section,
+        dynamic: &Section,
+    ) -> Result<PltParts, ElfError>
+        ensures relocations { IfOk result (λ p. IfSome (all_bytes_of (R.state (source_of self.old)).position)
+            (λ all. p.relocations.items ≡ contents_of all section.now)) }
+        ensures symbols { IfOk result (λ p. IfSome (all_bytes_of (R.state (source_of self.old)).position)
+            (λ all. p.symbols.items ≡ contents_of all dynamic.now)) }
+        ensures names { IfOk result (λ p. IfSome (all_bytes_of (R.state (source_of self.old)).position)
+            (λ all. bytes_of p.names
+            ≡ contents_of_some all (slice_get (sections_of self.old) dynamic.now.link))) }
+        ensures code { IfOk result (λ p. IfSome (all_bytes_of (R.state (source_of self.old)).position)
+            (λ all. IsArmCode all self.old p.code.items)) }
+        ensures relocation_size { IfOk result (λ p. p.relocation_size ≡ section.now.entry_size) }
+        ensures symbol_size { IfOk result (λ p. p.symbol_size ≡ dynamic.now.entry_size) }
+        ensures all { all_bytes_of (R.state (source_of self.new)).position
+            ≡ all_bytes_of (R.state (source_of self.old)).position }
+        ensures same { HasSameHeaders self.old self.new }
+    {
+        Ok(PltParts {
+            relocations: read_contents(alloc, &mut self.source, section, ElfTable::Relocations)?,
+            relocation_size: section.entry_size,
+            symbols: read_contents(alloc, &mut self.source, dynamic, ElfTable::Symbols)?,
             symbol_size: dynamic.entry_size,
-            names: &names,
-            code: &code,
-            code_encoding: arm_plt::code_encoding(&self.header),
-        };
-        let plt_relocations = plt::PltRelocations::read(alloc, &context)?;
-        if let Some(section) = self.code_of_name(b".plt") {
-            plt_relocations.add_plt(alloc, &context, &section, symbols)?;
-        }
-        if let Some(section) = self.code_of_name(b".plt.sec") {
-            plt_relocations.add_second_plt(alloc, &context, &section, symbols)?;
-        }
-        Ok(())
+            names: self.linked_strings(alloc, dynamic)?,
+            code: self.arm_code(alloc)?,
+        })
     }
 
     // The code of `.plt` for 32-bit Arm, or none.
-    fn arm_code(&mut self, alloc: Global) -> Result<Vec<u8>, ElfError> {
-        if self.header.machine != plt::ARM {
-            return Ok(Vec::new(alloc));
+    fn arm_code(&mut self, alloc: Global) -> Result<Vec<u8>, ElfError>
+        ensures code { IfOk result (λ code. IfSome (all_bytes_of (R.state (source_of self.old)).position)
+            (λ all. IsArmCode all self.old code.items)) }
+        ensures all { all_bytes_of (R.state (source_of self.new)).position
+            ≡ all_bytes_of (R.state (source_of self.old)).position }
+        ensures same { HasSameHeaders self.old self.new }
+    {
+        if self.header.machine == plt::ARM {
+            self.plt_code(alloc)
+        } else {
+            Ok(Vec::new(alloc))
         }
+    }
+
+    // The code of `.plt`.
+    fn plt_code(&mut self, alloc: Global) -> Result<Vec<u8>, ElfError>
+        ensures code { IfOk result (λ code. IfSome (all_bytes_of (R.state (source_of self.old)).position)
+            (λ all. IsPltCode all self.old code.items)) }
+        ensures all { all_bytes_of (R.state (source_of self.new)).position
+            ≡ all_bytes_of (R.state (source_of self.old)).position }
+        ensures same { HasSameHeaders self.old self.new }
+    {
         match self.code_of_name(b".plt") {
             Some(section) => read_contents(alloc, &mut self.source, &section, ElfTable::Section),
             None => Ok(Vec::new(alloc)),
@@ -363,7 +437,9 @@ impl<R: PlacedSource + Drop> ElfFile<R> {
     }
 
     // The section with this index, if it is a symbol table.
-    fn find_symbol_table(&self, index: usize) -> Option<Section> {
+    fn find_symbol_table(&self, index: usize) -> Option<Section>
+        ensures { result ≡ option_and_then only_symbols (slice_get (sections_of self.now) index) }
+    {
         let section = find_section(&self.sections, index)?;
         match section.section_type {
             header::SYMTAB | header::DYNSYM => Some(section),
@@ -372,7 +448,9 @@ impl<R: PlacedSource + Drop> ElfFile<R> {
     }
 
     // The first section with a name that has contents in the file, if it is code.
-    fn code_of_name(&self, name: &[u8]) -> Option<Section> {
+    fn code_of_name(&self, name: &[u8]) -> Option<Section>
+        ensures { IsCodeOfName (section_names_of self.now) (sections_of self.now) name.now result }
+    {
         let section = self.section_of_name(name)?;
         if section.is_code { Some(section) } else { None }
     }
@@ -549,6 +627,31 @@ fn symbols_of_parts(
         names: names.into_bytes(),
         symbols,
     })
+}
+
+// Adds the symbols of the entries of procedure linkage tables.
+fn add_plt_of_parts(
+    alloc: Global,
+    header: &FileHeader,
+    parts: PltParts,
+    plt: Option<Section>,
+    second: Option<Section>,
+    symbols: &mut RankedSymbols,
+) -> Result<(), ElfError>
+    ensures { AddsOfParts header.now parts plt second symbols.old symbols.new }
+{
+    let context = plt::PltContext {
+        encoding: header.encoding,
+        machine: header.machine,
+        relocations: &parts.relocations,
+        relocation_size: parts.relocation_size,
+        symbols: &parts.symbols,
+        symbol_size: parts.symbol_size,
+        names: &parts.names,
+        code: &parts.code,
+        code_encoding: arm_plt::code_encoding(header),
+    };
+    plt::add_sections(alloc, &context, plt, second, symbols)
 }
 
 // Whether a section has this type, and is linked to the symbol table with this index.

@@ -1,6 +1,6 @@
 -- The relocations of a procedure linkage table.
 use Rattle.std.specs.Prelude.{All}
-use Rattle.code_symbols.specs.steps.Plt.{IsOfFile}
+use Rattle.code_symbols.specs.PltEntries.{IsOfFile}
 use Rattle.code_symbols.specs.declared.elf.plt.PltContext.{PltContext}
 use Rattle.code_symbols.specs.declared.elf.plt.PltRelocations.{PltRelocations}
 

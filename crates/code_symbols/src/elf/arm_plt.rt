@@ -1,8 +1,9 @@
 //! The entries of the procedure linkage table of 32-bit Arm, whose sizes follow from their code.
 
 ghost use Rattle.std.specs.Prelude.{◌≡◌, ◌<◌, ◌≤◌, ◌+◌, IfOk, IfSome, length};
-ghost use Rattle.code_symbols.specs.steps.ArmPlt.{AreEntries, arm_size, coded_size, is_thumb_table};
-ghost use Rattle.code_symbols.specs.steps.ArmPlt.{start_size, thumb_size};
+ghost use Rattle.code_symbols.specs.ArmPlt.{AreEntries, arm_size, coded_size, is_thumb_table};
+ghost use Rattle.code_symbols.specs.ArmPlt.{start_size, thumb_size};
+ghost use Rattle.code_symbols.specs.ArmPlt.{code_encoding_of};
 
 use crate::elf::header::FileHeader;
 use crate::elf::input::{Encoding, TableEntry};
@@ -46,7 +47,9 @@ pub(crate) struct CodedEntries {
 }
 
 // The byte order of the code.
-pub(crate) fn code_encoding(header: &FileHeader) -> Encoding {
+pub(crate) fn code_encoding(header: &FileHeader) -> Encoding
+    ensures { result ≡ code_encoding_of header.now }
+{
     if header.flags & LITTLE_CODE_FLAG == 0 {
         return header.encoding;
     }

@@ -1,5 +1,9 @@
 //! Bytes of segments.
 
+ghost use Rattle.std.specs.Prelude.{◌≡◌, IfNone, IfOk, IfSome};
+ghost use Rattle.perfdata_sources.specs.Source.{all_bytes_of};
+ghost use Rattle.code_symbols.specs.LoadedBytes.{HasBytesAt, HasCodeAt, IsRangeFrom, IsRangeOf};
+
 use crate::elf::ElfFile;
 use crate::elf::header::Segment;
 use crate::error::{ElfError, ElfTable};
@@ -14,7 +18,10 @@ pub(crate) struct FileRange {
 }
 
 // The bytes of a segment in the file from an address on.
-fn range_from(segment: &Segment, address: u64) -> Option<FileRange> {
+fn range_from(segment: &Segment, address: u64) -> Option<FileRange>
+    ensures some { IfSome result (IsRangeFrom segment.now address) }
+    ensures none { IfNone result (¬ HasBytesAt segment.now address) }
+{
     let skipped = address.checked_sub(segment.address)?;
     if skipped >= segment.file_size {
         return None;
@@ -26,7 +33,9 @@ fn range_from(segment: &Segment, address: u64) -> Option<FileRange> {
 }
 
 // The bytes in the file from an address on, up to the end of the first segment whose bytes contain it.
-pub(crate) fn loaded_from(segments: &[Segment], address: u64) -> Option<FileRange> {
+pub(crate) fn loaded_from(segments: &[Segment], address: u64) -> Option<FileRange>
+    ensures { IsRangeOf segments.now address result }
+{
     'segments: for segment in segments.iter() {
         if let Some(range) = range_from(segment, address) {
             return Some(range);
@@ -36,12 +45,20 @@ pub(crate) fn loaded_from(segments: &[Segment], address: u64) -> Option<FileRang
 }
 
 impl<R: PlacedSource + Drop> ElfFile<R> {
+    ghost use Rattle.code_symbols.specs.ElfFiles.{HasSameHeaders, segments_of, source_of};
+
     /// Reads the bytes that the file loads at an address, and returns their number: as many as `buffer` has,
     /// or fewer where the bytes of the segment end before. It is 0 if no bytes of the file are loaded there.
     ///
     /// It fails with `Truncated(Segment)` if the bytes aren't within the file, and with `Io` if the source
     /// fails. `buffer` may have other bytes then. No memory is allocated.
-    pub fn read_code(&mut self, address: u64, buffer: &mut [u8]) -> Result<usize, ElfError> {
+    pub fn read_code(&mut self, address: u64, buffer: &mut [u8]) -> Result<usize, ElfError>
+        ensures code { IfOk result (λ count. IfSome (all_bytes_of (R.state (source_of self.old)).position)
+            (λ all. HasCodeAt all (segments_of self.old) address count buffer.new)) }
+        ensures all { all_bytes_of (R.state (source_of self.new)).position
+            ≡ all_bytes_of (R.state (source_of self.old)).position }
+        ensures same { HasSameHeaders self.old self.new }
+    {
         let Some(range) = loaded_from(&self.segments, address) else {
             return Ok(0);
         };

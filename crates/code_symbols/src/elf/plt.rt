@@ -1,17 +1,19 @@
 //! The entries of the procedure linkage table.
 
 ghost use Rattle.std.specs.Prelude.{◌≡◌, ◌⊎◌, ◌+◌, ◌*◌, ◌%◌, ◌^◌, ◌<◌, ◌++◌, ◌∷◌, [], ℕ, List};
-ghost use Rattle.std.specs.Prelude.{All, IfOk, IfSome, OnErr, OnOk, false, filter};
+ghost use Rattle.std.specs.Prelude.{All, IfOk, IfSome, OnErr, OnOk, codes, false, filter};
 ghost use Rattle.code_symbols.specs.Plt.{IsInPointerOrder};
-ghost use Rattle.code_symbols.specs.steps.Plt.{AddsInOrder, AddsPlt, IsMade};
-ghost use Rattle.code_symbols.specs.steps.Plt.{IsOfFile, IsRelocation, fixed_entries, fixed_entry, has_entry};
+ghost use Rattle.code_symbols.specs.PltEntries.{AddsInOrder, AddsOfSection, AddsOfSections, AddsPlt};
+ghost use Rattle.code_symbols.specs.PltEntries.{HasText, IsMade, IsOfFile, IsRelocation, fixed_entries};
+ghost use Rattle.code_symbols.specs.PltEntries.{fixed_entry, has_entry, name_of_relocation};
+ghost use Rattle.code_symbols.specs.PltEntries.{symbol_of_relocation};
 ghost use Rattle.code_symbols.specs.declared.ranked.RankedSymbol.{RankedSymbol};
 
 use crate::elf::arm_plt::{CodedEntries, coded_entries};
 use crate::elf::header::Section;
 use crate::elf::input::{Encoding, TableEntry};
 use crate::elf::strings::Strings;
-use crate::elf::symbols::{min_symbol_size, parse_symbol};
+use crate::elf::symbols::{ElfSymbol, min_symbol_size, parse_symbol};
 use crate::error::{ElfError, ElfTable};
 use crate::ranked::{RankedSymbol, RankedSymbols};
 use crate::symbol::Symbol;
@@ -262,18 +264,29 @@ impl<'a> PltContext<'a> {
         Ok(relocations)
     }
 
-    // The name of the symbol of a relocation.
-    fn relocation_name(&self, relocation: &Relocation) -> Option<&'a [u8]> {
+    // The symbol of a relocation, if the symbol table has it.
+    fn relocation_symbol(&self, relocation: &Relocation) -> Option<ElfSymbol>
+        ensures { result ≡ symbol_of_relocation self.now relocation.now }
+    {
         let start = relocation.symbol.checked_mul(self.symbol_size)?;
         let end = start.checked_add(self.symbol_size)?;
         if end > self.symbols.len() as u64 {
             return None;
         }
-        let symbol = parse_symbol(TableEntry {
+        Some(parse_symbol(TableEntry {
             encoding: self.encoding,
             bytes: &self.symbols[start as usize..end as usize],
-        });
-        Some(self.names.string(symbol.name as usize))
+        }))
+    }
+
+    // The name of the symbol of a relocation, which is empty if the symbol table doesn't have the symbol.
+    fn relocation_name(&self, relocation: &Relocation) -> &'a [u8]
+        ensures { result.now ≡ name_of_relocation self.now relocation.now }
+    {
+        match self.relocation_symbol(relocation) {
+            Some(symbol) => self.names.string(symbol.name as usize),
+            None => &[],
+        }
     }
 }
 
@@ -401,8 +414,8 @@ impl PltRelocations {
         }
     }
 
-    /// Adds the symbols of the entries of `.plt`.
-    pub(crate) fn add_plt(
+    // Adds the symbols of the entries of `.plt`.
+    fn add_plt(
         &self,
         alloc: Global,
         context: &PltContext<'_>,
@@ -423,8 +436,8 @@ impl PltRelocations {
         }
     }
 
-    /// Adds the symbols of the entries of `.plt.sec`.
-    pub(crate) fn add_second_plt(
+    // Adds the symbols of the entries of `.plt.sec`.
+    fn add_second_plt(
         &self,
         alloc: Global,
         context: &PltContext<'_>,
@@ -440,6 +453,53 @@ impl PltRelocations {
             }
             None => Ok(()),
         }
+    }
+}
+
+// Adds the symbols of the entries of `.plt` and `.plt.sec`, of those that the file has.
+pub(crate) fn add_sections(
+    alloc: Global,
+    context: &PltContext<'_>,
+    plt: Option<Section>,
+    second: Option<Section>,
+    symbols: &mut RankedSymbols,
+) -> Result<(), ElfError>
+    ensures { AddsOfSections context.now plt second symbols.old symbols.new }
+{
+    let relocations = PltRelocations::read(alloc, context)?;
+    add_first(alloc, context, &relocations, plt, symbols)?;
+    Ok(add_second(alloc, context, &relocations, second, symbols)?)
+}
+
+// Adds the symbols of the entries of `.plt`.
+fn add_first(
+    alloc: Global,
+    context: &PltContext<'_>,
+    relocations: &PltRelocations,
+    section: Option<Section>,
+    symbols: &mut RankedSymbols,
+) -> Result<(), AllocError>
+    ensures { AddsOfSection context.now section symbols.old symbols.new }
+{
+    match section {
+        Some(section) => relocations.add_plt(alloc, context, &section, symbols),
+        None => Ok(()),
+    }
+}
+
+// Adds the symbols of the entries of `.plt.sec`.
+fn add_second(
+    alloc: Global,
+    context: &PltContext<'_>,
+    relocations: &PltRelocations,
+    section: Option<Section>,
+    symbols: &mut RankedSymbols,
+) -> Result<(), AllocError>
+    ensures { AddsOfSection context.now section symbols.old symbols.new }
+{
+    match section {
+        Some(section) => relocations.add_second_plt(alloc, context, &section, symbols),
+        None => Ok(()),
     }
 }
 
@@ -481,7 +541,8 @@ fn add_entry(
 ) -> Result<(), AllocError>
     ensures names { (more : List ℕ) × (symbols.new.names.items ≡ symbols.old.names.items ++ more) }
     ensures ok { OnOk result ((r : RankedSymbol)
-        × (symbols.new.symbols.items ≡ symbols.old.symbols.items ++ r ∷ []) × IsMade start size r) }
+        × (symbols.new.symbols.items ≡ symbols.old.symbols.items ++ r ∷ []) × IsMade start size r
+        × HasText symbols.new.names.items (name.now ++ codes "@plt") r) }
     ensures err { OnErr result (symbols.new.symbols.items ≡ symbols.old.symbols.items) }
 {
     let name_start = symbols.names.len();
@@ -512,7 +573,7 @@ fn add_entries(
     relocations: &[Relocation],
     symbols: &mut RankedSymbols,
 ) -> Result<(), AllocError>
-    ensures { AddsPlt section.now entries.now relocations.now symbols.old symbols.new }
+    ensures { AddsPlt context.now section.now entries.now relocations.now symbols.old symbols.new }
 {
     let limit = symbols
         .names
@@ -522,7 +583,7 @@ fn add_entries(
         if symbols.names.len() > limit || index >= entries.len() {
             return Ok(());
         }
-        let name = context.relocation_name(relocation).unwrap_or(&[]);
+        let name = context.relocation_name(relocation);
         if !name.is_empty() {
             let entry = entries[index];
             let start = section.offset.wrapping_add(entry.offset);

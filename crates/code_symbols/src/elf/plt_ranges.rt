@@ -1,5 +1,8 @@
 //! The addresses of procedure linkage tables.
 
+ghost use Rattle.std.specs.Prelude.{◌≡◌, IfOk, OnOk};
+ghost use Rattle.code_symbols.specs.PltRanges.{range_of};
+
 use crate::elf::ElfFile;
 use crate::elf::header::Section;
 use perfdata_base::source::PlacedSource;
@@ -16,7 +19,9 @@ pub struct PltRange {
     pub is_plt: bool,
 }
 
-fn plt_range(section: Section, is_plt: bool) -> PltRange {
+fn plt_range(section: Section, is_plt: bool) -> PltRange
+    ensures { result ≡ range_of is_plt section }
+{
     PltRange {
         address: section.address,
         size: section.size,
@@ -25,19 +30,36 @@ fn plt_range(section: Section, is_plt: bool) -> PltRange {
 }
 
 impl<R: PlacedSource + Drop> ElfFile<R> {
+    ghost use Rattle.code_symbols.specs.ElfFiles.{section_names_of, sections_of};
+    ghost use Rattle.code_symbols.specs.PltRanges.{AddsRange, ArePltRanges};
+
     /// Returns the addresses of the code in `.plt`, `.plt.sec`, `.plt.got` and `.iplt`, in this order. Of
     /// several sections with a name it is the first with contents.
-    pub fn plt_ranges(&self, alloc: Global) -> Result<Vec<PltRange>, AllocError> {
+    pub fn plt_ranges(&self, alloc: Global) -> Result<Vec<PltRange>, AllocError>
+        ensures { IfOk result (λ ranges. ArePltRanges (section_names_of self.now) (sections_of self.now)
+            ranges.items) }
+    {
         let mut ranges = Vec::new(alloc);
-        if let Some(section) = self.code_of_name(b".plt") {
-            ranges.push(plt_range(section, true))?;
-        }
-        let others: [&[u8]; 3] = [b".plt.sec", b".plt.got", b".iplt"];
-        'others: for name in others.iter() {
-            if let Some(section) = self.code_of_name(name) {
-                ranges.push(plt_range(section, false))?;
-            }
-        }
+        self.add_range(b".plt", true, &mut ranges)?;
+        self.add_range(b".plt.sec", false, &mut ranges)?;
+        self.add_range(b".plt.got", false, &mut ranges)?;
+        self.add_range(b".iplt", false, &mut ranges)?;
         Ok(ranges)
+    }
+
+    // Adds the addresses of the code of a name, if there is such code.
+    fn add_range(
+        &self,
+        name: &[u8],
+        is_plt: bool,
+        ranges: &mut Vec<PltRange>,
+    ) -> Result<(), AllocError>
+        ensures { OnOk result (AddsRange (section_names_of self.now) (sections_of self.now) name.now is_plt
+            ranges.old.items ranges.new.items) }
+    {
+        if let Some(section) = self.code_of_name(name) {
+            ranges.push(plt_range(section, is_plt))?;
+        }
+        Ok(())
     }
 }

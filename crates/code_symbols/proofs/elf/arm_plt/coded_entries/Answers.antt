@@ -1,5 +1,5 @@
 use Rattle.std.proofs.Common.{◌≡◌, ◌+◌, ◌++◌, ◌∷◌, [], ℕ, Option, Some, sym, subst}
-use Rattle.code_symbols.specs.steps.ArmPlt.{FollowEachOther, coded_size, start_size}
+use Rattle.code_symbols.specs.ArmPlt.{FollowEachOther, coded_size, start_size}
 use Rattle.code_symbols.proofs.ArmPltLemmas.{follow_more}
 use Rattle.code_symbols.proofs.elf.arm_plt.coded_entries.Goals as goal
 

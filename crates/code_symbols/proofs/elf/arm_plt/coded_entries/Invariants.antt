@@ -1,5 +1,5 @@
 use Rattle.std.proofs.Common.{◌≤◌, ◌-◌, length}
-use Rattle.code_symbols.specs.steps.ArmPlt.{FollowEachOther, coded_size, start_size}
+use Rattle.code_symbols.specs.ArmPlt.{FollowEachOther, coded_size, start_size}
 use Rattle.code_symbols.proofs.elf.arm_plt.coded_entries.Given as goal
 
 abbrev pub invariant-entries : goal.invariant-entries

@@ -1,5 +1,5 @@
 use Rattle.std.proofs.Common.{◌≡◌, filter, take}
-use Rattle.code_symbols.specs.steps.Plt.{has_entry}
+use Rattle.code_symbols.specs.PltEntries.{has_entry}
 use Rattle.code_symbols.proofs.elf.plt.with_kinds.Given as goal
 
 abbrev pub invariant-relocations : goal.invariant-relocations

@@ -1,6 +1,6 @@
 use Rattle.std.proofs.Common.{◌≤◌, ◌-◌, length}
 use Rattle.std.specs.Prelude.{All}
-use Rattle.code_symbols.specs.steps.Plt.{IsOfFile}
+use Rattle.code_symbols.specs.PltEntries.{IsOfFile}
 use Rattle.code_symbols.proofs.elf.plt.PltContext.all_relocations.Given as goal
 
 abbrev pub invariant-relocations : goal.invariant-relocations

@@ -1,5 +1,5 @@
 use Rattle.std.proofs.Common.{◌≡◌}
-use Rattle.code_symbols.specs.steps.Plt.{fixed_entries}
+use Rattle.code_symbols.specs.PltEntries.{fixed_entries}
 use Rattle.code_symbols.proofs.elf.plt.PltLayout.entries.Given as goal
 
 abbrev pub invariant-entries : goal.invariant-entries

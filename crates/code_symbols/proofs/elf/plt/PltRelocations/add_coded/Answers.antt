@@ -1,5 +1,5 @@
 use Rattle.std.proofs.Common.{sym, subst, inl, inr}
-use Rattle.code_symbols.specs.steps.Plt.{AddsPlt}
+use Rattle.code_symbols.specs.PltEntries.{AddsPlt}
 use Rattle.code_symbols.proofs.elf.plt.PltRelocations.add_coded.Goals as goal
 use Rattle.code_symbols.proofs.elf.plt.PltRelocations.add_coded.Goals.{in-Some+in_ok-add_entries, in_default}
 
@@ -21,7 +21,7 @@ returns-clause-adds c =
         relocations = w.in-Some.relocations.now;
         of_table = inr (c.in_ok-entries.field-0, c.in_ok-entries.ensures, w.deref.ensures.value);
         in_order = w.in-Some.ensures;
-        adds = subst (AddsPlt c.args.section.now w.deref.result.now w.in-Some.relocations.now c.args.symbols.now) (sym w.symbols-is) w.add_entries.ensures;
+        adds = subst (AddsPlt c.args.context.now c.args.section.now w.deref.result.now w.in-Some.relocations.now c.args.symbols.now) (sym w.symbols-is) w.add_entries.ensures;
       })
       | in_default w ↦ inl w.symbols-is
     ]

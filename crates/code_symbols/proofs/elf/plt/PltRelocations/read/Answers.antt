@@ -4,7 +4,7 @@ use Rattle.std.proofs.lemmas.List.Elements.{All-filter}
 use Rattle.std.proofs.lemmas.List.Kept.{IsNonDecreasingBy-filter}
 use Rattle.std.proofs.lemmas.List.Sorted.{All-permutation, IsNonDecreasingBy-from_sort_by_key}
 use Rattle.code_symbols.specs.Plt.{IsInPointerOrder}
-use Rattle.code_symbols.specs.steps.Plt.{IsOfFile, has_entry}
+use Rattle.code_symbols.specs.PltEntries.{IsOfFile, has_entry}
 use Rattle.code_symbols.proofs.elf.plt.PltRelocations.read.Goals as goal
 
 pub invariant_of-result : goal.invariant_of-result

@@ -1,7 +1,11 @@
--- Steps of private functions: the entries of procedure linkage tables.
-use Rattle.std.specs.Prelude.{◌≡◌, ◌⊎◌, ℕ, zero, suc, ◌+◌, ◌*◌, ◌/◌, ◌%◌, ◌^◌, ◌≤◌, Bool, true, false, List, [], ◌∷◌, ◌++◌, All, Some, if◌then◌else◌, length, slice_get, slice_range}
-use Rattle.code_symbols.specs.steps.ArmPlt.{AreEntries}
+-- The entries of procedure linkage tables, and their symbols.
+use Rattle.std.specs.Prelude.{◌≡◌, ◌⊎◌, ℕ, zero, suc, ◌+◌, ◌*◌, ◌/◌, ◌%◌, ◌^◌, ◌≤◌, Bool, true, false, Option, List, [], ◌∷◌, ◌++◌, All, Some, if◌then◌else◌, length, slice_get, slice_range, None, codes, nat_le}
+use Rattle.code_symbols.specs.ArmPlt.{AreEntries}
 use Rattle.code_symbols.specs.ElfImages.{word_at}
+use Rattle.code_symbols.specs.ElfSymbols.{elf_symbol_in}
+use Rattle.code_symbols.specs.StringTable.{bytes_of}
+use Rattle.code_symbols.specs.Strings.{string_in}
+use Rattle.code_symbols.specs.declared.elf.symbols.ElfSymbol.{ElfSymbol}
 use Rattle.code_symbols.specs.declared.elf.arm_plt.CodedEntries.{CodedEntries}
 use Rattle.code_symbols.specs.declared.elf.header.Section.{Section}
 use Rattle.code_symbols.specs.declared.elf.input.Encoding.{Encoding}
@@ -47,28 +51,50 @@ abbrev pub AreOfTable : PltContext → List PltEntry → Type 0
 AreOfTable c entries = ((layout : PltLayout) × (count : ℕ) × (entries ≡ fixed_entries layout count))
     ⊎ ((coded : CodedEntries) × AreEntries c.code_encoding c.code.now coded × (entries ≡ coded.entries.items))
 
+-- the symbol of a relocation, if the symbol table has it
+abbrev pub symbol_of_relocation : PltContext → Relocation → Option ElfSymbol
+symbol_of_relocation c r = let start : ℕ = r.symbol * c.symbol_size in
+    if nat_le (start + c.symbol_size) (length c.symbols.now)
+    then Some (elf_symbol_in c.encoding (slice_range c.symbols.now start (start + c.symbol_size))) else None
+
+-- the name of a symbol in a string table, or no bytes
+abbrev pub name_of_some : List ℕ → Option ElfSymbol → List ℕ
+name_of_some names None = []
+name_of_some names (Some s) = string_in names s.name
+
+-- the name of the symbol of a relocation
+abbrev pub name_of_relocation : PltContext → Relocation → List ℕ
+name_of_relocation c r = name_of_some (bytes_of c.names.now) (symbol_of_relocation c r)
+
+-- the symbol's name is this text, in these bytes
+pub record HasText (names text : List ℕ) (r : RankedSymbol) : Type 0 where
+  pub within : r.symbol.name_end ≤ length names
+  pub is : slice_range names r.symbol.name_start r.symbol.name_end ≡ text
+
 -- the symbol was made with this start and this size
 pub record IsMade (start size : ℕ) (r : RankedSymbol) : Type 0 where
   pub start_is : r.symbol.start ≡ start
   pub size_is : r.symbol.size ≡ size
   pub made : r.is_made ≡ true
 
--- the symbol is that of an entry, which has the index of one of the relocations
-pub record IsOfPlt (section : Section) (entries : List PltEntry) (relocations : List Relocation) (r : RankedSymbol) : Type 0 where
+-- the symbol is that of an entry, which has the index of one of the relocations: its name is that of the relocation's symbol, with `@plt`
+pub record IsOfPlt (c : PltContext) (section : Section) (entries : List PltEntry) (relocations : List Relocation)
+    (names : List ℕ) (r : RankedSymbol) : Type 0 where
   pub index : ℕ
   pub relocation : Relocation
   pub entry : PltEntry
   pub is : slice_get relocations index ≡ Some relocation
   pub entry_is : slice_get entries index ≡ Some entry
   pub made : IsMade ((section.offset + entry.offset) % 2 ^ 64) entry.size r
+  pub text : HasText names (name_of_relocation c relocation ++ codes "@plt") r
 
 -- symbols of entries are appended, and names
-pub record AddsPlt (section : Section) (entries : List PltEntry) (relocations : List Relocation) (old new : RankedSymbols) : Type 0 where
+pub record AddsPlt (c : PltContext) (section : Section) (entries : List PltEntry) (relocations : List Relocation) (old new : RankedSymbols) : Type 0 where
   pub added : List RankedSymbol
   pub names : List ℕ
   pub appended : new.symbols.items ≡ old.symbols.items ++ added
   pub appended_names : new.names.items ≡ old.names.items ++ names
-  pub each : All (IsOfPlt section entries relocations) added
+  pub each : All (IsOfPlt c section entries relocations new.names.items) added
 
 -- symbols of the entries of a table are appended, each that of a relocation in the order of the addresses of their pointers
 pub record AddsInOrder (c : PltContext) (section : Section) (old new : RankedSymbols) : Type 0 where
@@ -76,4 +102,15 @@ pub record AddsInOrder (c : PltContext) (section : Section) (old new : RankedSym
   pub relocations : List Relocation
   pub of_table : AreOfTable c entries
   pub in_order : IsInPointerOrder relocations
-  pub adds : AddsPlt section entries relocations old new
+  pub adds : AddsPlt c section entries relocations old new
+
+-- symbols of the entries of a section are appended, each with the name of the relocation of its entry, or none
+abbrev pub AddsOfSection : PltContext → Option Section → RankedSymbols → RankedSymbols → Type 0
+AddsOfSection c None old new = new ≡ old
+AddsOfSection c (Some s) old new = (new ≡ old) ⊎ AddsInOrder c s old new
+
+-- symbols of the entries of two sections are appended, one after the other
+pub record AddsOfSections (c : PltContext) (plt second : Option Section) (old new : RankedSymbols) : Type 0 where
+  pub between : RankedSymbols
+  pub adds_plt : AddsOfSection c plt old between
+  pub adds_second : AddsOfSection c second between new

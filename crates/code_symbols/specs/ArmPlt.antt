@@ -1,7 +1,9 @@
 -- The entries of procedure linkage tables of 32-bit Arm, by their code.
 use Rattle.std.specs.Prelude.{◌≡◌, ℕ, ◌+◌, ◌/◌, ◌^◌, ◌==◌, ◌&&◌, Bool, List, [], ◌∷◌, Option, None, Some, bit_and, if◌then◌else◌}
+use Rattle.perfdata_sources.specs.declared.endian.Endianness.TheVariants.{LittleEndian}
 use Rattle.code_symbols.specs.ElfImages.{number_at}
 use Rattle.code_symbols.specs.declared.elf.arm_plt.CodedEntries.{CodedEntries}
+use Rattle.code_symbols.specs.declared.elf.header.FileHeader.{FileHeader}
 use Rattle.code_symbols.specs.declared.elf.input.Encoding.{Encoding}
 use Rattle.code_symbols.specs.declared.elf.plt.PltEntry.{PltEntry}
 
@@ -38,3 +40,7 @@ FollowEachOther size_at at (x ∷ xs) end = (x.offset ≡ at) × (size_at at ≡
 -- the entries of a table with this code
 abbrev pub AreEntries : Encoding → List ℕ → CodedEntries → Type 0
 AreEntries e code c = FollowEachOther (coded_size e code) (start_size e code) c.entries.items c.end
+
+-- the byte order of code: little-endian in files with `EF_ARM_BE8`, otherwise that of numbers
+abbrev pub code_encoding_of : FileHeader → Encoding
+code_encoding_of h = if bit_and h.flags 0x800000 == 0 then h.encoding else record { endian = LittleEndian; is_64_bit = h.encoding.is_64_bit }
