@@ -15,9 +15,11 @@ mod HeldRounds
 mod InMemoryRounds
 pub mod InMemorySteps
 pub mod PerfRule
+pub mod ReadRecords
 pub mod StreamingCalls
 pub mod StreamingSteps
 pub mod StreamingBlocks
 pub mod StreamingBudget
 pub mod StreamingRule
 pub mod StreamingRounds
+pub mod StreamingEnds

@@ -14,7 +14,7 @@ use Rattle.perfdata_order.specs.Sorter.{held_of}
 use Rattle.perfdata_order.specs.SorterLaws.{releases_in}
 use Rattle.perfdata_order.specs.SorterLaws.Call.{inserts, ends_round, ends_all, releases, returns, keeps}
 use Rattle.perfdata_order.specs.StreamingOrder.{unplaced_of, budget_of, held_bytes_of, early_of, FitsBudget, InsertsPending, ReturnsSorted, Step, TakesSteps}
-use Rattle.perfdata_order.specs.StreamingOrder.Step.{reads, passes, reads_end, reads_error, sorts, reports}
+use Rattle.perfdata_order.specs.StreamingOrder.Step.{reads, reads_round_end, passes, reads_end, reads_error, sorts, reports}
 use Rattle.perfdata_order.specs.StreamingLaws.{calls_in, CountsEarly, NoneEarlyWithoutBudget, StaysWithinBudget}
 use Rattle.perfdata_order.proofs.SorterCalls.{held_after_insert, held_before_return}
 use Rattle.perfdata_order.proofs.StreamingSteps.{half_released}
@@ -42,6 +42,7 @@ module _ {R : Type 0} (state : R → State) where
   counted : (steps : List Step) (first last : OrderedRecords R) (file file' : PerfFile) → TakesSteps state steps first file last file' → Counted steps first last
   counted [] first last file file' (same, same_file) = λ fits. ap (λ s. early_of s) same ∙ none_more (early_of first) fits
   counted (reads key h ∷ steps) first last file file' (next, (next_file, step, rest)) = same_count steps first next last step.same_order.same_budget.early (counted steps next last next_file file' rest)
+  counted (reads_round_end ended ∷ steps) first last file file' (next, (next_file, step, rest)) = same_count steps first next last step.same_order.same_budget.early (counted steps next last next_file file' rest)
   counted (passes h ∷ steps) first last file file' (next, (next_file, step, rest)) = same_count steps first next last step.0.same_order.same_budget.early (counted steps next last next_file file' rest)
   counted (reads_end ∷ steps) first last file file' (next, (next_file, step, rest)) = same_count steps first next last step.same_order.same_budget.early (counted steps next last next_file file' rest)
   counted (reads_error e ∷ steps) first last file file' (next, (next_file, step, rest)) = same_count steps first next last step.same_order.same_budget.early (counted steps next last next_file file' rest)
@@ -67,6 +68,7 @@ module _ {R : Type 0} (state : R → State) where
   none_released : (steps : List Step) (first last : OrderedRecords R) (file file' : PerfFile) → budget_of first ≡ 0 → TakesSteps state steps first file last file' → releases_in (calls_in steps) ≡ 0
   none_released [] first last file file' none taken = refl
   none_released (reads key h ∷ steps) first last file file' none (next, (next_file, step, rest)) = none_released steps next last next_file file' (step.same_order.same_budget.budget ∙ none) rest
+  none_released (reads_round_end ended ∷ steps) first last file file' none (next, (next_file, step, rest)) = none_released steps next last next_file file' (step.same_order.same_budget.budget ∙ none) rest
   none_released (passes h ∷ steps) first last file file' none (next, (next_file, step, rest)) = none_released steps next last next_file file' (step.0.same_order.same_budget.budget ∙ none) rest
   none_released (reads_end ∷ steps) first last file file' none (next, (next_file, step, rest)) = none_released steps next last next_file file' (step.same_order.same_budget.budget ∙ none) rest
   none_released (reads_error e ∷ steps) first last file file' none (next, (next_file, step, rest)) = none_released steps next last next_file file' (step.same_order.same_budget.budget ∙ none) rest
@@ -163,6 +165,8 @@ module _ {R : Type 0} (state : R → State) where
   within_after : (budget : ℕ) (steps : List Step) (first last : OrderedRecords R) (file file' : PerfFile) → 0 < budget → budget < 2 ^ 64 → TakesSteps state steps first file last file' → Within budget first → Within budget last
   within_after budget [] first last file file' some fits (same, same_file) w = subst (λ s. Within budget s) (sym same) w
   within_after budget (reads key h ∷ steps) first last file file' some fits (next, (next_file, step, rest)) w =
+      within_after budget steps next last next_file file' some fits rest (held_within budget first next step.same_order.same_budget.budget step.same_order.same_budget.held_bytes (ap (λ x. held_of x) step.same_order.sorter) w)
+  within_after budget (reads_round_end ended ∷ steps) first last file file' some fits (next, (next_file, step, rest)) w =
       within_after budget steps next last next_file file' some fits rest (held_within budget first next step.same_order.same_budget.budget step.same_order.same_budget.held_bytes (ap (λ x. held_of x) step.same_order.sorter) w)
   within_after budget (passes h ∷ steps) first last file file' some fits (next, (next_file, step, rest)) w =
       within_after budget steps next last next_file file' some fits rest (held_within budget first next step.0.same_order.same_budget.budget step.0.same_order.same_budget.held_bytes (ap (λ x. held_of x) step.0.same_order.sorter) w)

@@ -10,6 +10,8 @@ use Rattle.perfdata_sections.specs.declared.error.Error.{Error}
 use Rattle.linux_perf_data.specs.declared.records.iter.PerfRecordIter.{PerfRecordIter}
 use Rattle.linux_perf_data.specs.declared.perf_file.PerfFile.{PerfFile}
 use Rattle.linux_perf_data.specs.Iter.{ReturnsRecord}
+use Rattle.linux_perf_data.specs.Items.{ReturnsNextRecord, ReturnsRoundEnd}
+use Rattle.linux_perf_data.proofs.RecordHeaders.{record_least}
 use Rattle.linux_perf_data.specs.Layout.{RecordView}
 use Rattle.perfdata_order.specs.declared.held_record.RecordEnvelope.{RecordEnvelope}
 use Rattle.perfdata_order.specs.declared.held_record.HeldRecord.{HeldRecord}
@@ -19,12 +21,12 @@ use Rattle.perfdata_order.specs.declared.streaming.PendingStep.{PendingStep}
 use Rattle.perfdata_order.specs.declared.streaming.PendingStep.TheVariants as variant
 use Rattle.perfdata_order.specs.declared.streaming.OrderedRecords.{OrderedRecords}
 use Rattle.perfdata_order.specs.HeldRecord.{view_with, held_view, held_size}
-use Rattle.perfdata_order.specs.Sorter.{held_of, available_of, pending_of, IsUnchanged, TestsAvailable, Inserted, HalfReleased, EndsAllRounds}
+use Rattle.perfdata_order.specs.Sorter.{held_of, available_of, pending_of, IsUnchanged, TestsAvailable, Inserted, HalfReleased, EndsRound, EndsAllRounds}
 use Rattle.perfdata_order.specs.SorterLaws.Call.{inserts, ends_round, ends_all, releases, returns, keeps}
-use Rattle.perfdata_order.specs.StreamingOrder.{Unplaced, unplaced_by, unplaced_of, AfterPlacing, PlacesPending, IsUnplaced, EndReturned, RecordReturned, Step, returned_in, TakesStep, TakesSteps, Progress, Places, ReadsPending, ReadsWaiting, ReadsAndHolds, PassesPending, KeepsSorter, EndsRounds, InsertsPending, ReturnsSorted, FailsInOrder, IsOneRoundLater, IsLaterOrLast, SameBudget, FitsBudget, IsAdmitted, HasAvailable, AdmitsPending, ReleasesForPending, budget_of, early_of, held_bytes_of}
+use Rattle.perfdata_order.specs.StreamingOrder.{Unplaced, unplaced_by, unplaced_of, after_round, AfterPlacing, PlacesPending, IsUnplaced, EndReturned, RecordReturned, Step, returned_in, TakesStep, TakesSteps, Progress, Places, ReadsPending, ReadsWaiting, ReadsAndHolds, PassesPending, KeepsSorter, EndsRounds, InsertsPending, ReturnsSorted, FailsInOrder, IsOneRoundLater, IsLaterOrLast, SameBudget, FitsBudget, IsAdmitted, HasAvailable, AdmitsPending, ReleasesForPending, budget_of, early_of, held_bytes_of}
 use Rattle.perfdata_order.specs.steps.StreamingOrder.{IsOngoing, pending_records, HasNoUntimed, EndsRoundsBefore, TakesEnd, ReleasesEarly, MayInsert, with_pending}
-use Rattle.perfdata_order.specs.StreamingOrder.Unplaced.{nothing, waiting, ending, failing, failed}
-use Rattle.perfdata_order.specs.StreamingOrder.Step.{reads, passes, reads_end, reads_error, sorts, reports}
+use Rattle.perfdata_order.specs.StreamingOrder.Unplaced.{nothing, waiting, round_ending, ending, failing, failed}
+use Rattle.perfdata_order.specs.StreamingOrder.Step.{reads, reads_round_end, passes, reads_end, reads_error, sorts, reports}
 use Rattle.perfdata_order.specs.steps.Reading.{IsUpToRound, ReadsAndInserts}
 use Rattle.perfdata_order.specs.Times.{time_key_of}
 use Rattle.perfdata_order.proofs.SorterCalls.{held_split}
@@ -32,6 +34,7 @@ use Rattle.perfdata_order.proofs.SorterCalls.{held_split}
 pub none_append : (ss ts : List Step) → returned_in ss ≡ [] → returned_in ts ≡ [] → returned_in (ss ++ ts) ≡ []
 none_append [] ts none more = more
 none_append (reads key h ∷ ss) ts none more = none_append ss ts none more
+none_append (reads_round_end ended ∷ ss) ts none more = none_append ss ts none more
 none_append (passes h ∷ ss) ts none more = cc
 none_append (reads_end ∷ ss) ts none more = none_append ss ts none more
 none_append (reads_error e ∷ ss) ts none more = none_append ss ts none more
@@ -47,6 +50,7 @@ none_append (reports e ∷ ss) ts none more = none_append ss ts none more
 abbrev pub IsLast : Unplaced → Type 0
 IsLast nothing = ⊥
 IsLast (waiting key h) = ⊥
+IsLast round_ending = ⊥
 IsLast ending = Unit {0}
 IsLast (failing e) = Unit {0}
 IsLast failed = Unit {0}
@@ -55,6 +59,7 @@ IsLast failed = Unit {0}
 abbrev IsWaiting : Unplaced → Type 0
 IsWaiting nothing = ⊥
 IsWaiting (waiting key h) = Unit {0}
+IsWaiting round_ending = ⊥
 IsWaiting ending = ⊥
 IsWaiting (failing e) = ⊥
 IsWaiting failed = ⊥
@@ -63,6 +68,7 @@ IsWaiting failed = ⊥
 abbrev unplaced_round : Unplaced → ℕ
 unplaced_round nothing = 0
 unplaced_round (waiting key h) = h.round
+unplaced_round round_ending = 0
 unplaced_round ending = 0
 unplaced_round (failing e) = 0
 unplaced_round failed = 0
@@ -71,6 +77,7 @@ unplaced_round failed = 0
 abbrev pub unplaced_body : Unplaced → List ℕ
 unplaced_body nothing = []
 unplaced_body (waiting key h) = h.body
+unplaced_body round_ending = []
 unplaced_body ending = []
 unplaced_body (failing e) = []
 unplaced_body failed = []
@@ -78,6 +85,7 @@ unplaced_body failed = []
 pub body_read : (p : PendingStep) (body : List ℕ) (key : Option ℕ) (h : RecordView) → unplaced_by p body ≡ waiting key h → body ≡ h.body
 body_read variant.Nothing body key h is = cc
 body_read (variant.Record key' envelope) body key h is = ap unplaced_body is
+body_read variant.RoundEnd body key h is = cc
 body_read variant.End body key h is = cc
 body_read (variant.Failure e) body key h is = cc
 body_read variant.Failed body key h is = cc
@@ -121,8 +129,9 @@ module _ {R : Type 0} (state : R → State) where
   pub progress_read : (a b c : OrderedRecords R) (f g h : PerfFile) → Progress state a f b g → ReadsPending state b g c h → Progress state a f c h
   progress_read a b c f g h p (inl (pending, same, same_file)) = subst (λ s. Progress state a f s h) (sym same) (subst (λ q. Progress state a f b q) (sym same_file) p)
   progress_read a b c f g h p (inr (inl (key, (view, held)))) = progress_places a held.read c f h (progress_more a b held.read f g h p (reads key view) refl held.was_read) held.places
-  progress_read a b c f g h p (inr (inr (inl read))) = progress_more a b c f g h p reads_end refl read
-  progress_read a b c f g h p (inr (inr (inr (e, read)))) = progress_more a b c f g h p (reads_error e) refl read
+  progress_read a b c f g h p (inr (inr (inl (ended, read)))) = progress_more a b c f g h p (reads_round_end ended) refl read
+  progress_read a b c f g h p (inr (inr (inr (inl read)))) = progress_more a b c f g h p reads_end refl read
+  progress_read a b c f g h p (inr (inr (inr (inr (e, read))))) = progress_more a b c f g h p (reads_error e) refl read
 
   pub progress_kept : (a b c : OrderedRecords R) (f g : PerfFile) → Progress state a f b g → KeepsSorter b c → Progress state a f c g
   progress_kept a b c f g p kept = progress_more a b c f g g p (sorts keeps) refl (kept, refl)
@@ -149,6 +158,16 @@ module _ {R : Type 0} (state : R → State) where
     step = passes view;
     returns_record = refl;
     taken = (passed, refl);
+  }
+
+  -- No call of the sorter.
+  pub keeps_itself : (s : OrderedRecords R) → KeepsSorter s s
+  keeps_itself s = record {
+    unchanged = record { available = refl; pending = refl; held = refl; limit = refl; greatest = refl; slots = record { kept = omega arith; few = omega arith } };
+    pending = refl;
+    same_records = refl;
+    round = refl;
+    same_budget = record { budget = refl; held_bytes = refl; early = refl };
   }
 
   -- ---- placing what is pending
@@ -191,7 +210,7 @@ module _ {R : Type 0} (state : R → State) where
       record {
         round = subst (λ p. IsOneRoundLater p a.round b.round) (sym was) (one.is_next, one.round);
         ended = one.ended;
-        pending = one.pending;
+        pending = subst (λ p. unplaced_of b ≡ after_round p) (sym was) (one.pending ∙ was);
         same_records = one.same_records;
         same_budget = one.same_budget;
       },
@@ -294,15 +313,16 @@ module _ {R : Type 0} (state : R → State) where
       let h = view_with envelope read.body in
       let key = read.inserts.key in
       let middle = with_pending (record old { records = new.records; body = new.records.body }) (Some key) envelope in
+      let can = may_insert (record old { body = body }) last envelope.place.round may read.inserts.may_hold.in_round in
       let was_read : ReadsWaiting state old file (Some key) h middle file' = record {
         nothing_pending = none;
+        none_available = can.none_available;
         returned = read.returned;
         has_time = read.inserts.may_hold.has_time;
-        pending = ap (λ b. waiting (Some key) (view_with envelope b)) read.returned.buffered_body;
+        pending = ap (λ b. waiting (Some key) (view_with envelope b)) read.returned.returned.buffered_body;
         same_order = record { sorter = refl; round = refl; same_budget = record { budget = refl; held_bytes = refl; early = refl } };
       } in
       let done = read.inserts.inserted in
-      let can = may_insert (record old { body = body }) last envelope.place.round may read.inserts.may_hold.in_round in
       let is : held_size (held_view done.0) ≡ size = ap (λ x. held_size x) done.1.1 ∙ sym read.inserts.counts in
       let small = read.inserts.may_hold.is_small in
       let counts = read.inserts.counts in
@@ -328,14 +348,15 @@ module _ {R : Type 0} (state : R → State) where
       ))
 
   -- The record was read, and its body copied. It is pending.
-  pub read_and_copied : (old new : OrderedRecords R) (file file' : PerfFile) (envelope : RecordEnvelope) → unplaced_of old ≡ nothing → ReturnsRecord state old.records file (view_with envelope new.body.items) new.records file'
+  pub read_and_copied : (old new : OrderedRecords R) (file file' : PerfFile) (envelope : RecordEnvelope) → unplaced_of old ≡ nothing → available_of old.held.sorter ≡ [] → ReturnsNextRecord state old.records file (view_with envelope new.body.items) new.records file'
       → IsUnchanged old.held.sorter new.held.sorter → unplaced_of new ≡ waiting (time_key_of envelope.place) (view_with envelope new.body.items) → new.round ≡ old.round → SameBudget old new → ReadsPending state old file new file'
-  read_and_copied old new file file' envelope none returned unchanged is same_round same_budget =
+  read_and_copied old new file file' envelope none none_available returned unchanged is same_round same_budget =
       let key = time_key_of envelope.place in
       let h = view_with envelope new.body.items in
       let middle = with_pending (record old { records = new.records; body = new.body }) key envelope in
       let was_read : ReadsWaiting state old file key h middle file' = record {
         nothing_pending = none;
+        none_available = none_available;
         returned = returned;
         has_time = refl;
         pending = refl;
@@ -343,13 +364,19 @@ module _ {R : Type 0} (state : R → State) where
       } in
       inr (inl (key, (h, read_kept old middle new file file' key h was_read (record { unchanged = unchanged; pending = is; same_records = refl; round = same_round; same_budget = record { budget = same_budget.budget; held_bytes = same_budget.held_bytes; early = same_budget.early } }))))
 
-  -- ---- what a record that was read shows of the offset
+  -- ---- what a record or a marker that was read shows of the offset
 
   pub offset_rises : (old new : PerfRecordIter R) (file file' : PerfFile) (h : RecordView) → ReturnsRecord state old file h new file' → (old.offset + 8 ≤ new.offset) × (new.offset < 2 ^ 64)
   offset_rises old new file file' h returned =
       let at = returned.record_offset in
       let offset = returned.offset in
       (omega (arith, at, offset), returned.offset_fits)
+
+  pub offset_after_marker : (old new : PerfRecordIter R) (file file' : PerfFile) (ended : ℕ) → ReturnsRoundEnd state old file ended new file' → (old.offset + 8 ≤ new.offset) × (new.offset < 2 ^ 64)
+  offset_after_marker old new file file' ended r =
+      let least = record_least old.endian r.marker r.is_record in
+      let offset = r.offset in
+      (omega (arith, least, offset), r.offset_fits)
 
   -- ---- what placing leaves
 
@@ -385,12 +412,18 @@ module _ {R : Type 0} (state : R → State) where
       (placed.places, subst (λ q. AfterPlacing state q b) (sym was) (placed.pending ∙ was, placed.in_round), placed.same_records)
   untimed_placed a b (Err e) h was kept = places_kept a a b (places_none a a refl) kept
 
+  -- What the end of the pending round does to what is pending and to the round.
+  abbrev pub EndsPendingRound : OrderedRecords R → Result (Unit {0}) AllocError → OrderedRecords R → Type 0
+  EndsPendingRound a (Ok done) c = (unplaced_of c ≡ nothing) × (c.round ≡ min (a.round + 1) 18446744073709551615)
+  EndsPendingRound a (Err e) c = (unplaced_of c ≡ unplaced_of a) × (c.round ≡ a.round)
+
   ended : (a c : OrderedRecords R) → Places state a c → (q : Unplaced) → unplaced_of a ≡ q → AfterPlacing state q c → c.records ≡ a.records → Places state a c × AfterPlacing state (unplaced_of a) c × (c.records ≡ a.records)
   ended a c places q is after same_records = (places, subst (λ q. AfterPlacing state q c) (sym is) after, same_records)
 
   last_round : (q : Unplaced) (old new : ℕ) → IsLast q → new ≡ old → IsLaterOrLast q old new
   last_round nothing old new last same = absurd last
   last_round (waiting key h) old new last same = absurd last
+  last_round round_ending old new last same = absurd last
   last_round ending old new last same = same
   last_round (failing e) old new last same = same
   last_round failed old new last same = same
@@ -398,6 +431,7 @@ module _ {R : Type 0} (state : R → State) where
   last_after : (q : Unplaced) (c : OrderedRecords R) → IsLast q → unplaced_of c ≡ q → pending_of c.held.sorter ≡ [] → AfterPlacing state q c
   last_after nothing c last same none = absurd last
   last_after (waiting key h) c last same none = absurd last
+  last_after round_ending c last same none = absurd last
   last_after ending c last same none = (same, none)
   last_after (failing e) c last same none = (same, none)
   last_after failed c last same none = (same, none)
@@ -409,6 +443,23 @@ module _ {R : Type 0} (state : R → State) where
   last_placed a c (Err e) q last is unchanged pending same_records same_round same_budget =
       places_kept a a c (places_none a a refl) (record { unchanged = unchanged; pending = pending; same_records = same_records; round = same_round; same_budget = same_budget })
 
+  -- The round whose end was pending ended, or nothing changed.
+  pub round_end_placed : (a c : OrderedRecords R) (result : Result (Unit {0}) AllocError) → unplaced_of a ≡ round_ending → EndsRound nat_cmp a.held.sorter result c.held.sorter → EndsPendingRound a result c → c.records ≡ a.records → SameBudget a c → PlacesPending state a result c
+  round_end_placed a c (Ok done) was round (pending, next) same_records same_budget =
+      ended a c (places_more a a c (places_none a a refl) (sorts ends_round) refl (λ file. (
+        record {
+          round = subst (λ p. IsOneRoundLater p a.round c.round) (sym was) next;
+          ended = round;
+          pending = subst (λ p. unplaced_of c ≡ after_round p) (sym was) pending;
+          same_records = same_records;
+          same_budget = same_budget;
+        },
+        refl,
+      )))
+      round_ending was pending same_records
+  round_end_placed a c (Err e) was unchanged (pending, same_round) same_records same_budget =
+      places_kept a a c (places_none a a refl) (record { unchanged = unchanged; pending = pending; same_records = same_records; round = same_round; same_budget = same_budget })
+
   -- Nothing was placed, because records are available.
   pub available_placed : (a b : OrderedRecords R) (key : ℕ) (h : RecordView) → unplaced_of a ≡ waiting (Some key) h → HasAvailable state a b → Places state a b × AfterPlacing state (unplaced_of a) b × (b.records ≡ a.records)
   available_placed a b key h was made = (made.places, subst (λ q. AfterPlacing state q b) (sym was) (inr (made.pending ∙ was, made.available)), made.same_records)
@@ -418,6 +469,7 @@ module _ {R : Type 0} (state : R → State) where
   none_pending_at (waiting None h) p b after last is = absurd (subst (λ x. IsLast x) (sym is ∙ after.0) last)
   none_pending_at (waiting (Some key) h) p b (inl after) last is = absurd (subst (λ x. IsLast x) (sym is ∙ after) last)
   none_pending_at (waiting (Some key) h) p b (inr after) last is = absurd (subst (λ x. IsLast x) (sym is ∙ after.0) last)
+  none_pending_at round_ending p b after last is = absurd (subst (λ x. IsLast x) (sym is ∙ after) last)
   none_pending_at ending p b after last is = after.1
   none_pending_at (failing e) p b after last is = after.1
   none_pending_at failed p b after last is = after.1
@@ -428,6 +480,7 @@ module _ {R : Type 0} (state : R → State) where
   untimed_in_round (waiting None h') b h after is = subst (λ n. n ≤ b.round) (ap unplaced_round (sym after.0 ∙ is)) after.1
   untimed_in_round (waiting (Some key) h') b h (inl after) is = absurd (subst (λ x. IsWaiting x) (sym is ∙ after) tt)
   untimed_in_round (waiting (Some key) h') b h (inr after) is = absurd (subst (λ x. HasNoUntimed x) (sym after.0 ∙ is) tt)
+  untimed_in_round round_ending b h after is = absurd (subst (λ x. IsWaiting x) (sym is ∙ after) tt)
   untimed_in_round ending b h after is = absurd (subst (λ x. IsWaiting x) (sym is ∙ after.0) tt)
   untimed_in_round (failing e) b h after is = absurd (subst (λ x. IsWaiting x) (sym is ∙ after.0) tt)
   untimed_in_round failed b h after is = absurd (subst (λ x. IsWaiting x) (sym is ∙ after.0) tt)
@@ -469,7 +522,7 @@ module _ {R : Type 0} (state : R → State) where
 
   -- ---- a call ends
 
-  -- What is left to do: bytes to read, and a record to place.
+  -- What is left to do: bytes to read, and a record or the end of a round to place.
   abbrev pub work_of : OrderedRecords R → ℕ
   work_of s = 2 * (2 ^ 64 - s.records.offset) + pending_records (unplaced_of s)
 
@@ -487,6 +540,7 @@ module _ {R : Type 0} (state : R → State) where
   placed_record : (q : Unplaced) (p : OrderedRecords R) → IsUnplaced q → AfterPlacing state q p → available_of p.held.sorter ≡ [] → HasNoUntimed (unplaced_of p) → IsOngoing (unplaced_of p) → (pending_records q ≡ 1) × (unplaced_of p ≡ nothing)
   placed_record nothing p pending after none no_untimed ongoing = absurd pending
   placed_record (waiting key h) p pending after none no_untimed ongoing = (refl, none_after key h p after none no_untimed)
+  placed_record round_ending p pending after none no_untimed ongoing = (refl, after)
   placed_record ending p pending after none no_untimed ongoing = absurd (subst (λ x. IsOngoing x) after.0 ongoing)
   placed_record (failing e) p pending after none no_untimed ongoing = absurd (subst (λ x. IsOngoing x) after.0 ongoing)
   placed_record failed p pending after none no_untimed ongoing = absurd (subst (λ x. IsOngoing x) after.0 ongoing)
@@ -503,12 +557,18 @@ module _ {R : Type 0} (state : R → State) where
       falls_by_record s.records.offset kept.records.offset (pending_records (unplaced_of s)) (pending_records (unplaced_of kept))
       (sym (ap (λ r. r.offset) unchanged.same_records ∙ ap (λ r. r.offset) same_records ∙ ap (λ q. q.records.offset) same)) placed.0 (ap pending_records (unchanged.pending ∙ placed.1))
   work_falls s b p kept f g (inr (inl (key, (h, held)))) after same_records available unchanged no_untimed ongoing =
-      let rises = offset_rises s.records held.read.records f g h held.was_read.returned in
+      let rises = offset_rises s.records held.read.records f g h held.was_read.returned.returned in
       let none = none_held_pending (unplaced_of b) p key h held.pending after available (subst (λ x. HasNoUntimed x) unchanged.pending no_untimed) in
       let same = ap (λ r. r.offset) unchanged.same_records ∙ ap (λ r. r.offset) same_records ∙ ap (λ r. r.offset) held.same_records in
       falls_by_read s.records.offset kept.records.offset (pending_records (unplaced_of s)) (pending_records (unplaced_of kept))
       (subst (λ n. s.records.offset + 8 ≤ n) (sym same) rises.0) (subst (λ n. n < 2 ^ 64) (sym same) rises.1) (ap pending_records (unchanged.pending ∙ none))
-  work_falls s b p kept f g (inr (inr (inl read))) after same_records available unchanged no_untimed ongoing =
+  work_falls s b p kept f g (inr (inr (inl (ended, read)))) after same_records available unchanged no_untimed ongoing =
+      let rises = offset_after_marker s.records b.records f g ended read.returned in
+      let none = subst (λ q. AfterPlacing state q p) read.pending after in
+      let same = ap (λ r. r.offset) unchanged.same_records ∙ ap (λ r. r.offset) same_records in
+      falls_by_read s.records.offset kept.records.offset (pending_records (unplaced_of s)) (pending_records (unplaced_of kept))
+      (subst (λ n. s.records.offset + 8 ≤ n) (sym same) rises.0) (subst (λ n. n < 2 ^ 64) (sym same) rises.1) (ap pending_records (unchanged.pending ∙ none))
+  work_falls s b p kept f g (inr (inr (inr (inl read)))) after same_records available unchanged no_untimed ongoing =
       let placed = subst (λ q. AfterPlacing state q p) read.pending after in absurd (subst (λ x. IsOngoing x) (unchanged.pending ∙ placed.0) ongoing)
-  work_falls s b p kept f g (inr (inr (inr (e, read)))) after same_records available unchanged no_untimed ongoing =
+  work_falls s b p kept f g (inr (inr (inr (inr (e, read))))) after same_records available unchanged no_untimed ongoing =
       let placed = subst (λ q. AfterPlacing state q p) read.pending after in absurd (subst (λ x. IsOngoing x) (unchanged.pending ∙ placed.0) ongoing)

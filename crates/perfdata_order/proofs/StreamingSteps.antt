@@ -7,16 +7,19 @@ use Rattle.perfdata_sources.specs.Source.{State}
 use Rattle.linux_perf_data.specs.declared.perf_file.PerfFile.{PerfFile}
 use Rattle.linux_perf_data.specs.declared.records.iter.PerfRecordIter.{PerfRecordIter}
 use Rattle.linux_perf_data.specs.Layout.{RecordView}
+use Rattle.linux_perf_data.specs.Iter.{ReturnsRecord}
+use Rattle.linux_perf_data.specs.Items.{ReturnsRoundEnd}
 use Rattle.linux_perf_data.specs.Reading.{ReturnsRecords}
+use Rattle.linux_perf_data.proofs.MarkerCalls.{marker_skipped, record_after}
 use Rattle.perfdata_order.specs.declared.held_record.HeldRecord.{HeldRecord}
 use Rattle.perfdata_order.specs.declared.streaming.OrderedRecords.{OrderedRecords}
 use Rattle.perfdata_order.specs.HeldRecord.{held_view, held_size}
 use Rattle.perfdata_order.specs.Sorter.{held_of}
 use Rattle.perfdata_order.specs.SorterLaws.{MakesCalls}
 use Rattle.perfdata_order.specs.SorterLaws.Call.{inserts, ends_round, ends_all, releases, returns, keeps}
-use Rattle.perfdata_order.specs.StreamingOrder.{Unplaced, unplaced_of, Step, TakesSteps, returned_in, HalfReleasedEarly, ReleasesForPending}
-use Rattle.perfdata_order.specs.StreamingOrder.Unplaced.{nothing, waiting, ending, failing, failed}
-use Rattle.perfdata_order.specs.StreamingOrder.Step.{reads, passes, reads_end, reads_error, sorts, reports}
+use Rattle.perfdata_order.specs.StreamingOrder.{Unplaced, unplaced_of, after_round, Step, TakesSteps, returned_in, HalfReleasedEarly, ReleasesForPending}
+use Rattle.perfdata_order.specs.StreamingOrder.Unplaced.{nothing, waiting, round_ending, ending, failing, failed}
+use Rattle.perfdata_order.specs.StreamingOrder.Step.{reads, reads_round_end, passes, reads_end, reads_error, sorts, reports}
 use Rattle.perfdata_order.specs.StreamingLaws.{read_in, calls_in, unplaced_records, held_records, ReturnsEachRecordOnce, ReadsRecordsOfSource, CallsSorterInTurn}
 use Rattle.perfdata_order.proofs.SorterCalls.{held_after_insert, held_before_return}
 use Rattle.perfdata_order.proofs.StreamingCalls.{IsLast}
@@ -25,14 +28,34 @@ pub half_released : {R : Type 0} (q : Unplaced) (old new : OrderedRecords R) →
 half_released nothing old new released = absurd released
 half_released (waiting None h) old new released = absurd released
 half_released (waiting (Some key) h) old new released = (held_size h, released)
+half_released round_ending old new released = absurd released
 half_released ending old new released = absurd released
 half_released (failing e) old new released = absurd released
 half_released failed old new released = absurd released
+
+-- The end of a round leaves the same record pending.
+same_records_after : (q : Unplaced) → unplaced_records (after_round q) ≡ unplaced_records q
+same_records_after nothing = refl
+same_records_after (waiting key h) = refl
+same_records_after round_ending = refl
+same_records_after ending = refl
+same_records_after (failing e) = refl
+same_records_after failed = refl
+
+still_last : (q : Unplaced) → IsLast q → IsLast (after_round q)
+still_last nothing final = absurd final
+still_last (waiting key h) final = absurd final
+still_last round_ending final = absurd final
+still_last ending final = tt
+still_last (failing e) final = tt
+still_last failed final = tt
 
 module _ {R : Type 0} (state : R → State) where
   pub calls_sorter_in_turn : CallsSorterInTurn state
   calls_sorter_in_turn first last file file' [] (same, same_file) = ap (λ s. s.held.sorter) same
   calls_sorter_in_turn first last file file' (reads key h ∷ steps) (next, (next_file, step, rest)) =
+      subst (λ s. MakesCalls nat_cmp (calls_in steps) s last.held.sorter) step.same_order.sorter (calls_sorter_in_turn next last next_file file' steps rest)
+  calls_sorter_in_turn first last file file' (reads_round_end ended ∷ steps) (next, (next_file, step, rest)) =
       subst (λ s. MakesCalls nat_cmp (calls_in steps) s last.held.sorter) step.same_order.sorter (calls_sorter_in_turn next last next_file file' steps rest)
   calls_sorter_in_turn first last file file' (passes h ∷ steps) (next, (next_file, step, rest)) =
       subst (λ s. MakesCalls nat_cmp (calls_in steps) s last.held.sorter) step.0.same_order.sorter (calls_sorter_in_turn next last next_file file' steps rest)
@@ -83,6 +106,10 @@ module _ {R : Type 0} (state : R → State) where
       let regrouped : held_records state next ++ read_in steps ≡ held_records state first ++ h ∷ read_in steps =
       ap (λ h. h ++ read_in steps) after ∙ append_assoc (entries (held_of first.held.sorter)) (h ∷ []) (read_in steps) ∙ ap (λ hs. hs ++ h ∷ read_in steps) (sym plain) in
       subst (λ h. IsPermutation h (returned_in steps ++ held_records state last)) regrouped (once_from steps next last next_file file' rest)
+  once_from (reads_round_end ended ∷ steps) first last file file' (next, (next_file, step, rest)) =
+      let same : held_records state next ≡ held_records state first =
+      held_as next next (held_of first.held.sorter) [] (ap held_of step.same_order.sorter) (ap unplaced_records step.pending) ∙ sym (held_as first first (held_of first.held.sorter) [] refl (ap unplaced_records step.nothing_pending)) in
+      once_kept steps first next last file file' same (once_from steps next last next_file file' rest)
   once_from (passes h ∷ steps) first last file file' (next, (next_file, step, rest)) =
       let before : held_records state first ≡ entries (held_of first.held.sorter) ++ h ∷ [] = held_as first first (held_of first.held.sorter) (h ∷ []) refl (ap unplaced_records step.0.was_pending) in
       let after : held_records state next ≡ entries (held_of first.held.sorter) ++ [] = held_as next next (held_of first.held.sorter) [] (ap held_of step.0.same_order.sorter) (ap unplaced_records step.0.pending) in
@@ -107,7 +134,7 @@ module _ {R : Type 0} (state : R → State) where
       once_kept steps first next last file file' same (once_from steps next last next_file file' rest)
   once_from (sorts ends_round ∷ steps) first last file file' (next, (next_file, step, rest)) =
       let sorted = IsPermutation-map (λ (e : ℕ × HeldRecord). held_view e.1) (held_of first.held.sorter) (held_of next.held.sorter) step.0.ended.sorts.each_once in
-      let same = subst (λ p. IsPermutation (held_records state first) (entries (held_of next.held.sorter) ++ unplaced_records p)) (sym step.0.pending) (IsPermutation-append_left (unplaced_records (unplaced_of first)) (entries (held_of first.held.sorter)) (entries (held_of next.held.sorter)) sorted) in
+      let same = subst (λ hs. IsPermutation (held_records state first) (entries (held_of next.held.sorter) ++ hs)) (sym (ap unplaced_records step.0.pending ∙ same_records_after (unplaced_of first))) (IsPermutation-append_left (unplaced_records (unplaced_of first)) (entries (held_of first.held.sorter)) (entries (held_of next.held.sorter)) sorted) in
       IsPermutation-trans _ _ _ (IsPermutation-append_left (read_in steps) (held_records state first) (held_records state next) same) (once_from steps next last next_file file' rest)
   once_from (sorts ends_all ∷ steps) first last file file' (next, (next_file, step, rest)) =
       let sorted = IsPermutation-map (λ (e : ℕ × HeldRecord). held_view e.1) (held_of first.held.sorter) (held_of next.held.sorter) step.0.ended.sorts.each_once in
@@ -141,11 +168,12 @@ module _ {R : Type 0} (state : R → State) where
   pub nothing_read : (steps : List Step) (first last : OrderedRecords R) (file file' : PerfFile) → IsLast (unplaced_of first) → TakesSteps state steps first file last file' → read_in steps ≡ []
   nothing_read [] first last file file' final taken = refl
   nothing_read (reads key h ∷ steps) first last file file' final (next, (next_file, step, rest)) = absurd (subst (λ q. IsLast q) step.nothing_pending final)
+  nothing_read (reads_round_end ended ∷ steps) first last file file' final (next, (next_file, step, rest)) = absurd (subst (λ q. IsLast q) step.nothing_pending final)
   nothing_read (passes h ∷ steps) first last file file' final (next, (next_file, step, rest)) = absurd (subst (λ q. IsLast q) step.0.was_pending final)
   nothing_read (reads_end ∷ steps) first last file file' final (next, (next_file, step, rest)) = absurd (subst (λ q. IsLast q) step.nothing_pending final)
   nothing_read (reads_error e ∷ steps) first last file file' final (next, (next_file, step, rest)) = absurd (subst (λ q. IsLast q) step.nothing_pending final)
   nothing_read (sorts (inserts key held) ∷ steps) first last file file' final (next, (next_file, step, rest)) = absurd (subst (λ q. IsLast q) step.0.was_pending final)
-  nothing_read (sorts ends_round ∷ steps) first last file file' final (next, (next_file, step, rest)) = nothing_read steps next last next_file file' (subst (λ q. IsLast q) (sym step.0.pending) final) rest
+  nothing_read (sorts ends_round ∷ steps) first last file file' final (next, (next_file, step, rest)) = nothing_read steps next last next_file file' (subst (λ q. IsLast q) (sym step.0.pending) (still_last (unplaced_of first) final)) rest
   nothing_read (sorts ends_all ∷ steps) first last file file' final (next, (next_file, step, rest)) = nothing_read steps next last next_file file' (subst (λ q. IsLast q) (sym step.0.pending) final) rest
   nothing_read (sorts releases ∷ steps) first last file file' final (next, (next_file, step, rest)) =
       nothing_read steps next last next_file file' (subst (λ q. IsLast q) (sym (half_released (unplaced_of first) first next step.0).1.pending) final) rest
@@ -162,11 +190,19 @@ module _ {R : Type 0} (state : R → State) where
   from_same : (first next : OrderedRecords R) (file next_file : PerfFile) (read : List RecordView) → next.records ≡ first.records → next_file ≡ file → ReturnedFrom next.records next_file read → ReturnedFrom first.records file read
   from_same first next file next_file read same same_file from = subst (λ s. ReturnedFrom s file read) same (subst (λ q. ReturnedFrom next.records q read) same_file from)
 
+  -- What calls after a marker return, they return before it.
+  from_marker : (old new : PerfRecordIter R) (file file' : PerfFile) (ended : ℕ) (read : List RecordView) → ReturnsRoundEnd state old file ended new file' → ReturnedFrom new file' read → ReturnedFrom old file read
+  from_marker old new file file' ended [] r from = (old, (file, (refl, refl)))
+  from_marker old new file file' ended (h ∷ hs) r (now, (now_file, (next, (next_file, returned, rest)))) =
+      let first = subst (λ q. ReturnsRecord state new q h next next_file) r.file_unchanged returned in
+      (now, (now_file, (next, (next_file, record_after state old new next file next_file h (marker_skipped state old new file file' ended r) first, rest))))
+
   read_from : (steps : List Step) (first last : OrderedRecords R) (file file' : PerfFile) → TakesSteps state steps first file last file' → ReturnedFrom first.records file (read_in steps)
   read_from [] first last file file' taken = (first.records, (file, (refl, refl)))
   read_from (reads key h ∷ steps) first last file file' (next, (next_file, step, rest)) =
       let more = read_from steps next last next_file file' rest in
-      (more.0, (more.1.0, (next.records, (next_file, step.returned, more.1.1))))
+      (more.0, (more.1.0, (next.records, (next_file, step.returned.returned, more.1.1))))
+  read_from (reads_round_end ended ∷ steps) first last file file' (next, (next_file, step, rest)) = from_marker first.records next.records file next_file ended (read_in steps) step.returned (read_from steps next last next_file file' rest)
   read_from (passes h ∷ steps) first last file file' (next, (next_file, step, rest)) = from_same first next file next_file (read_in steps) step.0.same_records step.1 (read_from steps next last next_file file' rest)
   read_from (reads_end ∷ steps) first last file file' (next, (next_file, step, rest)) =
       none_from first.records file (read_in steps) (nothing_read steps next last next_file file' (subst (λ q. IsLast q) (sym step.pending) tt) rest)

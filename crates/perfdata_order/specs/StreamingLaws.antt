@@ -12,18 +12,20 @@ use Rattle.perfdata_order.specs.declared.held_record.HeldRecord.{HeldRecord}
 use Rattle.perfdata_order.specs.declared.streaming.OrderedRecords.{OrderedRecords}
 use Rattle.perfdata_order.specs.HeldRecord.{held_view, held_size}
 use Rattle.perfdata_order.specs.Order.{Ascends}
-use Rattle.perfdata_order.specs.Sorter.{held_of, pending_of, slots_for}
+use Rattle.perfdata_order.specs.Sorter.{held_of, available_of, pending_of, slots_for}
+use Rattle.perfdata_order.specs.SorterLaws.Call.{inserts, ends_round, ends_all, releases, returns, keeps}
 use Rattle.perfdata_order.specs.SorterLaws.{Call, MakesCalls, most_held, returned_by, releases_in, KeepsRoundRule}
 use Rattle.perfdata_order.specs.Times.{key_of_time}
 use Rattle.perfdata_order.specs.LayoutRecords.{AreLayoutRecords}
-use Rattle.perfdata_order.specs.StreamingOrder.{Unplaced, unplaced_of, round_of, early_of, blocks_of, Step, TakesSteps, returned_in, IsNewOrder}
-use Rattle.perfdata_order.specs.StreamingOrder.Unplaced.{nothing, waiting, ending, failing, failed}
-use Rattle.perfdata_order.specs.StreamingOrder.Step.{reads, passes, reads_end, reads_error, sorts, reports}
+use Rattle.perfdata_order.specs.StreamingOrder.{Unplaced, unplaced_of, round_of, early_of, blocks_of, Step, TakesStep, TakesSteps, returned_in, IsNewOrder}
+use Rattle.perfdata_order.specs.StreamingOrder.Unplaced.{nothing, waiting, round_ending, ending, failing, failed}
+use Rattle.perfdata_order.specs.StreamingOrder.Step.{reads, reads_round_end, passes, reads_end, reads_error, sorts, reports}
 
 -- The records that the steps read, in the order of the source.
 abbrev pub read_in : List Step → List RecordView
 read_in [] = []
 read_in (reads key h ∷ steps) = h ∷ read_in steps
+read_in (reads_round_end ended ∷ steps) = read_in steps
 read_in (passes h ∷ steps) = read_in steps
 read_in (reads_end ∷ steps) = read_in steps
 read_in (reads_error e ∷ steps) = read_in steps
@@ -34,6 +36,7 @@ read_in (reports e ∷ steps) = read_in steps
 abbrev pub calls_in : List Step → List (Call ℕ HeldRecord)
 calls_in [] = []
 calls_in (reads key h ∷ steps) = calls_in steps
+calls_in (reads_round_end ended ∷ steps) = calls_in steps
 calls_in (passes h ∷ steps) = calls_in steps
 calls_in (reads_end ∷ steps) = calls_in steps
 calls_in (reads_error e ∷ steps) = calls_in steps
@@ -43,6 +46,7 @@ calls_in (reports e ∷ steps) = calls_in steps
 abbrev pub unplaced_records : Unplaced → List RecordView
 unplaced_records nothing = []
 unplaced_records (waiting key h) = h ∷ []
+unplaced_records round_ending = []
 unplaced_records ending = []
 unplaced_records (failing e) = []
 unplaced_records failed = []
@@ -55,6 +59,40 @@ timed_by (Some time) h = (h.round, (time, h)) ∷ []
 abbrev pub timed_of : List RecordView → List (ℕ × (ℕ × RecordView))
 timed_of [] = []
 timed_of (h ∷ hs) = timed_by (key_of_time h.timestamp) h ++ timed_of hs
+
+-- The step reads from the source.
+abbrev pub IsRead : Step → Type 0
+IsRead (reads key h) = Unit {0}
+IsRead (reads_round_end ended) = Unit {0}
+IsRead (passes h) = ⊥
+IsRead reads_end = Unit {0}
+IsRead (reads_error e) = Unit {0}
+IsRead (sorts call) = ⊥
+IsRead (reports e) = ⊥
+
+-- None of the steps reads from the source.
+abbrev pub ReadNothing : List Step → Type 0
+ReadNothing [] = Unit {0}
+ReadNothing (step ∷ steps) = (¬ IsRead step) × ReadNothing steps
+
+-- How often a single round ended.
+abbrev pub rounds_ended_by : Call ℕ HeldRecord → ℕ
+rounds_ended_by (inserts key held) = 0
+rounds_ended_by ends_round = 1
+rounds_ended_by ends_all = 0
+rounds_ended_by releases = 0
+rounds_ended_by (returns key held) = 0
+rounds_ended_by keeps = 0
+
+abbrev pub rounds_ended_in : List Step → ℕ
+rounds_ended_in [] = 0
+rounds_ended_in (reads key h ∷ steps) = rounds_ended_in steps
+rounds_ended_in (reads_round_end ended ∷ steps) = rounds_ended_in steps
+rounds_ended_in (passes h ∷ steps) = rounds_ended_in steps
+rounds_ended_in (reads_end ∷ steps) = rounds_ended_in steps
+rounds_ended_in (reads_error e ∷ steps) = rounds_ended_in steps
+rounds_ended_in (sorts call ∷ steps) = rounds_ended_by call + rounds_ended_in steps
+rounds_ended_in (reports e ∷ steps) = rounds_ended_in steps
 
 module _ {R : Type 0} (state : R → State) where
   -- The records that were read and not yet returned.
@@ -71,6 +109,14 @@ module _ {R : Type 0} (state : R → State) where
   ReadsRecordsOfSource = (records : PerfRecordIter R) (budget : ℕ) (first last : OrderedRecords R) (file file' : PerfFile) (steps : List Step) →
       IsNewOrder records budget first → TakesSteps state steps first file last file' →
       (now : PerfRecordIter R) × ((now_file : PerfFile) × ReturnsRecords state records file (read_in steps) now now_file)
+
+  -- From the end of a round that was read to the next read, this round ended once, and nothing else of the source was consumed. All
+  -- records that are available have then been returned.
+  abbrev pub ReturnsReleasedBeforeReading : Type 0
+  ReturnsReleasedBeforeReading = (ended : ℕ) (steps : List Step) (step : Step) (first after before last : OrderedRecords R)
+      (file after_file before_file file' : PerfFile) → TakesStep state (reads_round_end ended) first file after after_file
+      → TakesSteps state steps after after_file before before_file → ReadNothing steps → TakesStep state step before before_file last file' → IsRead step →
+      (rounds_ended_in steps ≡ 1) × (before.records ≡ after.records) × (available_of before.held.sorter ≡ [])
 
   -- The calls of the sorter are consecutive, so its laws hold for the timed records.
   abbrev pub CallsSorterInTurn : Type 0

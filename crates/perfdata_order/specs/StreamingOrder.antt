@@ -9,7 +9,7 @@ use Rattle.perfdata_records.specs.declared.record.PerfFileRecord.{PerfFileRecord
 use Rattle.linux_perf_data.specs.declared.records.iter.RecordPlace.{RecordPlace}
 use Rattle.linux_perf_data.specs.declared.records.iter.PerfRecordIter.{PerfRecordIter}
 use Rattle.linux_perf_data.specs.declared.perf_file.PerfFile.{PerfFile}
-use Rattle.linux_perf_data.specs.Iter.{ReturnsRecord, ReturnsEnd, ReturnsError}
+use Rattle.linux_perf_data.specs.Items.{ReturnsNextRecord, ReturnsRoundEnd, ReturnsEndHere, ReturnsErrorHere}
 use Rattle.linux_perf_data.specs.Layout.{RecordView}
 use Rattle.linux_perf_data.specs.RecordViews.{record_view_of}
 use Rattle.perfdata_order.specs.declared.held_record.RecordEnvelope.{RecordEnvelope}
@@ -26,11 +26,12 @@ use Rattle.perfdata_order.specs.Times.{key_of_time}
 use Rattle.perfdata_order.specs.SorterLaws.{Call}
 use Rattle.perfdata_order.specs.SorterLaws.Call.{inserts, ends_round, ends_all, releases, returns, keeps}
 
--- What was read from the source and isn't in the sorter: nothing, a record with its key if it is timed, the end, an error that is
--- not yet returned, or one that was.
+-- What was read from the source and isn't in the sorter: nothing, a record with its key if it is timed, the end of a round, the end
+-- of the source, an error that is not yet returned, or one that was.
 pub data Unplaced : Type 0 where
   nothing : Unplaced
   waiting : Option ℕ → RecordView → Unplaced
+  round_ending : Unplaced
   ending : Unplaced
   failing : Error → Unplaced
   failed : Unplaced
@@ -38,6 +39,7 @@ pub data Unplaced : Type 0 where
 abbrev pub unplaced_by : PendingStep → List ℕ → Unplaced
 unplaced_by variant.Nothing body = nothing
 unplaced_by (variant.Record key envelope) body = waiting key (view_with envelope body)
+unplaced_by variant.RoundEnd body = round_ending
 unplaced_by variant.End body = ending
 unplaced_by (variant.Failure e) body = failing e
 unplaced_by variant.Failed body = failed
@@ -45,14 +47,26 @@ unplaced_by variant.Failed body = failed
 abbrev pub IsUnplaced : Unplaced → Type 0
 IsUnplaced nothing = ⊥
 IsUnplaced (waiting key h) = Unit {0}
+IsUnplaced round_ending = Unit {0}
 IsUnplaced ending = Unit {0}
 IsUnplaced (failing e) = Unit {0}
 IsUnplaced failed = Unit {0}
 
--- A step of a call. A record was read, with its key if it is timed. A record without a time was returned. The end or an error was
--- read. The sorter was called. The error was returned.
+-- A call returns it as soon as no record is available: a record without a time, the end or an error.
+abbrev pub IsReturnable : Unplaced → Type 0
+IsReturnable nothing = ⊥
+IsReturnable (waiting None h) = Unit {0}
+IsReturnable (waiting (Some key) h) = ⊥
+IsReturnable round_ending = ⊥
+IsReturnable ending = Unit {0}
+IsReturnable (failing e) = Unit {0}
+IsReturnable failed = Unit {0}
+
+-- A step of a call. A record was read, with its key if it is timed. The end of the round with this number was read. A record without
+-- a time was returned. The end or an error was read. The sorter was called. The error was returned.
 pub data Step : Type 0 where
   reads : Option ℕ → RecordView → Step
+  reads_round_end : ℕ → Step
   passes : RecordView → Step
   reads_end : Step
   reads_error : Error → Step
@@ -63,6 +77,7 @@ pub data Step : Type 0 where
 abbrev pub returned_in : List Step → List RecordView
 returned_in [] = []
 returned_in (reads key h ∷ steps) = returned_in steps
+returned_in (reads_round_end ended ∷ steps) = returned_in steps
 returned_in (passes h ∷ steps) = h ∷ returned_in steps
 returned_in (reads_end ∷ steps) = returned_in steps
 returned_in (reads_error e ∷ steps) = returned_in steps
@@ -74,10 +89,11 @@ returned_in (sorts (returns key held) ∷ steps) = held_view held ∷ returned_i
 returned_in (sorts keeps ∷ steps) = returned_in steps
 returned_in (reports e ∷ steps) = returned_in steps
 
--- The pending record is of the next round.
+-- The pending record is of the next round, or the end of the current round is pending.
 abbrev pub IsOneRoundLater : Unplaced → ℕ → ℕ → Type 0
 IsOneRoundLater nothing old new = ⊥
 IsOneRoundLater (waiting key h) old new = (h.round ≡ old + 1) × (new ≡ h.round)
+IsOneRoundLater round_ending old new = new ≡ min (old + 1) 18446744073709551615
 IsOneRoundLater ending old new = ⊥
 IsOneRoundLater (failing e) old new = ⊥
 IsOneRoundLater failed old new = ⊥
@@ -86,15 +102,25 @@ IsOneRoundLater failed old new = ⊥
 abbrev pub IsLaterOrLast : Unplaced → ℕ → ℕ → Type 0
 IsLaterOrLast nothing old new = ⊥
 IsLaterOrLast (waiting key h) old new = (old + 2 ≤ h.round) × (new ≡ h.round)
+IsLaterOrLast round_ending old new = ⊥
 IsLaterOrLast ending old new = new ≡ old
 IsLaterOrLast (failing e) old new = new ≡ old
 IsLaterOrLast failed old new = new ≡ old
+
+-- What is pending after a round ended.
+abbrev pub after_round : Unplaced → Unplaced
+after_round nothing = nothing
+after_round (waiting key h) = waiting key h
+after_round round_ending = nothing
+after_round ending = ending
+after_round (failing e) = failing e
+after_round failed = failed
 
 module _ {R : Type 0} where
   abbrev pub unplaced_of : OrderedRecords R → Unplaced
   unplaced_of s = unplaced_by s.pending s.body.items
 
-  -- The current round: that of the record that was inserted last.
+  -- The current round. The rounds before it have ended.
   abbrev pub round_of : OrderedRecords R → ℕ
   round_of s = s.round
 
@@ -147,7 +173,7 @@ module _ {R : Type 0} where
   pub record EndsOneRound (old new : OrderedRecords R) : Type 0 where
     pub round : IsOneRoundLater (unplaced_of old) old.round new.round
     pub ended : RoundEnded nat_cmp old.held.sorter new.held.sorter
-    pub pending : unplaced_of new ≡ unplaced_of old
+    pub pending : unplaced_of new ≡ after_round (unplaced_of old)
     pub same_records : new.records ≡ old.records
     pub same_budget : SameBudget old new
 
@@ -175,6 +201,7 @@ module _ {R : Type 0} where
   ReleasesForPending nothing old new = ⊥
   ReleasesForPending (waiting None h) old new = ⊥
   ReleasesForPending (waiting (Some key) h) old new = HalfReleasedEarly old (held_size h) new
+  ReleasesForPending round_ending old new = ⊥
   ReleasesForPending ending old new = ⊥
   ReleasesForPending (failing e) old new = ⊥
   ReleasesForPending failed old new = ⊥
@@ -243,39 +270,51 @@ module _ {R : Type 0} where
     pub record CopyFailed (old : PerfRecordIter R) (file : PerfFile) (e : Error) (copy : List ℕ) (new : PerfRecordIter R) (file' : PerfFile) : Type 0 where
       pub out_of_memory : e ≡ error.Memory
       pub h : RecordView
-      pub returned : ReturnsRecord state old file h new file'
+      pub returned : ReturnsNextRecord state old file h new file'
       pub is_large : 65536 < length h.body
       pub not_copied : length copy < length h.body
 
     -- The error of the source, or of the copy of a large body.
     abbrev pub FailsToRead : PerfRecordIter R → PerfFile → Error → List ℕ → PerfRecordIter R → PerfFile → Type 0
-    FailsToRead old file e copy new file' = ReturnsError state old file e new file' ⊎ CopyFailed old file e copy new file'
+    FailsToRead old file e copy new file' = ReturnsErrorHere state old file e new file' ⊎ CopyFailed old file e copy new file'
 
-    -- A record was read, and is pending.
+    -- The next record was read, and is pending. No marker precedes it, and all available records had been returned.
     pub record ReadsWaiting (old : OrderedRecords R) (file : PerfFile) (key : Option ℕ) (h : RecordView) (new : OrderedRecords R)
         (file' : PerfFile) : Type 0 where
       pub nothing_pending : unplaced_of old ≡ nothing
-      pub returned : ReturnsRecord state old.records file h new.records file'
+      pub none_available : available_of old.held.sorter ≡ []
+      pub returned : ReturnsNextRecord state old.records file h new.records file'
       pub has_time : key_of_time h.timestamp ≡ key
       pub pending : unplaced_of new ≡ waiting key h
+      pub same_order : SameOrder old new
+
+    -- The next marker was read, and no byte after it. The end of its round is pending.
+    pub record ReadsRoundEnd (old : OrderedRecords R) (file : PerfFile) (ended : ℕ) (new : OrderedRecords R) (file' : PerfFile) : Type 0 where
+      pub nothing_pending : unplaced_of old ≡ nothing
+      pub none_available : available_of old.held.sorter ≡ []
+      pub returned : ReturnsRoundEnd state old.records file ended new.records file'
+      pub pending : unplaced_of new ≡ round_ending
       pub same_order : SameOrder old new
 
     -- The end of the records was read.
     pub record ReadsEnd (old : OrderedRecords R) (file : PerfFile) (new : OrderedRecords R) (file' : PerfFile) : Type 0 where
       pub nothing_pending : unplaced_of old ≡ nothing
-      pub ended : ReturnsEnd state old.records file new.records file'
+      pub none_available : available_of old.held.sorter ≡ []
+      pub ended : ReturnsEndHere state old.records file new.records file'
       pub pending : unplaced_of new ≡ ending
       pub same_order : SameOrder old new
 
     -- An error was read.
     pub record ReadsError (old : OrderedRecords R) (file : PerfFile) (e : Error) (new : OrderedRecords R) (file' : PerfFile) : Type 0 where
       pub nothing_pending : unplaced_of old ≡ nothing
+      pub none_available : available_of old.held.sorter ≡ []
       pub fails : FailsToRead old.records file e new.body.items new.records file'
       pub pending : unplaced_of new ≡ failing e
       pub same_order : SameOrder old new
 
     abbrev pub TakesStep : Step → OrderedRecords R → PerfFile → OrderedRecords R → PerfFile → Type 0
     TakesStep (reads key h) old file new file' = ReadsWaiting old file key h new file'
+    TakesStep (reads_round_end ended) old file new file' = ReadsRoundEnd old file ended new file'
     TakesStep (passes h) old file new file' = PassesPending old h new × (file' ≡ file)
     TakesStep reads_end old file new file' = ReadsEnd old file new file'
     TakesStep (reads_error e) old file new file' = ReadsError old file e new file'
@@ -338,6 +377,18 @@ module _ {R : Type 0} where
     ReturnsInOrder old file (Ok None) new file' = EndReturned old file new file'
     ReturnsInOrder old file (Err e) new file' = FailsInOrder old file e new file'
 
+    -- What is known before a call that returns without reading: a record is available, or something else than a timed record and the
+    -- end of a round is pending.
+    abbrev pub IsNextKnown : OrderedRecords R → Type 0
+    IsNextKnown s = (0 < length (available_of s.held.sorter)) ⊎ IsReturnable (unplaced_of s)
+
+    -- Steps that returned nothing, up to one that returns without reading, if the source has buffered so much. If memory runs out for the
+    -- order, nothing is lost.
+    abbrev pub ReadsBuffered : OrderedRecords R → PerfFile → Result Bool AllocError → OrderedRecords R → PerfFile → Type 0
+    ReadsBuffered old file (Ok true) new file' = Progress old file new file' × IsNextKnown new
+    ReadsBuffered old file (Ok false) new file' = Progress old file new file'
+    ReadsBuffered old file (Err e) new file' = Progress old file new file'
+
     -- ---- the parts of a call
 
     -- Steps that read and returned nothing.
@@ -358,8 +409,8 @@ module _ {R : Type 0} where
     -- Something was pending before, or something was read.
     abbrev pub ReadsPending : OrderedRecords R → PerfFile → OrderedRecords R → PerfFile → Type 0
     ReadsPending old file new file' = (IsUnplaced (unplaced_of old) × (new ≡ old) × (file' ≡ file))
-        ⊎ (((key : Option ℕ) × ((h : RecordView) × ReadsAndHolds old file key h new file'))
-        ⊎ (ReadsEnd old file new file' ⊎ ((e : Error) × ReadsError old file e new file')))
+        ⊎ (((key : Option ℕ) × ((h : RecordView) × ReadsAndHolds old file key h new file')) ⊎ (((ended : ℕ) × ReadsRoundEnd old file ended new file')
+        ⊎ (ReadsEnd old file new file' ⊎ ((e : Error) × ReadsError old file e new file'))))
 
     -- Reading, if nothing is pending. If memory runs out, nothing was read.
     abbrev pub ReadsNext : OrderedRecords R → PerfFile → Result (Unit {0}) AllocError → OrderedRecords R → PerfFile → Type 0
@@ -388,12 +439,13 @@ module _ {R : Type 0} where
     AdmitsPending old h (Err e) new = Places old new
 
     -- The timed record that was pending is in the sorter, or records are to be returned before it. The rounds before that of a pending
-    -- record without a time ended. At the end of the input, all rounds ended.
+    -- record without a time ended. The round whose end was pending ended. At the end of the input, all rounds ended.
     abbrev pub AfterPlacing : Unplaced → OrderedRecords R → Type 0
     AfterPlacing nothing new = unplaced_of new ≡ nothing
     AfterPlacing (waiting None h) new = (unplaced_of new ≡ waiting None h) × (h.round ≤ new.round)
     AfterPlacing (waiting (Some key) h) new =
         (unplaced_of new ≡ nothing) ⊎ ((unplaced_of new ≡ waiting (Some key) h) × (0 < length (available_of new.held.sorter)))
+    AfterPlacing round_ending new = unplaced_of new ≡ nothing
     AfterPlacing ending new = (unplaced_of new ≡ ending) × (pending_of new.held.sorter ≡ [])
     AfterPlacing (failing e) new = (unplaced_of new ≡ failing e) × (pending_of new.held.sorter ≡ [])
     AfterPlacing failed new = (unplaced_of new ≡ failed) × (pending_of new.held.sorter ≡ [])

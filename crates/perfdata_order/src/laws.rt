@@ -6,6 +6,7 @@ ghost use Rattle.perfdata_order.specs.InMemoryLaws.{TimesAscendUnderPerfRule};
 ghost use Rattle.perfdata_order.specs.StreamingLaws.{ReadsRecordsOfSource, CountsEarly};
 ghost use Rattle.perfdata_order.specs.StreamingLaws.{NoneEarlyWithoutBudget, StaysWithinBudget};
 ghost use Rattle.perfdata_order.specs.StreamingLaws.{HoldsTwoRounds, HasFewBlocks};
+ghost use Rattle.perfdata_order.specs.StreamingLaws.{ReturnsReleasedBeforeReading};
 ghost use Rattle.perfdata_order.specs.StreamingLaws.{ReturnsEachRecordOnce as ReturnsEachRecordOnceOf};
 ghost use Rattle.perfdata_order.specs.StreamingLaws.{CallsSorterInTurn as CallsSorterInTurnOf};
 ghost use Rattle.perfdata_order.specs.StreamingLaws.{TimesAscendUnderPerfRule as TimesAscendUnderPerfRuleOf};
@@ -44,14 +45,16 @@ pub fn in_memory()
 }
 
 /// Over a source, each record that the iterator over the source returns is returned once, or is still held.
-/// The timed records are those of a sorter, so its laws apply to them. The times that are returned ascend if
-/// the records are those of a layout and keep perf's rule, and none was returned early. With a budget, the
-/// records in the sorter are within it, or there is only one. Without a budget, those that aren't available
-/// are of the current round or of the one before it. The blocks for bodies are at most as many as the most
-/// records in the sorter at once, a third more, and two.
+/// After the end of a round was read, this round ends once, and what is then available is returned before
+/// more is read. The timed records are those of a sorter, so its laws apply to them. The times that are
+/// returned ascend if the records are those of a layout and keep perf's rule, and none was returned early.
+/// With a budget, the records in the sorter are within it, or there is only one. Without a budget, those that
+/// aren't available are of the current round or of the one before it. The blocks for bodies are at most as
+/// many as the most records in the sorter at once, a third more, and two.
 pub fn streaming<R: Source>()
     ensures each_once { ReturnsEachRecordOnceOf R.state }
     ensures of_source { ReadsRecordsOfSource R.state }
+    ensures released_before_reading { ReturnsReleasedBeforeReading R.state }
     ensures sorter_calls { CallsSorterInTurnOf R.state }
     ensures counts_early { CountsEarly R.state }
     ensures none_early_without_budget { NoneEarlyWithoutBudget R.state }

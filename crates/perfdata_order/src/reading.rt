@@ -8,7 +8,7 @@ use crate::held_records::HeldRecords;
 use crate::in_memory::time_key;
 use linux_perf_data::raw::RawData;
 use linux_perf_data::source::Source;
-use linux_perf_data::{Error, PerfFile, PerfRecordIter, RecordPlace};
+use linux_perf_data::{Error, PerfFile, PerfItem, PerfRecordIter, RecordPlace};
 use std::alloc::AllocError;
 
 // The capacity of the buffer for the body of a record that isn't held at once. The size field of a record
@@ -26,12 +26,13 @@ pub(crate) fn held_size(body_len: usize) -> u64
     body_len as u64 + HELD_RECORD_BYTES
 }
 
-// A record that was read.
+// What was read: a record, or the end of a round.
 pub(crate) enum NextRecord {
     // It is held, and counts for these bytes.
     Held(u64),
     // Its body was copied.
     Copied(RecordEnvelope),
+    RoundEnd,
 }
 
 // The key of a record that is held at once: it is timed, of the last round or an earlier one, and its body is
@@ -74,7 +75,7 @@ fn hold_or_copy(
     }
 }
 
-// Reads the next record. Holds it or copies its body.
+// Reads the next record or the end of a round. Holds the record or copies its body.
 #[inline(always)]
 pub(crate) fn read_record<R: Source>(
     records: &mut PerfRecordIter<R>,
@@ -88,9 +89,12 @@ pub(crate) fn read_record<R: Source>(
     ensures { ReadsRecord R.state records.old perf_file.old held.old last_round result copy.new.items held.new
         records.new perf_file.new }
 {
-    let Some((place, record)) = records.next_record(perf_file)? else {
-        return Ok(None);
-    };
-    let envelope = RecordEnvelope::from_record(place, &record);
-    Ok(Some(hold_or_copy(held, last_round, envelope, record.body(), copy)?))
+    match records.next_item(perf_file)? {
+        Some(PerfItem::Record(place, record)) => {
+            let envelope = RecordEnvelope::from_record(place, &record);
+            Ok(Some(hold_or_copy(held, last_round, envelope, record.body(), copy)?))
+        }
+        Some(PerfItem::RoundEnd { .. }) => Ok(Some(NextRecord::RoundEnd)),
+        None => Ok(None),
+    }
 }

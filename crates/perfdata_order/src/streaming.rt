@@ -1,5 +1,5 @@
 //! The records of a source, in order of time.
-ghost use Rattle.std.specs.Prelude.{◌≡◌, ℕ, ◌+◌, ◌<◌, ◌≤◌, MatchBool, IfSome, Some};
+ghost use Rattle.std.specs.Prelude.{◌≡◌, ℕ, ◌+◌, ◌<◌, ◌≤◌, [], MatchBool, IfSome, Some};
 
 use crate::bodies::BodyRange;
 use crate::held_record::RecordEnvelope;
@@ -18,6 +18,7 @@ use std::mem::replace;
 pub(crate) enum PendingStep {
     Nothing,
     Record(Option<u64>, RecordEnvelope),
+    RoundEnd,
     End,
     Failure(Error),
     Failed,
@@ -42,6 +43,8 @@ pub(crate) enum BodyBuffer {
 /// the recording has no rounds, all timed records are held, unless there is a budget
 /// ([`OrderedRecords::with_budget`]). Equal timestamps keep the order of the source. The memory of returned
 /// bodies is used again.
+///
+/// The records that the end of a round releases are returned before a byte after its marker is read.
 ///
 /// ```
 /// use linux_perf_data::source::Source;
@@ -91,7 +94,7 @@ impl<R> OrderedRecords<R> {
     ghost use Rattle.perfdata_order.specs.steps.StreamingOrder.{EndsRoundsBefore, ReleasesEarly};
     ghost use Rattle.perfdata_order.specs.steps.StreamingOrder.{MayInsert, TakesEnd, TakesSorted};
     ghost use Rattle.perfdata_order.specs.StreamingOrder.{body_in, early_of};
-    ghost use Rattle.perfdata_order.specs.steps.StreamingOrder.{TakesUntimed};
+    ghost use Rattle.perfdata_order.specs.steps.StreamingOrder.{TakesUntimed, TestsNextKnown};
 
     /// Returns the records of `records` in order of time. The order allocates with `alloc`.
     pub fn new(alloc: Global, records: PerfRecordIter<R>) -> OrderedRecords<R>
@@ -211,6 +214,7 @@ impl<R> OrderedRecords<R> {
     {
         match self.pending {
             PendingStep::Nothing => None,
+            PendingStep::RoundEnd => None,
             PendingStep::Record(Some(_), _) => None,
             PendingStep::Record(None, envelope) => {
                 self.pending = PendingStep::Nothing;
@@ -228,6 +232,7 @@ impl<R> OrderedRecords<R> {
     {
         match self.pending {
             PendingStep::Nothing => None,
+            PendingStep::RoundEnd => None,
             PendingStep::Record(_, _) => None,
             PendingStep::End => Some(Ok(())),
             PendingStep::Failure(_) => match replace(&mut self.pending, PendingStep::Failed) {
@@ -235,6 +240,24 @@ impl<R> OrderedRecords<R> {
                 _ => None,
             },
             PendingStep::Failed => Some(Err(Error::Failed)),
+        }
+    }
+
+    // Whether the next call of `next_record` returns without reading.
+    fn is_next_known(&self) -> bool
+        ensures { TestsNextKnown self.now result }
+    {
+        if self.held.has_more() {
+            return true;
+        }
+        match self.pending {
+            PendingStep::Nothing => false,
+            PendingStep::RoundEnd => false,
+            PendingStep::Record(Some(_), _) => false,
+            PendingStep::Record(None, _) => true,
+            PendingStep::End => true,
+            PendingStep::Failure(_) => true,
+            PendingStep::Failed => true,
         }
     }
 
@@ -253,17 +276,20 @@ impl<R: Source> OrderedRecords<R> {
     ghost use Rattle.std.specs.Io.BufRead.{Rests};
     ghost use Rattle.std.specs.Borrow.{sem};
     ghost use Rattle.perfdata_order.specs.contracts.streaming.OrderedRecords.{the_row};
-    ghost use Rattle.perfdata_order.specs.declared.streaming.PendingStep.TheVariants.{Record};
+    ghost use Rattle.perfdata_order.specs.declared.streaming.PendingStep.TheVariants.{Record, RoundEnd};
     ghost use Rattle.perfdata_order.specs.StreamingOrder.{unplaced_of, AdmitsPending, PlacesPending};
-    ghost use Rattle.perfdata_order.specs.StreamingOrder.{ReadsNext, AdvancesInOrder, ReturnsInOrder};
+    ghost use Rattle.perfdata_order.specs.StreamingOrder.{ReadsNext, ReadsBuffered, AdvancesInOrder};
+    ghost use Rattle.perfdata_order.specs.StreamingOrder.{ReturnsInOrder};
     ghost use Rattle.perfdata_order.specs.StreamingOrder.Unplaced.{waiting};
     ghost use Rattle.perfdata_order.specs.HeldRecord.{held_size as size_of};
+    ghost use Rattle.perfdata_order.specs.Sorter.{available_of};
     ghost use Rattle.linux_perf_data.specs.Layout.{RecordView};
 
-    // Reads the next record, unless something is pending. It is then in the sorter, or pending with its body
-    // in `self.body`.
+    // Reads the next record or the end of a round, unless something is pending. A record is then in the
+    // sorter, or pending with its body in `self.body`. The end of a round is pending.
     fn read(&mut self, perf_file: &mut PerfFile) -> Result<(), AllocError>
-        ensures { ReadsNext R.state self.old perf_file.old result self.new perf_file.new }
+        ensures { available_of self.old.held.sorter ≡ [] → ReadsNext R.state self.old perf_file.old result
+            self.new perf_file.new }
     {
         match self.pending {
             PendingStep::Nothing => {}
@@ -286,6 +312,10 @@ impl<R: Source> OrderedRecords<R> {
             }
             Ok(Some(NextRecord::Copied(envelope))) => {
                 self.pending = PendingStep::Record(time_key(envelope.place), envelope);
+                Ok(())
+            }
+            Ok(Some(NextRecord::RoundEnd)) => {
+                self.pending = PendingStep::RoundEnd;
                 Ok(())
             }
             Ok(None) => {
@@ -346,8 +376,19 @@ impl<R: Source> OrderedRecords<R> {
         }
     }
 
+    // Ends the current round, whose end is pending.
+    fn end_round(&mut self) -> Result<(), AllocError>
+        requires { self.old.pending ≡ RoundEnd }
+        ensures { PlacesPending R.state self.old result self.new }
+    {
+        self.held.finish_round()?;
+        self.round = self.round.saturating_add(1);
+        self.pending = PendingStep::Nothing;
+        Ok(())
+    }
+
     // Puts a pending timed record into the sorter. Before one without a time, the rounds before its own end.
-    // At the end of the source, all rounds end.
+    // At the end of a round this round ends, and at the end of the source, all rounds end.
     fn insert_pending(&mut self) -> Result<(), AllocError>
         ensures { PlacesPending R.state self.old result self.new }
     {
@@ -357,9 +398,34 @@ impl<R: Source> OrderedRecords<R> {
                 Some(time) => self.insert_record(time, envelope),
                 None => self.end_rounds(envelope.place.round),
             },
+            PendingStep::RoundEnd => self.end_round(),
             PendingStep::End => self.held.finish(),
             PendingStep::Failure(_) => self.held.finish(),
             PendingStep::Failed => self.held.finish(),
+        }
+    }
+
+    /// Reads the records that the source has buffered, up to one that [`OrderedRecords::next_record`] then
+    /// returns without reading. Returns whether there is one. If not, that call may wait.
+    ///
+    /// # Errors
+    ///
+    /// Fails if memory runs out for the order. Then nothing is lost, and the call can be repeated.
+    pub fn read_buffered(&mut self, perf_file: &mut PerfFile) -> Result<bool, AllocError>
+        ensures { ReadsBuffered R.state self.old perf_file.old result self.new perf_file.new }
+    {
+        if self.is_next_known() {
+            return Ok(true);
+        }
+        'reads: loop {
+            if !self.records.is_next_buffered() {
+                return Ok(false);
+            }
+            self.read(perf_file)?;
+            self.insert_pending()?;
+            if self.is_next_known() {
+                return Ok(true);
+            }
         }
     }
 

@@ -36,6 +36,7 @@ pub fn call(call: &Call<'_>, out: &mut Output) -> Tested<bool> {
         "read-file" | "read-unfinished" | "read-pipe" => reading::push_reading(call, out)?,
         "items-file" | "items-pipe" => items::push_items(call, out)?,
         "order-file" | "order-pipe" => orders::push_ordered(call, out)?,
+        "order-reads" => orders::push_reads(call, out)?,
         "sort" => orders::push_sorted(call, out)?,
         "decompressed-file" | "decompressed-pipe" => compressed::push_decompressed(call, out)?,
         "metadata" => metadata::push_metadata(call, out)?,

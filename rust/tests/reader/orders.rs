@@ -2,11 +2,15 @@
 
 use super::reading::{Next, is_pipe, open, open_in_memory};
 use crate::language::{Call, Output, Tested, number};
-use crate::library::Global;
-use dewikura::linux_perf_data::{Error, PerfFile};
+use crate::library::{BufReader, Global};
+use dewikura::linux_perf_data::{Error, PerfFile, PerfFileReader};
+use dewikura::perfdata_base::source::Counted;
 use dewikura::perfdata_order::in_memory::InMemoryOrderedRecords;
 use dewikura::perfdata_order::sorter::Sorter;
 use dewikura::perfdata_order::streaming::OrderedRecords;
+use std::cell::Cell;
+use std::io::{self, Read};
+use std::rc::Rc;
 
 /// Appends the line of a record, with its body or its body's size, or how the records end. Returns whether there is a record.
 fn push_next(out: &mut Output, has_sizes: bool, next: Next<'_>) -> bool {
@@ -77,6 +81,42 @@ pub fn push_ordered(call: &Call<'_>, out: &mut Output) -> Tested {
     });
     let first = out.clone();
     out.append_other(&first, "in memory", &in_memory);
+    Ok(())
+}
+
+/// A reader that returns its bytes one by one and counts them.
+struct SingleBytes<'a> {
+    bytes: &'a [u8],
+    count: Rc<Cell<usize>>,
+}
+
+impl Read for SingleBytes<'_> {
+    fn read(&mut self, buf: &mut [u8]) -> io::Result<usize> {
+        let Some((first, rest)) = self.bytes.split_first() else {
+            return Ok(0);
+        };
+        buf[0] = *first;
+        self.bytes = rest;
+        self.count.set(self.count.get() + 1);
+        Ok(1)
+    }
+}
+
+/// The records of a pipe in order of time: how many bytes of the pipe were read before each was returned, its offset and its round.
+pub fn push_reads(call: &Call<'_>, out: &mut Output) -> Tested {
+    let count = Rc::new(Cell::new(0));
+    let reader = SingleBytes {
+        bytes: call.bytes,
+        count: count.clone(),
+    };
+    let source = Counted::new(BufReader::with_capacity(Global, 1, reader)?);
+    let reader = PerfFileReader::parse_pipe(Global, source)?;
+    let mut perf_file = reader.perf_file;
+    let mut records = OrderedRecords::new(Global, reader.record_iter);
+    while let Some((place, _)) = records.next_record(&mut perf_file)? {
+        out.push_line(&(count.get(), place.offset, place.round));
+    }
+    out.push_line(&count.get());
     Ok(())
 }
 

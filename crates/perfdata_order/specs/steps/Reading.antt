@@ -1,4 +1,4 @@
--- Reading the next record of a source, which is held at once, or whose body is copied.
+-- Reading the next record of a source, which is held at once, or whose body is copied, or the end of a round.
 use Rattle.std.specs.Prelude.{◌≡◌, ℕ, ◌+◌, ◌<◌, ◌≤◌, List, length, Option, None, Some, Result, Ok, Err}
 use Rattle.std.specs.declared.alloc.AllocError.{AllocError}
 use Rattle.perfdata_sources.specs.Source.{State}
@@ -6,11 +6,11 @@ use Rattle.perfdata_sections.specs.declared.error.Error.{Error}
 use Rattle.linux_perf_data.specs.declared.records.iter.RecordPlace.{RecordPlace}
 use Rattle.linux_perf_data.specs.declared.records.iter.PerfRecordIter.{PerfRecordIter}
 use Rattle.linux_perf_data.specs.declared.perf_file.PerfFile.{PerfFile}
-use Rattle.linux_perf_data.specs.Iter.{ReturnsRecord, ReturnsEnd}
+use Rattle.linux_perf_data.specs.Items.{ReturnsNextRecord, ReturnsRoundEnd, ReturnsEndHere}
 use Rattle.perfdata_order.specs.declared.held_record.RecordEnvelope.{RecordEnvelope}
 use Rattle.perfdata_order.specs.declared.held_records.HeldRecords.{HeldRecords}
 use Rattle.perfdata_order.specs.declared.reading.NextRecord.{NextRecord}
-use Rattle.perfdata_order.specs.declared.reading.NextRecord.TheVariants.{Held, Copied}
+use Rattle.perfdata_order.specs.declared.reading.NextRecord.TheVariants.{Held, Copied, RoundEnd}
 use Rattle.perfdata_order.specs.HeldRecord.{view_with}
 use Rattle.perfdata_order.specs.steps.HeldRecords.{InsertsRecord}
 use Rattle.perfdata_order.specs.Sorter.{IsUnchanged}
@@ -39,6 +39,7 @@ pub record Inserts (old : HeldRecords) (last : Option ℕ) (envelope : RecordEnv
 abbrev pub HoldsOrCopies : HeldRecords → Option ℕ → RecordEnvelope → List ℕ → Result NextRecord AllocError → List ℕ → HeldRecords → Type 0
 HoldsOrCopies old last envelope body (Ok (Held size)) copy new = Inserts old last envelope body size new
 HoldsOrCopies old last envelope body (Ok (Copied copied)) copy new = (copied ≡ envelope) × ((copy ≡ body) × IsUnchanged old.sorter new.sorter)
+HoldsOrCopies old last envelope body (Ok RoundEnd) copy new = ⊥
 HoldsOrCopies old last envelope body (Err e) copy new = (new ≡ old) × ((65536 < length body) × (length copy < length body))
 
 module _ {R : Type 0} (state : R → State) where
@@ -47,14 +48,15 @@ module _ {R : Type 0} (state : R → State) where
       (new : PerfRecordIter R) (file' : PerfFile) : Type 0 where
     pub envelope : RecordEnvelope
     pub body : List ℕ
-    pub returned : ReturnsRecord state old file (view_with envelope body) new file'
+    pub returned : ReturnsNextRecord state old file (view_with envelope body) new file'
     pub inserts : Inserts held last envelope body size held'
 
-  -- Reading a record, which is then inserted, or whose body is then in `copy`.
+  -- Reading a record, which is then inserted, or whose body is then in `copy`, or the end of a round.
   abbrev pub ReadsRecord : PerfRecordIter R → PerfFile → HeldRecords → Option ℕ → Result (Option NextRecord) Error → List ℕ → HeldRecords → PerfRecordIter R
       → PerfFile → Type 0
   ReadsRecord old file held last (Ok (Some (Held size))) copy held' new file' = ReadsAndInserts old file held last size held' new file'
   ReadsRecord old file held last (Ok (Some (Copied envelope))) copy held' new file' =
-      ReturnsRecord state old file (view_with envelope copy) new file' × IsUnchanged held.sorter held'.sorter
-  ReadsRecord old file held last (Ok None) copy held' new file' = ReturnsEnd state old file new file' × (held' ≡ held)
+      ReturnsNextRecord state old file (view_with envelope copy) new file' × IsUnchanged held.sorter held'.sorter
+  ReadsRecord old file held last (Ok (Some RoundEnd)) copy held' new file' = ((ended : ℕ) × ReturnsRoundEnd state old file ended new file') × (held' ≡ held)
+  ReadsRecord old file held last (Ok None) copy held' new file' = ReturnsEndHere state old file new file' × (held' ≡ held)
   ReadsRecord old file held last (Err e) copy held' new file' = FailsToRead state old file e copy new file' × (held' ≡ held)

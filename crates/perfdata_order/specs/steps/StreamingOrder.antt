@@ -1,5 +1,5 @@
 -- Steps of private functions: the records of a source in order of time: the steps of which a call consists.
-use Rattle.std.specs.Prelude.{◌≡◌, ℕ, ◌+◌, ◌-◌, ◌≤◌, ◌⊎◌, [], Option, None, Some, Result, Ok, Err}
+use Rattle.std.specs.Prelude.{◌≡◌, ℕ, ◌+◌, ◌-◌, ◌<◌, ◌≤◌, ◌⊎◌, Bool, true, false, [], length, Option, None, Some, Result, Ok, Err}
 use Rattle.std.specs.Ordering.{nat_cmp}
 use Rattle.std.specs.declared.alloc.AllocError.{AllocError}
 use Rattle.perfdata_sections.specs.declared.error.Error.{Error}
@@ -11,12 +11,13 @@ use Rattle.perfdata_order.specs.declared.streaming.BodyBuffer.TheVariants.{Sorte
 use Rattle.perfdata_order.specs.declared.streaming.OrderedRecords.{OrderedRecords}
 use Rattle.perfdata_order.specs.HeldRecord.{view_with, held_view}
 use Rattle.perfdata_order.specs.Sorter.{available_of, RoundEnded, AllRoundsEnded}
-use Rattle.perfdata_order.specs.StreamingOrder.{Unplaced, nothing, waiting, ending, failing, failed, unplaced_of, budget_of, SameBudget, SameOrder, FitsBudget, HalfReleasedEarly, ReturnsSorted, KeepsSorter, body_in}
+use Rattle.perfdata_order.specs.StreamingOrder.{Unplaced, nothing, waiting, round_ending, ending, failing, failed, unplaced_of, budget_of, SameBudget, SameOrder, FitsBudget, IsReturnable, HalfReleasedEarly, ReturnsSorted, KeepsSorter, body_in}
 
 -- Neither the end nor an error was read.
 abbrev pub IsOngoing : Unplaced → Type 0
 IsOngoing nothing = Unit {0}
 IsOngoing (waiting key h) = Unit {0}
+IsOngoing round_ending = Unit {0}
 IsOngoing ending = ⊥
 IsOngoing (failing e) = ⊥
 IsOngoing failed = ⊥
@@ -26,6 +27,7 @@ abbrev pub HasNoUntimed : Unplaced → Type 0
 HasNoUntimed nothing = Unit {0}
 HasNoUntimed (waiting None h) = ⊥
 HasNoUntimed (waiting (Some key) h) = Unit {0}
+HasNoUntimed round_ending = Unit {0}
 HasNoUntimed ending = Unit {0}
 HasNoUntimed (failing e) = Unit {0}
 HasNoUntimed failed = Unit {0}
@@ -80,16 +82,22 @@ module _ {R : Type 0} where
   TakesEnd old (Some (Err e)) new = ((unplaced_of old ≡ failing e) × (unplaced_of new ≡ failed) × (new.records ≡ old.records) × SameOrder old new)
       ⊎ ((e ≡ error.Failed) × (new ≡ old) × (unplaced_of old ≡ failed))
 
+  -- A call returns without reading, or nothing is available, and neither a record without a time nor the end or an error is pending.
+  abbrev pub TestsNextKnown : OrderedRecords R → Bool → Type 0
+  TestsNextKnown s true = (0 < length (available_of s.held.sorter)) ⊎ IsReturnable (unplaced_of s)
+  TestsNextKnown s false = (available_of s.held.sorter ≡ []) × HasNoUntimed (unplaced_of s) × IsOngoing (unplaced_of s)
+
   -- The next available record was taken from the sorter. Its body is in a buffer.
   abbrev pub TakesSorted : OrderedRecords R → Option RecordEnvelope → OrderedRecords R → Type 0
   TakesSorted old None new = (available_of old.held.sorter ≡ []) × KeepsSorter old new
   TakesSorted old (Some envelope) new =
       (key : ℕ) × ((held : HeldRecord) × ReturnsSorted old key held new × (view_with envelope (body_in Sorted new) ≡ held_view held))
 
--- 1 if a record is pending.
+-- 1 if a record or the end of a round is pending.
 abbrev pub pending_records : Unplaced → ℕ
 pending_records nothing = 0
 pending_records (waiting key h) = 1
+pending_records round_ending = 1
 pending_records ending = 0
 pending_records (failing e) = 0
 pending_records failed = 0

@@ -3,6 +3,7 @@ use Rattle.perfdata_order.proofs.StreamingBlocks.{has_few_blocks}
 use Rattle.perfdata_order.proofs.StreamingBudget.{counts_early, none_early_without_budget, remains_within_budget}
 use Rattle.perfdata_order.proofs.StreamingRounds.{holds_two_rounds}
 use Rattle.perfdata_order.proofs.StreamingRule.{times_ascend_under_perf_rule}
+use Rattle.perfdata_order.proofs.StreamingEnds.{returns_released_before_reading}
 use Rattle.perfdata_order.proofs.laws.streaming.Goals as goal
 
 pub returns-clause-each_once : goal.returns-clause-each_once
@@ -13,6 +14,9 @@ returns-clause-of_source g c = reads_records_of_source g.R.Source.state
 
 pub returns-clause-sorter_calls : goal.returns-clause-sorter_calls
 returns-clause-sorter_calls g c = calls_sorter_in_turn g.R.Source.state
+
+pub returns-clause-released_before_reading : goal.returns-clause-released_before_reading
+returns-clause-released_before_reading g c = returns_released_before_reading g.R.Source.state
 
 pub returns-clause-times_ascend : goal.returns-clause-times_ascend
 returns-clause-times_ascend g c = times_ascend_under_perf_rule g.R.Source.state c.offsets_increase.ensures

@@ -1,8 +1,8 @@
-use Rattle.std.proofs.Common.{◌<◌, ◌≤◌, ap, ◌∙◌, sym, subst, inr}
+use Rattle.std.proofs.Common.{◌≡◌, ◌<◌, ◌≤◌, ap, ◌∙◌, [], sym, subst, inr}
 use Rattle.perfdata_order.specs.HeldRecord.{view_with}
 use Rattle.perfdata_order.specs.StreamingOrder.{Progress, KeepsSorter, unplaced_of, body_in}
 use Rattle.perfdata_order.specs.steps.StreamingOrder.{IsOngoing}
-use Rattle.perfdata_order.specs.Sorter.{held_of}
+use Rattle.perfdata_order.specs.Sorter.{held_of, available_of}
 use Rattle.perfdata_order.specs.StreamingOrder.Unplaced.{ending}
 use Rattle.perfdata_order.specs.declared.streaming.BodyBuffer.TheVariants.{Read, Sorted}
 use Rattle.perfdata_order.proofs.StreamingCalls.{no_progress, progress_read, progress_places, progress_kept, progress_unread, sorted_returned, untimed_returned, untimed_in_round, none_pending_at, none_held_after, end_returned, error_returned, work_of, work_falls}
@@ -20,24 +20,25 @@ reads-init g c =
     let state = g.R.Source.state in
     let old = c.args.self.now in
     let file = c.args.perf_file.now in
-    progress_kept state old old c.take_sorted.new.self file file (no_progress state old file) c.in-None.ensures.1
+    (progress_kept state old old c.take_sorted.new.self file file (no_progress state old file) c.in-None.ensures.1, c.in-None.ensures.1.unchanged.available ∙ c.in-None.ensures.0)
 
 pub returns-in-Err : goal.returns-in-Err
 returns-in-Err g c =
-    inr (inr (c.from.ensures, progress_unread g.R.Source.state c.args.self.now c.reads.self c.read.new.self c.args.perf_file.now c.reads.perf_file c.read.new.perf_file c.reads.invariant c.in-Err.ensures.0 c.in-Err.ensures.1))
+    let unread = c.in-Err.ensures c.reads.invariant.1 in
+    inr (inr (c.from.ensures, progress_unread g.R.Source.state c.args.self.now c.reads.self c.read.new.self c.args.perf_file.now c.reads.perf_file c.read.new.perf_file c.reads.invariant.0 unread.0 unread.1))
 
 pub returns-in-Err-insert_pending : goal.returns-in-Err-insert_pending
 returns-in-Err-insert_pending g c =
     let state = g.R.Source.state in
-    let pending = c.in-Ok.ensures in
-    let read = progress_read state c.args.self.now c.reads.self c.read.new.self c.args.perf_file.now c.reads.perf_file c.read.new.perf_file c.reads.invariant pending in
+    let pending = c.in-Ok.ensures c.reads.invariant.1 in
+    let read = progress_read state c.args.self.now c.reads.self c.read.new.self c.args.perf_file.now c.reads.perf_file c.read.new.perf_file c.reads.invariant.0 pending in
     inr (inr (c.from-in-Err-insert_pending.ensures, progress_places state c.args.self.now c.read.new.self c.insert_pending.new.self c.args.perf_file.now c.read.new.perf_file read c.in-Err-insert_pending.ensures))
 
 pub returns-in-Some-take_sorted : goal.returns-in-Some-take_sorted
 returns-in-Some-take_sorted g c =
     let state = g.R.Source.state in
-    let pending = c.in-Ok.ensures in
-    let read = progress_read state c.args.self.now c.reads.self c.read.new.self c.args.perf_file.now c.reads.perf_file c.read.new.perf_file c.reads.invariant pending in
+    let pending = c.in-Ok.ensures c.reads.invariant.1 in
+    let read = progress_read state c.args.self.now c.reads.self c.read.new.self c.args.perf_file.now c.reads.perf_file c.read.new.perf_file c.reads.invariant.0 pending in
     let before = progress_places state c.args.self.now c.read.new.self c.insert_pending.new.self c.args.perf_file.now c.read.new.perf_file read c.in-Ok-insert_pending.ensures.0 in
     let new = c.take_sorted-in-reads.new.self in
     sorted_returned state c.args.self.now c.insert_pending.new.self new c.args.perf_file.now c.read.new.perf_file c.in-Some-take_sorted.ensures.0 c.in-Some-take_sorted.ensures.1.0
@@ -49,8 +50,8 @@ returns-in-Some-take_untimed g c =
     let placed = c.insert_pending.new.self in
     let kept = c.take_sorted-in-reads.new.self in
     let new = c.take_untimed.new.self in
-    let pending = c.in-Ok.ensures in
-    let read = progress_read state c.args.self.now c.reads.self c.read.new.self c.args.perf_file.now c.reads.perf_file c.read.new.perf_file c.reads.invariant pending in
+    let pending = c.in-Ok.ensures c.reads.invariant.1 in
+    let read = progress_read state c.args.self.now c.reads.self c.read.new.self c.args.perf_file.now c.reads.perf_file c.read.new.perf_file c.reads.invariant.0 pending in
     let before = progress_places state c.args.self.now c.read.new.self placed c.args.perf_file.now c.read.new.perf_file read c.in-Ok-insert_pending.ensures.0 in
     let none = c.in-None-take_sorted.ensures in
     let after = progress_kept state c.args.self.now placed kept c.args.perf_file.now c.read.new.perf_file before none.1 in
@@ -70,8 +71,8 @@ returns-in-Some-Ok g c =
     let state = g.R.Source.state in
     let placed = c.insert_pending.new.self in
     let kept = c.take_sorted-in-reads.new.self in
-    let pending = c.in-Ok.ensures in
-    let read = progress_read state c.args.self.now c.reads.self c.read.new.self c.args.perf_file.now c.reads.perf_file c.read.new.perf_file c.reads.invariant pending in
+    let pending = c.in-Ok.ensures c.reads.invariant.1 in
+    let read = progress_read state c.args.self.now c.reads.self c.read.new.self c.args.perf_file.now c.reads.perf_file c.read.new.perf_file c.reads.invariant.0 pending in
     let before = progress_places state c.args.self.now c.read.new.self placed c.args.perf_file.now c.read.new.perf_file read c.in-Ok-insert_pending.ensures.0 in
     let none = c.in-None-take_sorted.ensures in
     let after_take = progress_kept state c.args.self.now placed kept c.args.perf_file.now c.read.new.perf_file before none.1 in
@@ -88,8 +89,8 @@ returns-in-Some-Err g c =
     let state = g.R.Source.state in
     let placed = c.insert_pending.new.self in
     let kept = c.take_sorted-in-reads.new.self in
-    let pending = c.in-Ok.ensures in
-    let read = progress_read state c.args.self.now c.reads.self c.read.new.self c.args.perf_file.now c.reads.perf_file c.read.new.perf_file c.reads.invariant pending in
+    let pending = c.in-Ok.ensures c.reads.invariant.1 in
+    let read = progress_read state c.args.self.now c.reads.self c.read.new.self c.args.perf_file.now c.reads.perf_file c.read.new.perf_file c.reads.invariant.0 pending in
     let before = progress_places state c.args.self.now c.read.new.self placed c.args.perf_file.now c.read.new.perf_file read c.in-Ok-insert_pending.ensures.0 in
     let none = c.in-None-take_sorted.ensures in
     let after_take = progress_kept state c.args.self.now placed kept c.args.perf_file.now c.read.new.perf_file before none.1 in
@@ -104,15 +105,15 @@ reads-preserved g c =
     let state = g.R.Source.state in
     let placed = c.insert_pending.new.self in
     let kept = c.take_sorted-in-reads.new.self in
-    let pending = c.in-Ok.ensures in
-    let read = progress_read state c.args.self.now c.reads.self c.read.new.self c.args.perf_file.now c.reads.perf_file c.read.new.perf_file c.reads.invariant pending in
+    let pending = c.in-Ok.ensures c.reads.invariant.1 in
+    let read = progress_read state c.args.self.now c.reads.self c.read.new.self c.args.perf_file.now c.reads.perf_file c.read.new.perf_file c.reads.invariant.0 pending in
     let before = progress_places state c.args.self.now c.read.new.self placed c.args.perf_file.now c.read.new.perf_file read c.in-Ok-insert_pending.ensures.0 in
     let none = c.in-None-take_sorted.ensures in
     let after_take = progress_kept state c.args.self.now placed kept c.args.perf_file.now c.read.new.perf_file before none.1 in
     let same = c.in-None-take_untimed.ensures.0 in
-    let after = subst (λ s. Progress state c.args.self.now c.args.perf_file.now s c.read.new.perf_file) (sym same) after_take in
-    let untaken = c.take_untimed.new.self in
-    subst (λ s. Progress state c.args.self.now c.args.perf_file.now s c.read.new.perf_file) (sym c.in-None-take_end.ensures.0) after
+    let available : available_of kept.held.sorter ≡ [] = none.1.unchanged.available ∙ none.0 in
+    let last = c.in-None-take_end.ensures.0 ∙ same in
+    subst (λ s. Progress state c.args.self.now c.args.perf_file.now s c.read.new.perf_file × (available_of s.held.sorter ≡ [])) (sym last) (after_take, available)
 
 pub reads-smaller : goal.reads-smaller
 reads-smaller g c =
@@ -120,5 +121,5 @@ reads-smaller g c =
     let kept = c.take_sorted-in-reads.new.self in
     let same = c.in-None-take_untimed.ensures.0 in
     let ongoing = subst (λ s. IsOngoing (unplaced_of s)) same c.in-None-take_end.ensures.1 in
-    let falls = work_falls state c.reads.self c.read.new.self c.insert_pending.new.self kept c.reads.perf_file c.read.new.perf_file c.in-Ok.ensures c.in-Ok-insert_pending.ensures.1 c.in-Ok-insert_pending.ensures.2 c.in-None-take_sorted.ensures.0 c.in-None-take_sorted.ensures.1 c.in-None-take_untimed.ensures.1 ongoing in
+    let falls = work_falls state c.reads.self c.read.new.self c.insert_pending.new.self kept c.reads.perf_file c.read.new.perf_file (c.in-Ok.ensures c.reads.invariant.1) c.in-Ok-insert_pending.ensures.1 c.in-Ok-insert_pending.ensures.2 c.in-None-take_sorted.ensures.0 c.in-None-take_sorted.ensures.1 c.in-None-take_untimed.ensures.1 ongoing in
     subst (λ s. work_of state s < work_of state c.reads.self) (sym (c.in-None-take_end.ensures.0 ∙ same)) falls
