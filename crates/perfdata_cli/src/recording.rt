@@ -193,7 +193,7 @@ impl RecordingRecords {
     }
 }
 
-/// An opened recording in memory.
+/// An opened file in memory.
 #[derive(Drop)]
 pub struct RecordingInMemory<'a> {
     /// The metadata, and the records.
@@ -203,19 +203,10 @@ pub struct RecordingInMemory<'a> {
 }
 
 // Opens a complete file in memory.
-fn open_file_in_memory(alloc: Global, bytes: &[u8]) -> Result<RecordingInMemory<'_>, Error> {
+fn parse_file_in_memory(alloc: Global, bytes: &[u8]) -> Result<RecordingInMemory<'_>, Error> {
     let kind = RecordingKind::of_file(alloc, &mut Cursor::new(bytes))?;
     let reader = InMemoryReader::parse_file(alloc, bytes)?;
     Ok(RecordingInMemory { reader, kind })
-}
-
-// Opens a pipe in memory.
-fn open_pipe_in_memory(alloc: Global, bytes: &[u8]) -> Result<RecordingInMemory<'_>, Error> {
-    let reader = InMemoryReader::parse_pipe(alloc, bytes)?;
-    Ok(RecordingInMemory {
-        reader,
-        kind: RecordingKind::PIPE,
-    })
 }
 
 /// Returns whether a file in memory is complete. Fails with `Metadata` if its header can't be read.
@@ -226,16 +217,10 @@ pub fn is_complete_file(alloc: Global, bytes: &[u8]) -> Result<bool, InputError>
     }
 }
 
-/// Opens a pipe or a complete file in memory. Fails with `Metadata` if its metadata can't be read.
-pub fn open_recording_in_memory(
+/// Opens a complete file in memory. Fails with `Metadata` if its metadata can't be read.
+pub fn open_file_in_memory(
     alloc: Global,
     bytes: &[u8],
-    is_pipe: bool,
 ) -> Result<RecordingInMemory<'_>, InputError> {
-    let opened = if is_pipe {
-        open_pipe_in_memory(alloc, bytes)
-    } else {
-        open_file_in_memory(alloc, bytes)
-    };
-    opened.map_err(InputError::Metadata)
+    parse_file_in_memory(alloc, bytes).map_err(InputError::Metadata)
 }

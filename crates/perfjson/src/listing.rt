@@ -1,5 +1,6 @@
 //! Lists an input on standard output.
 use crate::NAME;
+use crate::by_time::list_input_by_time;
 use crate::options::Options;
 use crate::record_line::RecordLine;
 use crate::selected::list_selected;
@@ -10,13 +11,10 @@ use perfdata_cli::input::{OpenInput, display_name};
 use perfdata_cli::input_bytes::Source;
 use perfdata_cli::position::Position;
 use perfdata_cli::progress::Progress;
-use perfdata_cli::recording::{
-    Recording, RecordingInMemory, RecordingKind, RecordingRecords, is_complete_file,
-    open_recording_in_memory,
-};
+use perfdata_cli::recording::{Recording, RecordingKind};
 use perfdata_json::JsonLine;
 use perfdata_listing::{
-    CountingBufWriter, ListCause, ListFault, list_by_time, list_live_pipe_lines, write_record,
+    CountingBufWriter, ListCause, ListFault, list_live_pipe_lines, write_record,
 };
 use perfdata_selection::options::FilterOptions;
 use std::io::Write;
@@ -134,93 +132,8 @@ fn list_pipe(
     finish(listed, position, unlisted, &mut out)
 }
 
-// Writes a line for each record of an unfinished file. Returns the number of lines.
-fn list_unfinished_records(
-    records: &mut RecordingRecords,
-    perf_file: &mut PerfFile,
-    line: &mut JsonLine,
-    out: &mut Output,
-) -> Result<u64, ListFault> {
-    let mut lines = 0u64;
-    for _ in 0..u64::MAX {
-        let written = match records.next_record(perf_file) {
-            Ok(Some((place, record))) => write_record(place, &record, perf_file, line, out),
-            Ok(None) => break,
-            Err(error) => Err(ListCause::Perf(error)),
-        };
-        if let Err(cause) = written {
-            return Err(ListFault { lines, cause });
-        }
-        lines = lines.saturating_add(1);
-    }
-    Ok(lines)
-}
-
-// Lists an unfinished file in order of time.
-fn list_unfinished_by_time(
-    rt: &HostRuntime,
-    byte_limit: usize,
-    bytes: Vec<u8>,
-) -> Result<(), ProgramError> {
-    let Recording { reader, kind } = Recording::open_bytes(rt.alloc(), bytes)?;
-    let mut perf_file = reader.perf_file;
-    let mut records = RecordingRecords::new(rt.alloc(), kind, &perf_file, reader.record_iter);
-    let mut line = JsonLine::new(rt.alloc(), byte_limit);
-    let mut out = output(rt)?;
-    let listed = list_unfinished_records(&mut records, &mut perf_file, &mut line, &mut out);
-    let lines = line_count(&listed);
-    let position = Position {
-        records: lines,
-        offset: None,
-    };
-    finish(listed, position, None, &mut out)?;
-    Ok(kind.check_end(lines)?)
-}
-
-// Lists an input in order of time. The input is read into memory.
-fn list_input_by_time(
-    rt: &HostRuntime,
-    options: &Options<'_>,
-    input: OpenInput,
-    is_pipe: bool,
-    path: &str,
-) -> Result<(), ProgramError> {
-    let byte_limit = options.byte_limit;
-    let (bytes, end) = input.into_bytes(rt.alloc()).map_err(InputError::Io)?;
-    if !is_pipe && !is_complete_file(rt.alloc(), &bytes)? {
-        return list_unfinished_by_time(rt, byte_limit, bytes);
-    }
-    let RecordingInMemory { reader, kind } = open_recording_in_memory(rt.alloc(), &bytes, is_pipe)?;
-    let kind = kind.with_content_end(end);
-    show_content_end(rt, options, path, kind);
-    let mut out = output(rt)?;
-    let mut line = RecordLine::new(JsonLine::new(rt.alloc(), byte_limit), kind);
-    let listed = list_by_time(rt.alloc(), reader, &mut line, &mut out).map_err(
-        |fault| with_content_error(fault, kind),
-    );
-    let lines = line_count(&listed);
-    let position = Position {
-        records: lines,
-        offset: None,
-    };
-    finish(listed, position, line.into_error(), &mut out)?;
-    Ok(kind.check_end(lines)?)
-}
-
-// Returns the fault of a listing in memory. At content that can't be read its cause is why.
-fn with_content_error(fault: ListFault, kind: RecordingKind) -> ListFault {
-    let ListFault { lines, cause } = fault;
-    match cause {
-        ListCause::Perf(error) => ListFault {
-            lines,
-            cause: ListCause::Perf(kind.error_in_memory(error)),
-        },
-        cause => ListFault { lines, cause },
-    }
-}
-
-// Returns the number of lines of a listing.
-fn line_count(listed: &Result<u64, ListFault>) -> u64 {
+/// Returns the number of lines of a listing.
+pub(crate) fn line_count(listed: &Result<u64, ListFault>) -> u64 {
     match listed {
         Ok(lines) => *lines,
         Err(fault) => fault.lines,

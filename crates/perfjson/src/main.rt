@@ -1,6 +1,7 @@
 //! Writes the records of a `perf.data` file or of a pipe as JSON, one line a record.
 #![tactic(auto)]
 
+mod by_time;
 mod listing;
 mod options;
 mod record_line;

@@ -36,7 +36,7 @@ pub fn command_with_options<'a>(alloc: Global, name: &'a str) -> Result<Command<
     let by_time = Arg::new(alloc, BY_TIME)
         .long(BY_TIME)
         .action(ArgAction::SetTrue)
-        .help("Read the whole input into memory and write its records in order of time");
+        .help("Write the records in order of time; a file is read into memory first");
     let bytes = Arg::new(alloc, BYTES)
         .long(BYTES)
         .value_name("N")
