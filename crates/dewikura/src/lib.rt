@@ -12,6 +12,7 @@ ghost use Rattle.perfdata_base.specs.Header.{magic_of};
 ghost use Rattle.perfdata_arrays.specs.Attrs.{ReadsFileAttrs, ReadsPipeAttrs};
 ghost use Rattle.perfdata_arrays.specs.BuildIds.{FindsDsoKind, ReadsBuildId};
 ghost use Rattle.perfdata_arrays.specs.Counters.{ReadsCounterPage, ReadsPipeCounters};
+ghost use Rattle.perfdata_arrays.specs.Decompressing.{WritesPlainInput};
 ghost use Rattle.perfdata_arrays.specs.Details.{ReadsDetails, format_of_attr};
 ghost use Rattle.perfdata_arrays.specs.FeatureSets.{ReadsFileFeatures, ReadsPipeFeatures};
 ghost use Rattle.perfdata_arrays.specs.Features.{ReadsFileFeature, ReadsPipeFeature};
@@ -21,6 +22,7 @@ ghost use Rattle.perfdata_arrays.specs.JitDebug.{ReadsJitDebugInfo};
 ghost use Rattle.perfdata_arrays.specs.Mappings.{ReadsMappingPage, ReadsPipeMappings};
 ghost use Rattle.perfdata_arrays.specs.MetaPairs.{ReadsMetaInfo};
 ghost use Rattle.linux_perf_data.specs.RecordEntries.{with_prefix};
+ghost use Rattle.perfdata_arrays.specs.Overwrites.{WritesBytes};
 ghost use Rattle.perfdata_arrays.specs.Pages.{ReadsFilePage};
 ghost use Rattle.perfdata_arrays.specs.Records.{ReadsPipeRecords};
 ghost use Rattle.perfdata_arrays.specs.SampleRecords.{ReadsPipeSamples, ReadsSamplePage};
@@ -492,7 +494,10 @@ pub extern "C" fn dewikura_finish_recording(
     input: &[u8],
     buf: &mut [u8],
     needed: &mut u64,
-) -> u32 {
+) -> u32
+    ensures written { WritesBytes needed.new buf.old buf.new }
+    ensures failed { result ≢ 0 → (needed.new ≡ 0) × (buf.new ≡ buf.old) }
+{
     let finished = finishing::finish_recording(alloc, input, buf);
     *needed = finished.size;
     finished.status.code()
@@ -505,7 +510,11 @@ pub extern "C" fn dewikura_decompress(
     input: &[u8],
     buf: &mut [u8],
     needed: &mut u64,
-) -> u32 {
+) -> u32
+    ensures plain { IsCodeOf result (λ s. WritesPlainInput input.now buf.old
+        (record { size = needed.new; status = s }) buf.new) }
+    ensures written { WritesBytes needed.new buf.old buf.new }
+{
     let decompressed = decompressing::decompress_recording(alloc, input, buf);
     *needed = decompressed.size;
     decompressed.status.code()

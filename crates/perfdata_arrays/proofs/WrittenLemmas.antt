@@ -1,5 +1,5 @@
 -- Lemmas on bytes that are written one after another into an array.
-use Rattle.std.proofs.Common.{ℕ, ◌+◌, ◌++◌, List, [], sym, ap, ◌∙◌, arith, length-append}
+use Rattle.std.proofs.Common.{ℕ, ◌++◌, List, [], sym, ap, ◌∙◌, arith, length-append}
 use Rattle.std.proofs.lemmas.List.{take-append-drop}
 use Rattle.perfdata_arrays.specs.Overwrites.{with_entries_at}
 use Rattle.perfdata_arrays.specs.steps.Written.{WritesMore}

@@ -5,6 +5,8 @@ use Rattle.linux_perf_data.specs.declared.in_memory.InMemoryReader.{InMemoryRead
 use Rattle.linux_perf_data.specs.declared.input_kind.InputKind.{InputKind}
 use Rattle.linux_perf_data.specs.declared.input_kind.InputKind.TheVariants.{File, Pipe, JitDump}
 use Rattle.perfdata_cli.specs.declared.error.InputError.{InputError}
+use Rattle.perfdata_cli.specs.declared.input_bytes.InputBytes.{InputBytes}
+use Rattle.perfdata_cli.specs.declared.input_bytes.InputBytes.TheVariants as input
 use Rattle.perfdata_cli.specs.declared.error.InputError.TheVariants.{UnknownFormat, Metadata}
 use Rattle.perfdata_cli.specs.declared.error.InputError.TheVariants as failure
 
@@ -22,3 +24,9 @@ OpensInMemory bytes false (Err (Metadata error)) = ParsesFileInMemory bytes (Err
 OpensInMemory bytes true (Ok reader) = ParsesPipeInMemory bytes (Ok reader)
 OpensInMemory bytes true (Err (Metadata error)) = ParsesPipeInMemory bytes (Err error)
 OpensInMemory bytes is_pipe (Err _) = ⊥
+
+-- The bytes aren't those of a file with compressed records.
+abbrev pub IsNoCompressedFile : InputBytes → Type 0
+IsNoCompressedFile (input.Raw _) = Unit {0}
+IsNoCompressedFile (input.Pipe _) = Unit {0}
+IsNoCompressedFile (input.File _) = ⊥

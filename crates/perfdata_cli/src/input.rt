@@ -114,9 +114,9 @@ fn is_threads_directory(rt: &HostRuntime, path: &str) -> Result<bool> {
 
 impl OpenInput {
     ghost use Rattle.std.specs.Prelude.{Some};
-    ghost use Rattle.linux_perf_data.specs.declared.input_kind.InputKind.TheVariants.{File};
+    ghost use Rattle.linux_perf_data.specs.declared.input_kind.InputKind.TheVariants.{File as FileInput};
     ghost use Rattle.perfdata_compressed.specs.declared.content.ContentEnd.TheVariants.{Whole};
-    ghost use Rattle.perfdata_cli.specs.Inputs.{IsPipe};
+    ghost use Rattle.perfdata_cli.specs.Inputs.{IsNoCompressedFile, IsPipe};
 
     /// Opens the input at a path and reads its first bytes, of which the first read may wait.
     ///
@@ -212,7 +212,9 @@ impl OpenInput {
     }
 
     // Returns the bytes of the input from its start. Those of a recording are without compression.
-    pub(crate) fn into_input_bytes(self, alloc: Global) -> Result<InputBytes> {
+    pub(crate) fn into_input_bytes(self, alloc: Global) -> Result<InputBytes>
+        ensures { IfOk result (λ bytes. self.kind ≢ Some FileInput → IsNoCompressedFile bytes) }
+    {
         let kind = self.kind;
         let bytes = self.into_raw_bytes()?;
         match kind {
@@ -228,7 +230,7 @@ impl OpenInput {
     ///
     /// Fails if a read fails, if content of a pipe can't be read, or if memory runs out.
     pub fn into_bytes(self, alloc: Global) -> Result<(Vec<u8>, ContentEnd)>
-        ensures whole { IfOk result (λ read. self.entry.kind ≢ Some File → read.1 ≡ Whole) }
+        ensures whole { IfOk result (λ read. self.kind ≢ Some FileInput → read.1 ≡ Whole) }
     {
         let mut bytes = self.into_input_bytes(alloc)?;
         let end = bytes.content_end();

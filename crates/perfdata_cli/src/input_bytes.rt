@@ -1,5 +1,9 @@
 //! The bytes of an input: a file, a stream after its first bytes, or bytes in memory; those of a recording
 //! without compression.
+ghost use Rattle.std.specs.Prelude.{◌≡◌};
+ghost use Rattle.perfdata_compressed.specs.declared.content.ContentEnd.TheVariants.{Whole};
+ghost use Rattle.perfdata_cli.specs.Inputs.{IsNoCompressedFile};
+
 use perfdata_base::source::CountedBuffer;
 use perfdata_compressed::{ContentEnd, DecompressedFile, DecompressedPipe};
 use std::fs::File;
@@ -75,7 +79,9 @@ pub enum InputBytes {
 
 impl InputBytes {
     /// Returns where the content of a file's compressed records ends.
-    pub(crate) fn content_end(&self) -> ContentEnd {
+    pub(crate) fn content_end(&self) -> ContentEnd
+        ensures { IsNoCompressedFile self.now → result ≡ Whole }
+    {
         match self {
             InputBytes::File(file) => file.content_end(),
             InputBytes::Raw(_) | InputBytes::Pipe(_) => ContentEnd::Whole,
