@@ -1,2 +1,3 @@
 -- Definitions.
+pub mod Frames
 pub mod steps

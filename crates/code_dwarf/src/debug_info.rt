@@ -1,4 +1,6 @@
 //! The debugging information of a file.
+ghost use Rattle.std.specs.Prelude.{IfOk};
+ghost use Rattle.code_dwarf.specs.Frames.{HasNoRow};
 
 use crate::candidates::Candidates;
 use crate::error::{DwarfError, UnitError};
@@ -274,6 +276,34 @@ impl DebugInfo {
             info: self,
             unit,
             row,
+            chain: &self.chain,
+        })
+    }
+
+    /// Returns the functions at an address of the file, the innermost first, without lines: no line program
+    /// is read. Nothing is known of an address without a function.
+    ///
+    /// The functions of a unit are read when an address of the unit is first looked for.
+    ///
+    /// # Errors
+    ///
+    /// Returns `AllocError` if an allocation fails. The call can be repeated then.
+    pub fn find_functions(&mut self, address: u64) -> Result<SourceFrames<'_>, AllocError>
+        ensures { IfOk result (λ frames. HasNoRow frames) }
+    {
+        self.candidates.find(address, &mut self.units_at)?;
+        self.chain.clear();
+        let unit = match self.find_function(address)? {
+            Some(function) => {
+                self.find_chain(address, &function)?;
+                function.unit
+            }
+            None => 0,
+        };
+        Ok(SourceFrames {
+            info: self,
+            unit,
+            row: None,
             chain: &self.chain,
         })
     }
