@@ -533,9 +533,10 @@ impl<'a> FrameResolver<'a> {
         name: SourceName,
         frame: &ResolvedFrame<'_>,
     ) -> Result<(), AllocError> {
-        self.write_name(name, frame)?;
         let line = self.source_lines.get(index);
-        if !line.name.is_empty() {
+        if line.name.is_empty() {
+            self.write_name(name, frame)?;
+        } else {
             self.text.clear();
             self.text.extend_from_slice(line.name)?;
         }
@@ -543,6 +544,7 @@ impl<'a> FrameResolver<'a> {
             self.text.extend_from_slice(INLINED_END)?;
         }
         if self.data.names_lines() {
+            let line = self.source_lines.get(index);
             line.push_short(&mut self.text).map_err(|_| AllocError)?;
         }
         Ok(())
