@@ -23,11 +23,11 @@ pub(crate) struct DebugFileReader<'b, 'a> {
 }
 
 impl<'b, 'a> DebugFileReader<'b, 'a> {
-    // Returns a reader without an error.
-    pub(crate) fn new(opener: &'b ElfOpener<'a>) -> DebugFileReader<'b, 'a> {
+    // Returns a reader without an error, which reads line programs if lines are wanted.
+    pub(crate) fn new(opener: &'b ElfOpener<'a>, has_lines: bool) -> DebugFileReader<'b, 'a> {
         DebugFileReader {
             opener,
-            sections: DebugSectionReader::new(opener.rt.alloc()),
+            sections: DebugSectionReader::with_lines(opener.rt.alloc(), has_lines),
         }
     }
 

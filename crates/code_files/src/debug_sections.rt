@@ -1,5 +1,7 @@
 //! The sections with the debugging information of a file.
 
+ghost use Rattle.std.specs.Prelude.{◌≡◌, [], IfOk, false};
+
 use crate::file_problems::{ReadCause, value_or_keep};
 use crate::section_contents::{SectionContents, SectionError};
 use code_dwarf::{AddressRange, AlternateInfo, DebugInfo, Endianness, Sections};
@@ -21,6 +23,8 @@ pub(crate) struct MainSections {
 #[derive(Drop)]
 pub struct DebugSectionReader {
     alloc: Global,
+    /// Whether line programs are read. Otherwise they count as absent.
+    has_lines: bool,
     failure: Option<ReadCause>,
 }
 
@@ -49,8 +53,16 @@ fn endianness<R: PlacedSource + Drop>(elf: &ElfFile<R>) -> Endianness {
 impl DebugSectionReader {
     /// Returns a reader without an error.
     pub fn new(alloc: Global) -> DebugSectionReader {
+        DebugSectionReader::with_lines(alloc, true)
+    }
+
+    // Returns a reader without an error, for which line programs are absent unless lines are wanted.
+    pub(crate) fn with_lines(alloc: Global, has_lines: bool) -> DebugSectionReader
+        ensures { result.has_lines ≡ has_lines }
+    {
         DebugSectionReader {
             alloc,
+            has_lines,
             failure: None,
         }
     }
@@ -74,6 +86,20 @@ impl DebugSectionReader {
         }
     }
 
+    // Reads the section of line programs, if lines are wanted. One that isn't there is empty.
+    fn read_lines<R: PlacedSource + Drop>(
+        &mut self,
+        elf: &mut ElfFile<R>,
+    ) -> Result<Vec<u8>, AllocError>
+        ensures { self.old.has_lines ≡ false → IfOk result (λ bytes. bytes.items ≡ []) }
+    {
+        if self.has_lines {
+            self.read_section(elf, ".debug_line")
+        } else {
+            Ok(Vec::new(self.alloc))
+        }
+    }
+
     // Reads the main sections.
     fn read_main<R: PlacedSource + Drop>(
         &mut self,
@@ -81,7 +107,7 @@ impl DebugSectionReader {
     ) -> Result<MainSections, AllocError> {
         Ok(MainSections {
             info: self.read_section(elf, ".debug_info")?,
-            line: self.read_section(elf, ".debug_line")?,
+            line: self.read_lines(elf)?,
         })
     }
 

@@ -614,13 +614,14 @@ impl MappedFile {
         self.is_debug_info_read
     }
 
-    // Reads the debugging information of the file at a path.
+    // Reads the debugging information of the file at a path, without line programs unless lines are wanted.
     pub(crate) fn read_debug_info(
         &mut self,
         opener: &ElfOpener<'_>,
         mapped: MappedPath<'_>,
+        has_lines: bool,
     ) -> Result<(), AllocError> {
-        let mut reader = DebugFileReader::new(opener);
+        let mut reader = DebugFileReader::new(opener, has_lines);
         self.debug_info = self.find_debug_info(opener, mapped, &mut reader)?;
         self.is_debug_info_read = true;
         if self.failure.is_none() {
@@ -634,16 +635,21 @@ impl MappedFile {
         self.debug_info.is_some()
     }
 
-    // Returns the functions and lines at an address of the file, if its debugging information is read and has
-    // some there.
+    // Returns the functions at an address of the file, and the lines if they are wanted, if its debugging
+    // information is read and has some there.
     pub(crate) fn find_source(
         &mut self,
         address: u64,
+        has_lines: bool,
     ) -> Result<Option<SourceFrames<'_>>, AllocError> {
         let Some(info) = &mut self.debug_info else {
             return Ok(None);
         };
-        let frames = info.find(address)?;
+        let frames = if has_lines {
+            info.find(address)?
+        } else {
+            info.find_functions(address)?
+        };
         Ok(Some(frames).filter(|frames| !frames.is_empty()))
     }
 

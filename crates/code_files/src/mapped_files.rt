@@ -97,6 +97,8 @@ pub struct MappedFiles<'a> {
     addresses: Vec<Option<CachedAddress>>,
     /// Whether files without lines have a problem.
     is_line_wanted: bool,
+    /// Whether line programs are read.
+    has_lines: bool,
 }
 
 // Returns the path of a mapped file, as its sources are looked for.
@@ -146,6 +148,7 @@ impl<'a> MappedFiles<'a> {
             problems_by_path: HashMap::new(alloc),
             addresses: Vec::new(alloc),
             is_line_wanted: false,
+            has_lines: true,
         })
     }
 
@@ -158,6 +161,13 @@ impl<'a> MappedFiles<'a> {
     /// Makes it a problem that a file whose debugging information is looked for has none.
     pub fn want_lines(&mut self) {
         self.is_line_wanted = true;
+    }
+
+    /// Leaves source lines out of what is looked up in files: no line program is read.
+    pub fn leave_out_lines(&mut self)
+        ensures { files_of self.new ≡ files_of self.old }
+    {
+        self.has_lines = false;
     }
 
     /// Returns the number of units whose debugging information is in other files (`.dwo`), which aren't read,
@@ -473,7 +483,7 @@ impl<'a> MappedFiles<'a> {
     fn read_debug_info(&mut self, number: usize, path: &[u8]) -> Result<(), AllocError> {
         match self.files.get_mut(number) {
             Some(file) if !file.is_debug_info_read() => {
-                file.read_debug_info(&self.opener, mapped_path(path))?;
+                file.read_debug_info(&self.opener, mapped_path(path), self.has_lines)?;
             }
             _ => return Ok(()),
         }
@@ -482,7 +492,8 @@ impl<'a> MappedFiles<'a> {
     }
 
     /// Returns the functions and lines at an address in the mapping with an index, innermost first, if its
-    /// file has some there. The debugging information of the file is then read.
+    /// file has some there. The debugging information of the file is then read, without line programs if
+    /// lines are left out.
     ///
     /// Fails if memory runs out.
     pub fn find_source(
@@ -499,7 +510,7 @@ impl<'a> MappedFiles<'a> {
             return Ok(None);
         };
         match file.address(mapping.file_offset(address)) {
-            Some(address) => file.find_source(address),
+            Some(address) => file.find_source(address, self.has_lines),
             None => Ok(None),
         }
     }

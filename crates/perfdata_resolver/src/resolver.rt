@@ -136,7 +136,9 @@ impl<'a> FrameResolver<'a> {
     ) -> Result<FrameResolver<'a>, PathError<'a>> {
         let alloc = rt.alloc();
         let mut files = open_files(rt, options)?;
-        if options.source.has_lines && data.names_lines() {
+        if !options.source.has_lines {
+            files.leave_out_lines();
+        } else if data.names_lines() {
             files.want_lines();
         }
         Ok(FrameResolver {
