@@ -67,11 +67,7 @@ impl<'a> OutputOptions<'a> {
 }
 
 // Writes a profile.
-fn write_profile<W: Write>(
-    alloc: Global,
-    folded: FoldResult<'_>,
-    out: &mut W,
-) -> io::Result<()> {
+fn write_profile<W: Write>(alloc: Global, folded: FoldResult<'_>, out: &mut W) -> io::Result<()> {
     let FoldResult {
         options,
         recorded,
