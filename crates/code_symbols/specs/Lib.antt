@@ -23,6 +23,7 @@ pub mod PltEntries
 pub mod PltRanges
 pub mod PltSymbols
 pub mod RankedLists
+pub mod Resized
 pub mod SimpleperfSymbols
 pub mod Strings
 pub mod StringTable

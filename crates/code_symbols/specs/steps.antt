@@ -1,4 +1,5 @@
 pub mod Boundaries
+pub mod Candidates
 pub mod Merge
 pub mod Notes
 pub mod PltFiles

@@ -1,7 +1,9 @@
 //! Symbols with what decides which of several symbols at an address is preferred, as ELF files have them.
 
-ghost use Rattle.std.specs.Prelude.{◌≡◌, ◌≤◌, [], IfOk};
-ghost use Rattle.code_symbols.specs.SymbolTable.{names_of, part_count};
+ghost use Rattle.std.specs.Prelude.{◌≡◌, ◌≤◌, [], All, IfOk, length};
+ghost use Rattle.code_symbols.specs.Resized.{IsSymbolOfSome};
+ghost use Rattle.code_symbols.specs.SymbolTable.{names_of, part_count, symbols_of};
+ghost use Rattle.code_symbols.specs.steps.Candidates.{AreExtended, IsExtended, IsFresh, IsFreshOfSome};
 
 use crate::symbol::Symbol;
 use crate::table::SymbolTable;
@@ -82,7 +84,9 @@ fn symbol_name<'a>(names: &'a [u8], symbol: &Symbol) -> &'a [u8] {
         .unwrap_or(&names[..0])
 }
 
-fn rank_candidate(names: &[u8], ranked: &RankedSymbol) -> Candidate {
+fn rank_candidate(names: &[u8], ranked: &RankedSymbol) -> Candidate
+    ensures { IsFresh ranked.now result }
+{
     let name = symbol_name(names, &ranked.symbol);
     Candidate {
         rank: Rank {
@@ -100,25 +104,41 @@ fn rank_candidate(names: &[u8], ranked: &RankedSymbol) -> Candidate {
     }
 }
 
-// Extends each symbol without a size to the next greater start or the end of its section, unless another
-// symbol with its start is preferred. Made symbols get size 0 then, and compatibility symbols are treated as
-// those without a size if that one has none. The symbols are sorted by their ranks.
-fn extend_to_next(candidates: &mut [Candidate]) {
-    let (mut next_start, mut next_has_size) = (u64::MAX, true);
-    'candidates: for candidate in candidates.iter_mut().rev() {
-        let start = candidate.symbol.start;
-        if start < next_start {
-            if !candidate.rank.has_size {
-                let end = next_start.min(candidate.section_end);
-                candidate.symbol.size = end.saturating_sub(start);
-            }
-            next_has_size = candidate.rank.has_size;
-        } else if !candidate.rank.is_of_file {
-            candidate.symbol.size = 0;
-        } else if !candidate.rank.is_current && !next_has_size {
-            candidate.rank.has_size = false;
+// Extends a symbol without a size to the next greater start or the end of its section, unless another symbol
+// with its start is preferred. A made symbol gets size 0 then, and a compatibility symbol is treated as one
+// without a size if that one has none.
+fn extended(candidate: Candidate, next_start: u64, next_has_size: bool) -> Candidate
+    ensures { IsExtended candidate result }
+{
+    let start = candidate.symbol.start;
+    let mut extended = candidate;
+    if start < next_start {
+        if !candidate.rank.has_size {
+            let end = next_start.min(candidate.section_end);
+            extended.symbol.size = end.saturating_sub(start);
         }
-        next_start = start;
+    } else if !candidate.rank.is_of_file {
+        extended.symbol.size = 0;
+    } else if !candidate.rank.is_current && !next_has_size {
+        extended.rank.has_size = false;
+    }
+    extended
+}
+
+// Extends the symbols, which are sorted by their ranks.
+fn extend_to_next(candidates: &mut [Candidate])
+    ensures { AreExtended candidates.old candidates.new }
+{
+    let (mut next_start, mut next_has_size) = (u64::MAX, true);
+    let mut index = candidates.len();
+    'candidates: while index > 0 {
+        index -= 1;
+        let candidate = candidates[index];
+        candidates[index] = extended(candidate, next_start, next_has_size);
+        if candidate.symbol.start < next_start {
+            next_has_size = candidate.rank.has_size;
+        }
+        next_start = candidate.symbol.start;
     }
 }
 
@@ -144,20 +164,38 @@ impl RankedSymbols {
     }
 
     // The symbols that are found, from the least preferred one to the most preferred one.
-    fn preferences(&self, alloc: Global) -> Result<Vec<Candidate>, AllocError> {
-        let mut candidates = Vec::new(alloc);
-        // Of equal symbols the earlier one is preferred, so it comes last.
-        'symbols: for ranked in self.symbols.iter().rev() {
-            candidates.push(rank_candidate(&self.names, ranked))?;
-        }
+    fn preferences(&self, alloc: Global) -> Result<Vec<Candidate>, AllocError>
+        ensures each { IfOk result (λ candidates. All (λ c. IsSymbolOfSome (ranked_symbols_of self.now) c.symbol)
+            candidates.items) }
+        ensures count { IfOk result
+            (λ candidates. length candidates.items ≡ length (ranked_symbols_of self.now)) }
+    {
+        let mut candidates = self.candidates(alloc)?;
         candidates.sort_by_key(|candidate| candidate.rank)?;
-        extend_to_next(&mut candidates);
+        extend_to_next(candidates.as_mut_slice());
         candidates.sort_by_key(|candidate| candidate.rank.has_size)?;
+        Ok(candidates)
+    }
+
+    // The candidates of the symbols. Of equal ones the earlier one is preferred, so it comes last.
+    fn candidates(&self, alloc: Global) -> Result<Vec<Candidate>, AllocError>
+        ensures each { IfOk result (λ candidates. All (IsFreshOfSome (ranked_symbols_of self.now))
+            candidates.items) }
+        ensures count { IfOk result
+            (λ candidates. length candidates.items ≡ length (ranked_symbols_of self.now)) }
+    {
+        let count = self.symbols.len();
+        let mut candidates = Vec::new(alloc);
+        'symbols: for index in 0..count {
+            candidates.push(rank_candidate(&self.names, &self.symbols[count - 1 - index]))?;
+        }
         Ok(candidates)
     }
 
     /// Makes a table whose symbol at an address is that of the list.
     pub fn into_table(self, alloc: Global) -> Result<SymbolTable, AllocError>
+        ensures each { IfOk result (λ table. All (IsSymbolOfSome (ranked_symbols_of self)) (symbols_of table)) }
+        ensures count { IfOk result (λ table. length (symbols_of table) ≡ length (ranked_symbols_of self)) }
         ensures names { IfOk result (λ table. names_of table ≡ ranked_names_of self) }
         ensures compacted { IfOk result (λ table. part_count table ≤ 1) }
     {
