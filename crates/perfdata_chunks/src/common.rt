@@ -65,7 +65,7 @@ fn bit_if(is_present: bool, bit: u32) -> u32
 }
 
 // The bits of the fields that are there.
-fn fields_of(id: &SampleId) -> u32
+fn common_fields(id: &SampleId) -> u32
     ensures { result ≡ fields_of id.now }
 {
     let task = bit_if(id.task.is_some(), TID);
@@ -88,7 +88,7 @@ fn task_or_zeros(task: Option<Task>) -> Task
 }
 
 // The fields as plain numbers.
-fn common_of(id: &SampleId) -> Common
+fn common_numbers(id: &SampleId) -> Common
     ensures { result ≡ common_of id.now }
 {
     let task = task_or_zeros(id.task);
@@ -96,7 +96,7 @@ fn common_of(id: &SampleId) -> Common
         timestamp: id.timestamp.unwrap_or(0),
         id: id.identifier.or(id.id).unwrap_or(0),
         stream_id: id.stream_id.unwrap_or(0),
-        fields: fields_of(id),
+        fields: common_fields(id),
         cpu: id.cpu.unwrap_or(0),
         pid: task.pid,
         tid: task.tid,
@@ -126,12 +126,12 @@ pub fn read_common(
         Err(status) => return status,
     };
     if !found.raw.record_type.is_builtin_type() {
-        *out = common_of(&NO_FIELDS);
+        *out = common_numbers(&NO_FIELDS);
         return Status::Success;
     }
     match found.format.sample_id(&found.raw) {
         Ok(id) => {
-            *out = common_of(&id);
+            *out = common_numbers(&id);
             Status::Success
         }
         Err(error) => status_of_body(error),

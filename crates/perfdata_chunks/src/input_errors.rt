@@ -36,7 +36,7 @@ pub struct InputError {
 const _: () = prove!(size_of::<InputError>() == 48);
 
 // The own size of an attribute and the size of its entry, if the first is above the second; otherwise zeros.
-fn sizes_in(error: &Error) -> (u64, u64)
+fn error_sizes(error: &Error) -> (u64, u64)
     ensures { result ≡ sizes_in error.now }
 {
     match error {
@@ -46,7 +46,7 @@ fn sizes_in(error: &Error) -> (u64, u64)
 }
 
 // The index of the attribute that isn't consistent with the others; otherwise 0.
-fn attr_index_in(error: &Error) -> u64
+fn error_attr_index(error: &Error) -> u64
     ensures { result ≡ attr_index_in error.now }
 {
     match error {
@@ -57,7 +57,7 @@ fn attr_index_in(error: &Error) -> u64
 }
 
 // The first bytes of an input without the magic of perf; otherwise zeros.
-fn magic_in(error: &Error) -> [u8; 8]
+fn error_magic(error: &Error) -> [u8; 8]
     ensures { result ≡ magic_in error.now }
 {
     match error {
@@ -70,13 +70,13 @@ fn magic_in(error: &Error) -> [u8; 8]
 fn error_numbers(offset: Option<u64>, error: &Error) -> InputError
     ensures { result ≡ error_numbers offset error.now }
 {
-    let (attr_size, entry_size) = sizes_in(error);
+    let (attr_size, entry_size) = error_sizes(error);
     InputError {
         offset: offset.unwrap_or(0),
         attr_size,
         entry_size,
-        attr_index: attr_index_in(error),
-        magic: magic_in(error),
+        attr_index: error_attr_index(error),
+        magic: error_magic(error),
         status: status_of_error(error).code(),
         has_offset: offset.is_some() as u32,
     }

@@ -57,7 +57,7 @@ fn numbers_size(feature: u32) -> usize
 }
 
 // The number of four bytes at an offset.
-fn u32_at(endian: Endianness, section: &[u8], offset: usize) -> u64
+fn read_u32_number(endian: Endianness, section: &[u8], offset: usize) -> u64
     requires { offset + 4 ≤ length section.now }
     ensures { result ≡ number_in endian 4 (drop offset section.now) }
 {
@@ -65,7 +65,7 @@ fn u32_at(endian: Endianness, section: &[u8], offset: usize) -> u64
 }
 
 // The number of eight bytes at an offset.
-fn u64_at(endian: Endianness, section: &[u8], offset: usize) -> u64
+fn read_u64_number(endian: Endianness, section: &[u8], offset: usize) -> u64
     requires { offset + 8 ≤ length section.now }
     ensures { result ≡ number_in endian 8 (drop offset section.now) }
 {
@@ -89,31 +89,31 @@ fn write_numbers(endian: Endianness, section: &[u8], feature: u32, numbers: &mut
 {
     match feature {
         HEADER_NRCPUS => {
-            let available = u32_at(endian, section, 0);
-            write_all(numbers, &[available, u32_at(endian, section, 4)])
+            let available = read_u32_number(endian, section, 0);
+            write_all(numbers, &[available, read_u32_number(endian, section, 4)])
         }
         HEADER_TOTAL_MEM | HEADER_CLOCKID | HEADER_DIR_FORMAT => {
-            write_all(numbers, &[u64_at(endian, section, 0)])
+            write_all(numbers, &[read_u64_number(endian, section, 0)])
         }
         HEADER_SAMPLE_TIME => {
-            let first = u64_at(endian, section, 0);
-            write_all(numbers, &[first, u64_at(endian, section, 8)])
+            let first = read_u64_number(endian, section, 0);
+            write_all(numbers, &[first, read_u64_number(endian, section, 8)])
         }
         HEADER_COMPRESSED => {
-            let version = u32_at(endian, section, 0);
-            let algorithm = u32_at(endian, section, 4);
-            let level = u32_at(endian, section, 8);
-            let ratio = u32_at(endian, section, 12);
-            let mmap_len = u32_at(endian, section, 16);
+            let version = read_u32_number(endian, section, 0);
+            let algorithm = read_u32_number(endian, section, 4);
+            let level = read_u32_number(endian, section, 8);
+            let ratio = read_u32_number(endian, section, 12);
+            let mmap_len = read_u32_number(endian, section, 16);
             write_all(numbers, &[version, algorithm, level, ratio, mmap_len])
         }
         HEADER_CLOCK_DATA => {
-            let version = u32_at(endian, section, 0);
-            let clock = u32_at(endian, section, 4);
-            let wall = u64_at(endian, section, 8);
+            let version = read_u32_number(endian, section, 0);
+            let clock = read_u32_number(endian, section, 4);
+            let wall = read_u64_number(endian, section, 8);
             write_all(
                 numbers,
-                &[version, clock, wall, u64_at(endian, section, 16)],
+                &[version, clock, wall, read_u64_number(endian, section, 16)],
             )
         }
         _ => 0,
